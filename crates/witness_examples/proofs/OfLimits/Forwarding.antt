@@ -31,16 +31,12 @@ use Rattle.witness_examples.specs.Limits.Forwarding.{state_both, both_audited, o
 use Rattle.witness_examples.proofs.OfLimits.Audits.{Quiet, goes_on, forwarded}
 use Rattle.witness_examples.proofs.OfLimits.Digests.{first_is, second_is}
 use Rattle.witness_examples.proofs.OfLimits.Rounds.{receipt_step}
+use Rattle.state_spec.proofs.Orders.{received_total}
 
 abbrev other_receipt : Entry
 other_receipt = Recv 6 1 zeros (8 ∷ []) other_signature
 
 -- ---- the second message is another
-
-received_total : IsTotalOrder received_cmp
-received_total =
-    then_total (on_total (λ r. r.from) nat_cmp_total)
-    (then_total (on_total (λ r. r.seq) nat_cmp_total) (on_total (λ r. r.hash) nat_list_cmp_total))
 
 abbrev message : List ℕ → ReceivedMessage
 message hash = record { from = 6; seq = 1; hash = hash }

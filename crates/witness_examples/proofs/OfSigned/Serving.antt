@@ -20,7 +20,7 @@ use Rattle.authenticator.proofs.Signed.{list_same}
 use Rattle.secure_log.specs.LogEntries.Chain.{zeros, hash_after, link_of}
 use Rattle.secure_log.specs.declared.log_entries.entry.Entry.TheVariants.{Recv, Clock}
 use Rattle.secure_log.specs.Segment.{segment_pairs}
-use Rattle.state_machine.specs.service.Replies.{reply_owed}
+use Rattle.state_spec.specs.server_spec.Replies.{reply_owed}
 use Rattle.state_spec.specs.State.{State, received_cmp, opening_server}
 use Rattle.replay_spec.specs.Opening.{opening_of}
 use Rattle.replay_spec.specs.Placed.{placed}

@@ -16,8 +16,8 @@ use Rattle.secure_log.specs.declared.log_entries.entry.Entry.{Entry}
 use Rattle.secure_log.specs.declared.log_entries.entry.Entry.TheVariants.{Recv, Clock, Send}
 use Rattle.secure_log.specs.Segment.{SegmentParts, ClosedParts}
 use Rattle.state_spec.specs.State.{State, opening_server}
-use Rattle.state_machine.specs.service.nfs_items.Timeval.{Timeval}
-use Rattle.state_machine.specs.worlds.World.{World, opening_world}
+use Rattle.nfs_items.specs.Timeval.{Timeval}
+use Rattle.state_spec.specs.server_spec.World.{World, opening_world}
 use Rattle.replay_spec.specs.Shown.{sender_shown}
 use Rattle.replay_spec.specs.LogLaws.HonestServers.{state_served}
 use Rattle.replay_spec.specs.Replay.{Sound}

@@ -3,7 +3,7 @@
 
 ghost use Rattle.std.specs.Prelude.{◌≡◌, ℕ, List, [], Some};
 ghost use Rattle.authenticator.specs.Roster.{IsRoster, member_of};
-ghost use Rattle.state_machine.specs.service.Replies.{reply_owed};
+ghost use Rattle.state_spec.specs.server_spec.Replies.{reply_owed};
 ghost use Rattle.replay_spec.specs.Opening.{opening_of};
 ghost use Rattle.replay_spec.specs.HonestLogs.{IsHonestLog};
 ghost use Rattle.witness_spec.specs.evidence_spec.Proving.{IsLog};
