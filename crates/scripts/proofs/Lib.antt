@@ -1,1 +1,3 @@
 pub use Rattle.serving.proofs as serving
+pub mod Answering
+pub mod Running

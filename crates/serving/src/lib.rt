@@ -23,6 +23,6 @@ pub use order::{Heights, Order};
 pub use run::{Finished, ServeFault, serve};
 pub use witness_calls::packet_texts::{ack_packet, answer_packet, challenge_packet, learn_packet};
 pub use witness_calls::{
-    Caller, Closed, Outcome, Pass, ReceiptFault, Replayed, Said, Shelf, Told, WitnessService,
-    close, indication_word, open_witness, write_case,
+    Asked, Caller, Closed, Evidence, Outcome, Pass, ReceiptFault, Replayed, Said, Shelf, Told,
+    WitnessService, close, indication_word, open_witness, write_case,
 };
