@@ -1,8 +1,9 @@
 //! `nfsacc serve`.
 
-ghost use Rattle.std.specs.Prelude.{◌≡◌, ◌⊎◌, true, false, IsOk, IsErr, IfOk, IfErr};
+ghost use Rattle.std.specs.Prelude.{◌≡◌, ◌≢◌, ◌⊎◌, true, false, IsOk, IsErr, IfOk, IfErr};
+ghost use Rattle.std.specs.declared.io.Error.{Error};
 ghost use Rattle.command_line.specs.ServeOrders.{IsBounded};
-ghost use Rattle.scripts.specs.serving.Orders.{IsOrder};
+ghost use Rattle.serving.specs.Orders.{IsOrder};
 
 use crate::control::{Control, ControlFault};
 use crate::master::{MasterFault, read_master};
@@ -11,7 +12,7 @@ use crate::{
     COMMAND_LINE, DEVICE, INPUT_FAULT, STANDARD_INPUT, report_file, report_no_memory, report_output,
 };
 use command_line::ServeOrder;
-use scripts::{Finished, Heights, Masters, Order, ServeFault};
+use serving::{Finished, Heights, Masters, Order, ServeFault};
 use shown_names::ShownName;
 use std::fs::File;
 use std::net::{Net, SocketAddr, TcpListener, TcpStream};
@@ -146,7 +147,10 @@ pub fn report_served<S: Drop>(
     ensures open { IfOk served (λ f. IsErr f.closed → result ≡ 1) }
     ensures part { IfOk served (λ f. IsOk f.closed → f.whole ≡ false → result ≡ 4) }
     ensures done { IfOk served (λ f. IsOk f.closed → f.whole ≡ true → result ≡ 0) }
-    ensures fault { IfErr served (λ e. (result ≡ 1) ⊎ (result ≡ 3) ⊎ (result ≡ 4)) }
+    ensures unaudited { IfErr served (λ e. e ≡ ServeFault.Unaudited → result ≡ 1) }
+    ensures memory { IfErr served (λ e. e ≡ ServeFault.NoMemory → result ≡ 3) }
+    ensures device { IfErr served (λ e. e ≢ ServeFault.Unaudited → (result ≡ 3) ⊎ (result ≡ 4)) }
+    ensures listener { IfErr served (λ e. (error : Error) → e ≡ ServeFault.Listener error → result ≡ 4) }
 {
     match &served {
         Ok(finished) => {
@@ -212,7 +216,10 @@ fn report_fault(
     fault: &ServeFault,
     last: Option<io::Error>,
 ) -> u8
-    ensures { (result ≡ 1) ⊎ (result ≡ 3) ⊎ (result ≡ 4) }
+    ensures unaudited { fault.now ≡ ServeFault.Unaudited → result ≡ 1 }
+    ensures memory { fault.now ≡ ServeFault.NoMemory → result ≡ 3 }
+    ensures device { fault.now ≢ ServeFault.Unaudited → (result ≡ 3) ⊎ (result ≡ 4) }
+    ensures listener { (error : Error) → fault.now ≡ ServeFault.Listener error → result ≡ 4 }
 {
     match fault {
         ServeFault::NoMemory => report_no_memory(rt),

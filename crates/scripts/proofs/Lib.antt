@@ -1,1 +1,3 @@
-pub use Rattle.serving.proofs as serving
+pub use Rattle.witness_calls.proofs as witness_calls
+pub mod Answering
+pub mod Running

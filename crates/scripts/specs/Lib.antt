@@ -1,2 +1,4 @@
 pub mod Ends
-pub use Rattle.serving.specs as serving
+pub mod Said
+pub mod Turns
+pub use Rattle.witness_calls.specs as witness_calls

@@ -1,15 +1,19 @@
 //! A script that runs, and what its lines do.
 
-use crate::answer::Answer;
+ghost use Rattle.std.specs.Prelude.{◌≡◌, ◌++◌, codes, IfOk, string_bytes};
+ghost use Rattle.scripts.specs.Said.{IsLineOf};
+ghost use Rattle.scripts.specs.Turns.{Does, IsDone, IsHeard};
+
+use crate::answer::{line_of, said_line};
 use crate::line::Act;
 use crate::parties::Parties;
 use crate::stop::Stop;
 use authenticator::Roster;
 use nfs_items::Time;
-use serving::{Caller, Said, Shelf};
 use std::alloc::Global;
 use std::sync::Wait;
 use std::thread::Threads;
+use witness_calls::{Caller, Said, Shelf};
 
 /// A script that runs: its nodes, and its pass at the witness.
 #[derive(Drop)]
@@ -21,13 +25,14 @@ pub(crate) struct Run<'a, 's, R, S> {
     pub(crate) shelf: &'s mut S,
     /// What goes between two nodes, for the time of an exchange.
     pub(crate) text: Vec<u8>,
-    /// What the line that runs prints.
-    pub(crate) answer: Answer,
 }
 
 impl<R: Threads + Wait + Sync, S: Shelf> Run<'_, '_, R, S> {
-    /// Does what a line says, at a time.
-    pub(crate) fn act(&mut self, time: Time, act: Act<'_>) -> Result<(), Stop> {
+    /// Does what a line says, at a time. Gives what the line prints.
+    pub(crate) fn act(&mut self, time: Time, act: Act<'_>) -> Result<String, Stop>
+        ensures { IfOk result (λ text.
+            Does (IsDone act.entry) self.old.caller (string_bytes text) self.new.caller) }
+    {
         match act {
             Act::Call(pair, body) => self.call(time, pair, &body),
             Act::Fork(pair, first, second) => self.fork(time, pair, first, second),
@@ -46,24 +51,28 @@ impl<R: Threads + Wait + Sync, S: Shelf> Run<'_, '_, R, S> {
         }
     }
 
-    /// Prints one word.
-    pub(crate) fn print(&mut self, word: &str) -> Result<(), Stop> {
-        self.answer.line(word);
-        Ok(())
+    /// A line of these words.
+    pub(crate) fn line(&self, words: &str) -> Result<String, Stop>
+        ensures { IfOk result (λ text. string_bytes text ≡ words.now ++ codes "\n") }
+    {
+        Ok(line_of(self.alloc, words)?)
     }
 
-    /// Prints what the witness said.
-    pub(crate) fn say(&mut self, said: &Said) -> Result<(), Stop> {
+    /// The line of what the witness said, which isn't that memory ran out.
+    pub(crate) fn said(&self, said: &Said) -> Result<String, Stop>
+        ensures { IfOk result (λ text. IsLineOf said.now (string_bytes text)) }
+    {
         if said.is_no_memory() {
             return Err(Stop::NoMemory);
         }
-        self.answer.said(said);
-        Ok(())
+        Ok(said_line(self.alloc, said)?)
     }
 
-    /// Hands a packet to the witness, and prints what it said.
-    pub(crate) fn deliver(&mut self, packet: &[u8]) -> Result<(), Stop> {
+    /// Hands a packet to the witness. Gives the line of what it said.
+    pub(crate) fn deliver(&mut self, packet: &[u8]) -> Result<String, Stop>
+        ensures { IfOk result (λ text. Does IsHeard self.old.caller (string_bytes text) self.new.caller) }
+    {
         let said = self.caller.deliver(packet);
-        self.say(&said)
+        self.said(&said)
     }
 }

@@ -1,162 +1,115 @@
 //! What a line of a script prints.
 
+ghost use Rattle.std.specs.Prelude.{◌≡◌, ◌++◌, codes, IfOk, string_bytes};
+ghost use Rattle.node_book.specs.Replies.{indication_in};
+ghost use Rattle.scripts.specs.Said.{said_line};
+ghost use Rattle.scripts.specs.Turns.{flooded_line, forwarded_words, refused_line, told_line};
+
 use authenticator::Authenticator;
-use serving::{Outcome, Replayed, Said, Told, indication_word};
 use std::alloc::{AllocError, Global};
+use witness_calls::{Outcome, Replayed, Said, Told, indication_word};
 
-/// What a line prints: words with one space between, line by line. Once memory was refused it takes no more,
-/// and there is no text.
-#[derive(Drop)]
-pub(crate) struct Answer {
-    text: String,
-    begun: bool,
-    is_whole: bool,
+/// A line of these words.
+pub(crate) fn line_of(alloc: Global, words: &str) -> Result<String, AllocError>
+    ensures { IfOk result (λ line. string_bytes line ≡ words.now ++ codes "\n") }
+{
+    format!(in alloc; "{words}\n")
 }
 
-impl Answer {
-    /// Nothing yet.
-    pub(crate) fn new(alloc: Global) -> Answer {
-        Answer {
-            text: String::new(alloc),
-            begun: false,
-            is_whole: true,
+/// The line `refused R`.
+pub(crate) fn refused_line(alloc: Global, number: u32) -> Result<String, AllocError>
+    ensures { IfOk result (λ line. string_bytes line ≡ refused_line number) }
+{
+    format!(in alloc; "refused {number}\n")
+}
+
+/// The line `flooded T`.
+pub(crate) fn flooded_line(alloc: Global, times: u32) -> Result<String, AllocError>
+    ensures { IfOk result (λ line. string_bytes line ≡ flooded_line times) }
+{
+    format!(in alloc; "flooded {times}\n")
+}
+
+/// The line of a reply: `reply HEX`, or `no reply`.
+pub(crate) fn reply_line(alloc: Global, reply: Option<&[u8]>) -> Result<String, AllocError> {
+    match reply {
+        Some(bytes) => {
+            let digits = hex::encode(alloc, bytes)?;
+            format!(in alloc; "reply {digits}\n")
         }
-    }
-
-    /// The text, each line of it ended.
-    pub(crate) fn text(&self) -> Result<&str, AllocError> {
-        if self.is_whole {
-            Ok(&self.text)
-        } else {
-            Err(AllocError)
-        }
-    }
-
-    /// Begins anew.
-    pub(crate) fn clear(&mut self) {
-        self.text.clear();
-        self.begun = false;
-        self.is_whole = true;
-    }
-
-    /// Appends characters.
-    fn put(&mut self, characters: &str) {
-        self.is_whole = self.is_whole && self.text.push_str(characters).is_ok();
-    }
-
-    /// A word more in this line.
-    pub(crate) fn word(&mut self, word: &str) {
-        if self.begun {
-            self.put(" ");
-        }
-        self.begun = true;
-        self.put(word);
-    }
-
-    /// A number more in this line, in decimal.
-    pub(crate) fn number(&mut self, number: u64) {
-        let mut digits = itoa::Buffer::new();
-        self.word(digits.format(number));
-    }
-
-    /// The line's end.
-    pub(crate) fn end(&mut self) {
-        self.begun = false;
-        self.put("\n");
-    }
-
-    /// A line of one word.
-    pub(crate) fn line(&mut self, word: &str) {
-        self.word(word);
-        self.end();
-    }
-
-    /// The line `refused R`.
-    pub(crate) fn refused(&mut self, number: u32) {
-        self.word("refused");
-        self.number(u64::from(number));
-        self.end();
-    }
-
-    /// The line `flooded T`.
-    pub(crate) fn flooded(&mut self, times: u32) {
-        self.word("flooded");
-        self.number(u64::from(times));
-        self.end();
-    }
-
-    /// The line of a reply: `reply HEX`, or `no reply`.
-    pub(crate) fn reply(&mut self, alloc: Global, reply: Option<&[u8]>) {
-        let Some(bytes) = reply else {
-            return self.line("no reply");
-        };
-        self.word("reply");
-        match hex::encode(alloc, bytes) {
-            Ok(digits) => self.line(&digits),
-            Err(_) => self.is_whole = false,
-        }
-    }
-
-    /// The line of what a witness said.
-    pub(crate) fn said(&mut self, said: &Said) {
-        match said {
-            Said::Refused(refusal) => return self.refused(refusal.number()),
-            Said::Asked { first, last } => {
-                self.word("asked");
-                self.number(first.get());
-                self.number(last.get());
-            }
-            Said::Forwarded(authenticator) => self.forwarded(authenticator),
-            other => self.word(word_of(other)),
-        }
-        self.end();
-    }
-
-    /// The words `forwarded M K`.
-    pub(crate) fn forwarded(&mut self, authenticator: &Authenticator) {
-        self.word("forwarded");
-        self.number(u64::from(authenticator.node));
-        self.number(authenticator.number.get());
-    }
-
-    /// The line of what a witness says of a node: `N INDICATION OPEN`.
-    pub(crate) fn told(&mut self, told: &Told) {
-        self.number(u64::from(told.node));
-        self.word(told.word());
-        self.number(told.open as u64);
-        self.end();
-    }
-
-    /// The line of a replay: `N sound`, or `N fault KIND AT`.
-    pub(crate) fn replayed(&mut self, replayed: &Replayed) {
-        self.number(u64::from(replayed.node));
-        match replayed.outcome {
-            Outcome::Sound => self.word("sound"),
-            Outcome::Fault(fault, at) => {
-                self.word("fault");
-                self.number(u64::from(fault.number()));
-                self.number(at.get());
-            }
-        }
-        self.end();
+        None => line_of(alloc, "no reply"),
     }
 }
 
-/// The first word of what a witness said.
-fn word_of(said: &Said) -> &'static str {
+/// The line of what a witness said.
+pub(crate) fn said_line(alloc: Global, said: &Said) -> Result<String, AllocError>
+    ensures { IfOk result (λ line. string_bytes line ≡ said_line said.now) }
+{
     match said {
-        Said::Noted => "noted",
-        Said::Already => "already",
-        Said::Opened => "opened",
-        Said::Accepted => "accepted",
-        Said::Closed => "closed",
-        Said::Asked { .. } => "asked",
-        Said::Returned => "returned",
-        Said::Forwarded(_) => "forwarded",
-        Said::Empty => "empty",
-        Said::Told(indication) => indication_word(*indication),
-        Said::Open(_) => "open",
-        Said::EvidenceIs(_) => "evidence",
-        Said::Refused(_) => "refused",
+        Said::Noted => line_of(alloc, "noted"),
+        Said::Already => line_of(alloc, "already"),
+        Said::Opened => line_of(alloc, "opened"),
+        Said::Accepted => line_of(alloc, "accepted"),
+        Said::Closed => line_of(alloc, "closed"),
+        Said::Asked { first, last } => {
+            let (first, last) = (first.get(), last.get());
+            format!(in alloc; "asked {first} {last}\n")
+        }
+        Said::Returned => line_of(alloc, "returned"),
+        Said::Forwarded(authenticator) => {
+            let number = authenticator.number.get();
+            format!(in alloc; "forwarded {} {number}\n", authenticator.node)
+        }
+        Said::Empty => line_of(alloc, "empty"),
+        Said::Told(indication) => line_of(alloc, indication_word(*indication)),
+        Said::Open(_) => line_of(alloc, "open"),
+        Said::EvidenceIs(_) => line_of(alloc, "evidence"),
+        Said::Refused(refusal) => refused_line(alloc, refusal.number()),
     }
+}
+
+/// The words `forwarded M K`, and after them a line.
+pub(crate) fn forwarded_line(
+    alloc: Global,
+    authenticator: &Authenticator,
+    line: &str,
+) -> Result<String, AllocError>
+    ensures { IfOk result (λ text. string_bytes text
+        ≡ forwarded_words authenticator.now.node authenticator.now.number ++ line.now) }
+{
+    let number = authenticator.number.get();
+    format!(in alloc; "forwarded {} {number} {line}", authenticator.node)
+}
+
+/// The line of what a witness says of a node: `N INDICATION OPEN`.
+pub(crate) fn told_line(alloc: Global, told: &Told) -> Result<String, AllocError>
+    ensures { IfOk result (λ line. string_bytes line
+        ≡ told_line told.now.node (indication_in told.now.indication) told.now.open) }
+{
+    let word = told.word();
+    format!(in alloc; "{} {word} {}\n", told.node, told.open)
+}
+
+/// The line of a replay: `N sound`, or `N fault KIND AT`.
+fn replayed_line(alloc: Global, replayed: &Replayed) -> Result<String, AllocError> {
+    match replayed.outcome {
+        Outcome::Sound => format!(in alloc; "{} sound\n", replayed.node),
+        Outcome::Fault(fault, at) => {
+            let (kind, at) = (fault.number(), at.get());
+            format!(in alloc; "{} fault {kind} {at}\n", replayed.node)
+        }
+    }
+}
+
+/// A line for each replay of a round; `idle` where there was none.
+pub(crate) fn round_text(alloc: Global, round: &[Replayed]) -> Result<String, AllocError> {
+    if round.is_empty() {
+        return line_of(alloc, "idle");
+    }
+    let mut text = String::new(alloc);
+    for replayed in round {
+        let line = replayed_line(alloc, replayed)?;
+        text.push_str(&line)?;
+    }
+    Ok(text)
 }

@@ -14,4 +14,4 @@ mod witness;
 mod words;
 
 pub use script::{ScriptEnd, ScriptFault, run_script};
-pub use serving::{Finished, Heights, Masters, Order, ServeFault, Shelf, serve};
+pub use witness_calls::Shelf;

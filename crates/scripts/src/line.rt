@@ -3,13 +3,10 @@
 ghost use Rattle.std.specs.Prelude.{◌≡◌, ◌≤◌};
 
 use crate::words::{LineFault, Words};
-use authenticator::Kind;
+use authenticator::{Kind, MAX_NODE};
 use secure_log::log_entries::Body;
 use std::alloc::Global;
 use std::marker::Model;
-
-/// The greatest number of a node.
-const MAX_NODE: u32 = 64;
 
 /// The greatest height of a tree of keys, and the most workers of a round.
 const MOST: u32 = 16;

@@ -1,5 +1,8 @@
 //! Reading a script line by line.
 
+ghost use Rattle.std.specs.Prelude.{◌≡◌};
+ghost use Rattle.std.specs.Io.KnownBytes.{IsAtEnd};
+
 use std::alloc::Global;
 use std::io::Read;
 
@@ -23,7 +26,9 @@ pub(crate) enum Next {
 
 /// Reads the next line into `line`, without its line feed, in place of what `line` was. The last line may
 /// lack a line feed. No byte after the line is read.
-pub(crate) fn next_line<R: Read>(reader: &mut R, line: &mut Vec<u8>) -> Next {
+pub(crate) fn next_line<R: Read>(reader: &mut R, line: &mut Vec<u8>) -> Next
+    ensures { result ≡ Next.End → IsAtEnd (R.remaining reader.new) }
+{
     line.clear();
     let mut byte = [0];
     for _ in 0..=MAX_LINE {

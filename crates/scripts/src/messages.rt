@@ -1,38 +1,46 @@
 //! Messages between the nodes of a script.
 
+ghost use Rattle.std.specs.Prelude.{◌≡◌, IfOk, string_bytes};
+ghost use Rattle.scripts.specs.Turns.{Does, IsHanded, IsRefusal, IsSilent};
+
 use crate::acts::Run;
+use crate::answer::{refused_line, reply_line};
 use crate::line::Pair;
 use crate::stop::Stop;
 use authenticator::Number;
 use commitment::{Received, Refusal};
 use envelopes::Envelope;
 use nfs_items::Time;
+use nodes::exchanges::exchange;
+use nodes::{LinkFault, NodeLog, Receipt};
 use secure_log::log_entries::Body;
-use serving::{LinkFault, NodeLog, Receipt, Shelf, ack_packet, challenge_packet, exchange};
 use std::alloc::{AllocError, Global};
 use std::sync::Wait;
 use std::thread::Threads;
+use witness_calls::Shelf;
+use witness_calls::packet_texts::{ack_packet, challenge_packet};
 
 impl<R: Threads + Wait + Sync, S: Shelf> Run<'_, '_, R, S> {
     /// `call C S HEX`: the whole exchange, which both nodes log.
-    pub(crate) fn call(&mut self, time: Time, pair: Pair, body: &Body) -> Result<(), Stop> {
+    pub(crate) fn call(&mut self, time: Time, pair: Pair, body: &Body) -> Result<String, Stop>
+        ensures { IfOk result (λ text. Does IsSilent self.old.caller (string_bytes text) self.new.caller) }
+    {
         let (client, server) = self.parties.pair(pair).ok_or(Stop::Bad)?;
         let text = &mut self.text;
         match exchange(client, server, text, self.alloc, time, body.bytes()) {
-            Ok(reply) => {
-                self.answer.reply(self.alloc, reply.as_deref());
-                Ok(())
-            }
+            Ok(reply) => Ok(reply_line(self.alloc, reply.as_deref())?),
             Err(fault) => self.refuse(refusal_of(fault)),
         }
     }
 
     /// `lie S`: the server's next reply will be changed.
-    pub(crate) fn lie(&mut self, server: u32) -> Result<(), Stop> {
+    pub(crate) fn lie(&mut self, server: u32) -> Result<String, Stop>
+        ensures { IfOk result (λ text. Does IsSilent self.old.caller (string_bytes text) self.new.caller) }
+    {
         if !self.parties.lie(server) {
             return Err(Stop::Bad);
         }
-        self.print("ok")
+        self.line("ok")
     }
 
     /// `fork C S HEX HEX`: two messages under one number, of which the client logs the first alone. It takes
@@ -43,7 +51,9 @@ impl<R: Threads + Wait + Sync, S: Shelf> Run<'_, '_, R, S> {
         pair: Pair,
         first: Body,
         second: Body,
-    ) -> Result<(), Stop> {
+    ) -> Result<String, Stop>
+        ensures { IfOk result (λ text. Does IsSilent self.old.caller (string_bytes text) self.new.caller) }
+    {
         let (client, _) = self.parties.pair(pair).ok_or(Stop::Bad)?;
         match client.fork(pair.server, first, second) {
             Ok(forked) => self.hand_both(time, pair, forked.number, forked.second.as_ref()),
@@ -51,10 +61,12 @@ impl<R: Threads + Wait + Sync, S: Shelf> Run<'_, '_, R, S> {
         }
     }
 
-    /// Prints a node's refusal of each of two messages.
-    fn refuse_both(&mut self, refusal: Refusal) -> Result<(), Stop> {
-        self.refuse(refusal)?;
-        self.refuse(refusal)
+    /// The lines of a node's refusal of each of two messages.
+    fn refuse_both(&self, refusal: Refusal) -> Result<String, Stop> {
+        let mut text = self.refuse(refusal)?;
+        let second = self.refuse(refusal)?;
+        text.push_str(&second)?;
+        Ok(text)
     }
 
     /// Hands the server the message that a client logged under a number, and then the other one.
@@ -64,16 +76,22 @@ impl<R: Threads + Wait + Sync, S: Shelf> Run<'_, '_, R, S> {
         pair: Pair,
         number: Number,
         second: Option<&Envelope>,
-    ) -> Result<(), Stop> {
-        self.hand_first(time, pair, number)?;
-        self.hand_second(time, pair.server, second)
+    ) -> Result<String, Stop>
+        ensures { self.new.caller ≡ self.old.caller }
+    {
+        let mut text = self.hand_first(time, pair, number)?;
+        let second = self.hand_second(time, pair.server, second)?;
+        text.push_str(&second)?;
+        Ok(text)
     }
 
     /// Hands the server the message that a client logged under a number.
-    fn hand_first(&mut self, time: Time, pair: Pair, number: Number) -> Result<(), Stop> {
+    fn hand_first(&mut self, time: Time, pair: Pair, number: Number) -> Result<String, Stop>
+        ensures { self.new.caller ≡ self.old.caller }
+    {
         match self.message_text(pair, number.get())? {
             Some(text) => self.hand(time, pair.server, &text),
-            None => self.print("none"),
+            None => self.line("none"),
         }
     }
 
@@ -83,7 +101,9 @@ impl<R: Threads + Wait + Sync, S: Shelf> Run<'_, '_, R, S> {
         time: Time,
         server: u32,
         envelope: Option<&Envelope>,
-    ) -> Result<(), Stop> {
+    ) -> Result<String, Stop>
+        ensures { self.new.caller ≡ self.old.caller }
+    {
         let Some(envelope) = envelope else {
             return self.refuse(Refusal::KeysUsedUp);
         };
@@ -92,26 +112,36 @@ impl<R: Threads + Wait + Sync, S: Shelf> Run<'_, '_, R, S> {
         self.hand(time, server, &text)
     }
 
-    /// Hands a server a message's text, and prints its reply.
-    fn hand(&mut self, time: Time, server: u32, text: &[u8]) -> Result<(), Stop> {
-        let Some(receipt) = self.received(time, server, text)? else {
-            return Ok(());
-        };
-        let node = self.parties.node(server).ok_or(Stop::Bad)?;
-        let reply = reply_of(self.alloc, node, &receipt)?;
-        self.answer.reply(self.alloc, reply.as_deref());
-        Ok(())
+    /// Hands a server a message's text. Gives the line of its reply.
+    fn hand(&mut self, time: Time, server: u32, text: &[u8]) -> Result<String, Stop>
+        ensures { self.new.caller ≡ self.old.caller }
+    {
+        match self.received(time, server, text)? {
+            Ok(receipt) => self.reply(server, &receipt),
+            Err(refusal) => self.refuse(refusal),
+        }
     }
 
-    /// What a server makes of a message's text: its receipt; or none, where it refuses it, which is printed.
-    fn received(&mut self, time: Time, server: u32, text: &[u8]) -> Result<Option<Receipt>, Stop> {
+    /// The line of the reply that a server's receipt names.
+    fn reply(&self, server: u32, receipt: &Receipt) -> Result<String, Stop> {
+        let node = self.parties.node(server).ok_or(Stop::Bad)?;
+        let reply = reply_of(self.alloc, node, receipt)?;
+        Ok(reply_line(self.alloc, reply.as_deref())?)
+    }
+
+    /// What a server makes of a message's text: its receipt, or its refusal.
+    fn received(
+        &mut self,
+        time: Time,
+        server: u32,
+        text: &[u8],
+    ) -> Result<Result<Receipt, Refusal>, Stop>
+        ensures { self.new.caller ≡ self.old.caller }
+    {
         let node = self.parties.server(server).ok_or(Stop::Bad)?;
         match node.receive(self.alloc, time, text) {
-            Ok(Received::New(receipt) | Received::Repeat(receipt)) => Ok(Some(receipt)),
-            Err(refusal) => {
-                self.refuse(refusal)?;
-                Ok(None)
-            }
+            Ok(Received::New(receipt) | Received::Repeat(receipt)) => Ok(Ok(receipt)),
+            Err(refusal) => Ok(Err(refusal)),
         }
     }
 
@@ -124,11 +154,12 @@ impl<R: Threads + Wait + Sync, S: Shelf> Run<'_, '_, R, S> {
         }
     }
 
-    /// Prints a node's refusal.
-    pub(crate) fn refuse(&mut self, refusal: Refusal) -> Result<(), Stop> {
+    /// The line of a node's refusal.
+    fn refuse(&self, refusal: Refusal) -> Result<String, Stop>
+        ensures { IfOk result (λ text. IsRefusal (string_bytes text)) }
+    {
         let number = refusal.number().ok_or(Stop::NoMemory)?;
-        self.answer.refused(number);
-        Ok(())
+        Ok(refused_line(self.alloc, number)?)
     }
 
     /// The text of a client's message to a server, if it sent one under this number.
@@ -145,12 +176,12 @@ impl<R: Threads + Wait + Sync, S: Shelf> Run<'_, '_, R, S> {
     }
 
     /// `challenge C S K`: the witness gets the message, which the server is to acknowledge.
-    pub(crate) fn challenge(&mut self, pair: Pair, number: u32) -> Result<(), Stop> {
+    pub(crate) fn challenge(&mut self, pair: Pair, number: u32) -> Result<String, Stop>
+        ensures { IfOk result (λ text. Does IsHanded self.old.caller (string_bytes text) self.new.caller) }
+    {
         self.known_pair(pair)?;
-        match self.challenge_packet(pair, u64::from(number))? {
-            Some(packet) => self.deliver(&packet),
-            None => self.print("none"),
-        }
+        let packet = self.challenge_packet(pair, u64::from(number))?;
+        self.hand_over(packet)
     }
 
     /// The packet of a client's message to a server, if it sent one under this number.
@@ -165,22 +196,38 @@ impl<R: Threads + Wait + Sync, S: Shelf> Run<'_, '_, R, S> {
     }
 
     /// `ack C S K`: the server receives the message again, and the witness gets its acknowledgement.
-    pub(crate) fn acknowledge(&mut self, time: Time, pair: Pair, number: u32) -> Result<(), Stop> {
+    pub(crate) fn acknowledge(
+        &mut self,
+        time: Time,
+        pair: Pair,
+        number: u32,
+    ) -> Result<String, Stop>
+        ensures { IfOk result (λ text. Does IsHanded self.old.caller (string_bytes text) self.new.caller) }
+    {
         self.known_pair(pair)?;
         match self.message_text(pair, u64::from(number))? {
             Some(text) => self.receive_again(time, pair.server, &text),
-            None => self.print("none"),
+            None => self.line("none"),
         }
     }
 
     /// Hands a server a message's text, and the witness the acknowledgement.
-    fn receive_again(&mut self, time: Time, server: u32, text: &[u8]) -> Result<(), Stop> {
-        let Some(receipt) = self.received(time, server, text)? else {
-            return Ok(());
-        };
+    fn receive_again(&mut self, time: Time, server: u32, text: &[u8]) -> Result<String, Stop>
+        ensures { IfOk result (λ text. Does IsHanded self.old.caller (string_bytes text) self.new.caller) }
+    {
+        match self.received(time, server, text)? {
+            Ok(receipt) => self.hand_receipt(server, &receipt),
+            Err(refusal) => self.refuse(refusal),
+        }
+    }
+
+    /// Hands the witness the acknowledgement that a server's receipt names.
+    fn hand_receipt(&mut self, server: u32, receipt: &Receipt) -> Result<String, Stop>
+        ensures { IfOk result (λ text. Does IsHanded self.old.caller (string_bytes text) self.new.caller) }
+    {
         let node = self.parties.node(server).ok_or(Stop::Bad)?;
-        let packet = receipt_packet(self.alloc, node, &receipt)?;
-        self.deliver(&packet)
+        let packet = receipt_packet(self.alloc, node, receipt)?;
+        self.hand_over(Some(packet))
     }
 }
 

@@ -5,51 +5,34 @@ ghost use Rattle.std.specs.Prelude.{◌<◌, ◌≤◌, IfSome, length};
 use crate::line::{NodeLine, Pair};
 use crate::stop::Stop;
 use authenticator::{Kind, Member, Roster};
-use merkle_keys::Signer;
-use serving::{ClientNode, Masters, Node, NodeLog, Role, ServerNode};
+use node_keys::{KeyedNode, Masters};
+use nodes::{ClientNode, Node, NodeLog, Role, ServerNode};
 use std::alloc::{AllocError, Global};
 use std::marker::Model;
 use std::thread::Threads;
 
-/// A node that has its keys, of which none is used, and isn't made yet.
+/// A node that isn't made yet. Its keys are made of its number alone, so anybody can sign for it.
 #[derive(Drop)]
-struct Keyed {
-    number: u32,
-    kind: Kind,
-    height: u32,
-    signer: Signer,
+struct ListedNode {
+    keyed: KeyedNode,
 }
 
-impl Model for Keyed {
-    ghost use Rattle.std.specs.Prelude.{◌≡◌, ◌≤◌};
-    ghost use Rattle.merkle_keys.specs.Signing.{SignerState};
-    ghost use Rattle.serving.specs.Masters.{master_of};
-    ghost use Rattle.serving.specs.declared.keys.Masters.TheVariants.{Known};
+impl Model for ListedNode {
+    ghost use Rattle.std.specs.Prelude.{◌≡◌};
+    ghost use Rattle.node_keys.specs.KeyedNode.{KeyedParts};
+    ghost use Rattle.node_keys.specs.declared.masters.Masters.TheVariants.{Known};
 
-    ghost Value = { SignerState };
+    ghost Value = { KeyedParts };
 
-    ghost view = { λ k. k.signer };
+    ghost view = { λ n. n.keyed };
 
-    ghost invariant = { λ k. (k.signer.used ≡ 0) × (k.signer.height ≡ k.height) × (k.height ≤ 16)
-        × (k.signer.master ≡ master_of Known k.number) };
-}
-
-impl Keyed {
-    /// The node as a roster lists it.
-    fn member(&self) -> Member {
-        Member {
-            node: self.number,
-            kind: self.kind,
-            root: self.signer.root(),
-            height: self.height,
-        }
-    }
+    ghost invariant = { λ n. n.keyed.masters ≡ Known };
 }
 
 /// The nodes that a script has so far, by rising numbers. None has sent anything.
 #[derive(Drop)]
 pub(crate) struct Listed {
-    nodes: Vec<Keyed>,
+    nodes: Vec<ListedNode>,
 }
 
 impl Listed {
@@ -72,14 +55,8 @@ impl Listed {
             return Err(Stop::Bad);
         }
         let height = line.height.get();
-        let signer = Signer::new_by(rt, alloc, Masters::Known.of(line.number), height)?;
-        let keyed = Keyed {
-            number: line.number,
-            kind: line.kind,
-            height,
-            signer,
-        };
-        match self.nodes.insert(place, keyed) {
+        let keyed = KeyedNode::make(rt, alloc, Masters::Known, line.number, line.kind, height)?;
+        match self.nodes.insert(place, ListedNode { keyed }) {
             Ok(()) => Ok(()),
             Err(_) => Err(Stop::NoMemory),
         }
@@ -90,7 +67,7 @@ impl Listed {
         ensures { result ≤ length self.now.nodes.items }
     {
         for place in 0..self.nodes.len() {
-            if number <= self.nodes[place].number {
+            if number <= self.nodes[place].keyed.number() {
                 return place;
             }
         }
@@ -100,7 +77,7 @@ impl Listed {
     /// Whether the node at a place, if there is one, has a number.
     fn has(&self, place: usize, number: u32) -> bool {
         match self.nodes.get(place) {
-            Some(keyed) => keyed.number == number,
+            Some(listed) => listed.keyed.number() == number,
             None => false,
         }
     }
@@ -108,8 +85,8 @@ impl Listed {
     /// The members, by rising numbers.
     pub(crate) fn members(&self, alloc: Global) -> Result<Vec<Member>, AllocError> {
         let mut members = Vec::with_capacity(alloc, self.nodes.len())?;
-        for keyed in &self.nodes {
-            members.push(keyed.member())?;
+        for listed in &self.nodes {
+            members.push(listed.keyed.member())?;
         }
         Ok(members)
     }
@@ -120,8 +97,8 @@ impl Listed {
             clients: Vec::new(alloc),
             servers: Vec::new(alloc),
         };
-        for keyed in self.nodes {
-            parties.add(alloc, roster, keyed)?;
+        for listed in self.nodes {
+            parties.add(alloc, roster, listed.keyed)?;
         }
         Ok(parties)
     }
@@ -136,23 +113,11 @@ pub(crate) struct Parties {
 
 impl Parties {
     /// One node more.
-    fn add(&mut self, alloc: Global, roster: &Roster, keyed: Keyed) -> Result<(), AllocError> {
+    fn add(&mut self, alloc: Global, roster: &Roster, keyed: KeyedNode) -> Result<(), AllocError> {
         let roster = roster.try_clone(alloc)?;
-        let Keyed {
-            number,
-            kind,
-            height,
-            signer,
-        } = keyed;
-        match kind {
-            Kind::Client => {
-                let client = Node::with_signer(alloc, roster, number, signer, height)?;
-                self.clients.push(client)?;
-            }
-            Kind::Server => {
-                let server = Node::with_signer(alloc, roster, number, signer, height)?;
-                self.servers.push(server)?;
-            }
+        match keyed.kind() {
+            Kind::Client => self.clients.push(keyed.make_node(alloc, roster)?)?,
+            Kind::Server => self.servers.push(keyed.make_node(alloc, roster)?)?,
         }
         Ok(())
     }

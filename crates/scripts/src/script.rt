@@ -1,22 +1,23 @@
 //! Running a script.
 
-ghost use Rattle.std.specs.Prelude.{IfOk};
-ghost use Rattle.scripts.specs.Ends.{IsEnd};
+ghost use Rattle.std.specs.Prelude.{◌≡◌, ◌≢◌, [], false, IfErr, IfOk, IsOk, OnOk};
+ghost use Rattle.std.specs.Io.KnownBytes.{Appends, IsAtEnd};
+ghost use Rattle.scripts.specs.Ends.{Closes, IsEnd, IsReadToEnd, Writes, last_line};
+ghost use Rattle.scripts.specs.Turns.{Leaves, Runs, TakesTurn};
 
 use crate::acts::Run;
-use crate::answer::Answer;
 use crate::cursor::Cursor;
 use crate::line::{Line, read_line};
 use crate::parties::{Listed, Parties};
 use crate::stop::Stop;
 use authenticator::Roster;
-use serving::{
-    Caller, Closed, Pass, ReceiptFault, Shelf, WitnessService, close as close_witness, open_witness,
-};
 use std::alloc::Global;
 use std::io::{self, Read, Write};
 use std::sync::Wait;
 use std::thread::Threads;
+use witness_calls::{
+    Caller, Closed, Pass, ReceiptFault, Shelf, WitnessService, close as close_witness, open_witness,
+};
 
 /// How a script came to its end.
 #[derive(Drop)]
@@ -53,10 +54,12 @@ pub fn run_script<R: Threads + Wait + Sync, I: Read, O: Write, S: Shelf>(
     shelf: &mut S,
     roster_file: Option<&str>,
 ) -> Result<ScriptEnd, ScriptFault>
-    ensures { IfOk result IsEnd }
+    ensures end { IfOk result IsEnd }
+    ensures turns { IfOk result (Writes (O.contents writer.old) (O.contents writer.new)) }
+    ensures read { IfOk result (IsReadToEnd (I.remaining reader.new)) }
 {
-    let mut cursor = Cursor::new(alloc, reader);
-    match run_all(rt, alloc, &mut cursor, writer, shelf, roster_file) {
+    let mut cursor = Cursor::new(alloc);
+    match run_all(rt, alloc, reader, &mut cursor, writer, shelf, roster_file) {
         Ok(end) => Ok(end),
         Err(Stop::Bad) => Ok(ScriptEnd::Bad(cursor.number())),
         Err(Stop::NoMemory) => Err(ScriptFault::NoMemory),
@@ -69,14 +72,18 @@ pub fn run_script<R: Threads + Wait + Sync, I: Read, O: Write, S: Shelf>(
 fn run_all<R: Threads + Wait + Sync, I: Read, O: Write, S: Shelf>(
     rt: &R,
     alloc: Global,
-    cursor: &mut Cursor<'_, I>,
+    reader: &mut I,
+    cursor: &mut Cursor,
     writer: &mut O,
     shelf: &mut S,
     roster_file: Option<&str>,
 ) -> Result<ScriptEnd, Stop>
-    ensures { IfOk result IsEnd }
+    ensures end { IfOk result IsEnd }
+    ensures turns { IfOk result (Writes (O.contents writer.old) (O.contents writer.new)) }
+    ensures bad { IfErr result (Leaves (O.contents writer.old) (O.contents writer.new)) }
+    ensures read { IsOk result → IsAtEnd (I.remaining reader.new) }
 {
-    let (listed, more) = read_nodes(rt, alloc, cursor)?;
+    let (listed, more) = read_nodes(rt, alloc, reader, cursor)?;
     let roster = Roster::new(listed.members(alloc)?).map_err(|_| Stop::Bad)?;
     if let Some(name) = roster_file {
         put_roster(alloc, shelf, name, &roster)?;
@@ -89,7 +96,7 @@ fn run_all<R: Threads + Wait + Sync, I: Read, O: Write, S: Shelf>(
         parties,
         pass,
     };
-    let pass = play(rt, alloc, stage, cursor, writer, shelf, more)?;
+    let pass = play(rt, alloc, stage, reader, cursor, writer, shelf, more)?;
     close(alloc, service, pass, writer)
 }
 
@@ -107,11 +114,18 @@ fn play<'a, R: Threads + Wait + Sync, I: Read, O: Write, S: Shelf>(
     rt: &'a R,
     alloc: Global,
     stage: Stage<'a>,
-    cursor: &mut Cursor<'_, I>,
+    reader: &mut I,
+    cursor: &mut Cursor,
     writer: &mut O,
     shelf: &mut S,
     there: bool,
-) -> Result<Pass, Stop> {
+) -> Result<Pass, Stop>
+    requires { there ≡ false → IsAtEnd (I.remaining reader.old) }
+    ensures turns { IfOk result (λ pass. Runs (O.contents writer.old) (O.contents writer.new)
+        stage.entry.pass.claims pass.claims) }
+    ensures bad { IfErr result (Leaves (O.contents writer.old) (O.contents writer.new)) }
+    ensures read { IsOk result → IsAtEnd (I.remaining reader.new) }
+{
     let Stage {
         roster,
         service,
@@ -125,9 +139,8 @@ fn play<'a, R: Threads + Wait + Sync, I: Read, O: Write, S: Shelf>(
         caller: Caller::new(rt, alloc, service, roster, pass),
         shelf,
         text: Vec::new(alloc),
-        answer: Answer::new(alloc),
     };
-    run_lines(&mut run, cursor, writer, there)?;
+    run_lines(&mut run, reader, cursor, writer, there)?;
     Ok(run.caller.into_pass())
 }
 
@@ -135,11 +148,14 @@ fn play<'a, R: Threads + Wait + Sync, I: Read, O: Write, S: Shelf>(
 fn read_nodes<R: Threads + Sync, I: Read>(
     rt: &R,
     alloc: Global,
-    cursor: &mut Cursor<'_, I>,
-) -> Result<(Listed, bool), Stop> {
+    reader: &mut I,
+    cursor: &mut Cursor,
+) -> Result<(Listed, bool), Stop>
+    ensures { IfOk result (λ read. read.1 ≡ false → IsAtEnd (I.remaining reader.new)) }
+{
     let mut listed = Listed::new(alloc);
     for _ in 0..u64::MAX {
-        if !cursor.next()? {
+        if !cursor.next(reader)? {
             return Ok((listed, false));
         }
         match read_line(alloc, cursor.text()?)? {
@@ -166,7 +182,9 @@ fn put_roster<S: Shelf>(
 }
 
 /// A witness of a roster's members, with one pass.
-fn witness_of(alloc: Global, roster: &Roster) -> Result<(WitnessService, Pass), Stop> {
+fn witness_of(alloc: Global, roster: &Roster) -> Result<(WitnessService, Pass), Stop>
+    ensures { IfOk result (λ opened. opened.1.claims ≡ []) }
+{
     let (service, mut passes) = open_witness(alloc, roster, 1)?;
     match passes.pop() {
         Some(pass) => Ok((service, pass)),
@@ -177,37 +195,52 @@ fn witness_of(alloc: Global, roster: &Roster) -> Result<(WitnessService, Pass), 
 /// Runs the line that is there, if one is, and those after it.
 fn run_lines<R: Threads + Wait + Sync, I: Read, O: Write, S: Shelf>(
     run: &mut Run<'_, '_, R, S>,
-    cursor: &mut Cursor<'_, I>,
+    reader: &mut I,
+    cursor: &mut Cursor,
     writer: &mut O,
     there: bool,
-) -> Result<(), Stop> {
+) -> Result<(), Stop>
+    requires { there ≡ false → IsAtEnd (I.remaining reader.old) }
+    ensures turns { OnOk result (Runs (O.contents writer.old) (O.contents writer.new)
+        run.old.caller run.new.caller) }
+    ensures bad { IfErr result (Leaves (O.contents writer.old) (O.contents writer.new)) }
+    ensures read { IsOk result → IsAtEnd (I.remaining reader.new) }
+{
     let mut more = there;
     for _ in 0..u64::MAX {
         if !more {
             return Ok(());
         }
         run_line(run, cursor, writer)?;
-        more = cursor.next()?;
+        more = cursor.next(reader)?;
     }
     Err(Stop::Bad)
 }
 
 /// Runs the line that is there, and writes what it prints.
-fn run_line<R: Threads + Wait + Sync, I: Read, O: Write, S: Shelf>(
+fn run_line<R: Threads + Wait + Sync, O: Write, S: Shelf>(
     run: &mut Run<'_, '_, R, S>,
-    cursor: &Cursor<'_, I>,
+    cursor: &Cursor,
     writer: &mut O,
-) -> Result<(), Stop> {
-    run.answer.clear();
+) -> Result<(), Stop>
+    ensures turn { OnOk result (TakesTurn (O.contents writer.old) (O.contents writer.new)
+        run.old.caller run.new.caller) }
+    ensures bad { IfErr result (λ stop. stop ≡ Stop.Bad → O.contents writer.new ≡ O.contents writer.old) }
+{
     match read_line(run.alloc, cursor.text()?)? {
-        Line::Node(_) => return Err(Stop::Bad),
-        Line::Act(act) => run.act(cursor.time(), act)?,
+        Line::Node(_) => Err(Stop::Bad),
+        Line::Act(act) => {
+            let text = run.act(cursor.time(), act)?;
+            write_text(writer, &text)
+        }
     }
-    write_text(writer, run.answer.text()?)
 }
 
 /// Writes a text.
-fn write_text<O: Write>(writer: &mut O, text: &str) -> Result<(), Stop> {
+fn write_text<O: Write>(writer: &mut O, text: &str) -> Result<(), Stop>
+    ensures wrote { OnOk result (Appends (O.contents writer.old) (O.contents writer.new) text.now) }
+    ensures device { IfErr result (λ stop. stop ≡ Stop.Device) }
+{
     match writer.write_all(text.as_bytes()) {
         Ok(()) => Ok(()),
         Err(_) => Err(Stop::Device),
@@ -215,11 +248,29 @@ fn write_text<O: Write>(writer: &mut O, text: &str) -> Result<(), Stop> {
 }
 
 /// The last line of a script that came to this end; none where a line was bad.
-fn last_line(end: &ScriptEnd) -> &'static str {
+fn last_line(end: &ScriptEnd) -> &'static str
+    ensures { result.now ≡ last_line end.now }
+{
     match end {
         ScriptEnd::Closed(_) => "closed ok\n",
         ScriptEnd::NotInJournal(_) => "closed fault 1\n",
         ScriptEnd::Bad(_) => "",
+    }
+}
+
+/// Closes the witness. It has each receipt of the pass in its journal, and no step besides, or a fault.
+fn closed(alloc: Global, service: WitnessService, pass: Pass) -> Result<ScriptEnd, Stop>
+    ensures end { IfOk result IsEnd }
+    ensures pass { IfOk result (Closes pass.claims) }
+    ensures err { IfErr result (λ stop. stop ≢ Stop.Bad) }
+{
+    let mut passes = Vec::new(alloc);
+    if passes.push(pass).is_err() {
+        return Err(Stop::NoMemory);
+    }
+    match close_witness(service, passes) {
+        Ok(closed) => Ok(ScriptEnd::Closed(closed)),
+        Err(fault) => Ok(ScriptEnd::NotInJournal(fault)),
     }
 }
 
@@ -230,16 +281,13 @@ fn close<O: Write>(
     pass: Pass,
     writer: &mut O,
 ) -> Result<ScriptEnd, Stop>
-    ensures { IfOk result IsEnd }
+    ensures end { IfOk result IsEnd }
+    ensures pass { IfOk result (Closes pass.claims) }
+    ensures wrote { IfOk result (λ end. Appends (O.contents writer.old) (O.contents writer.new)
+        (last_line end)) }
+    ensures bad { IfErr result (λ stop. stop ≢ Stop.Bad) }
 {
-    let mut passes = Vec::new(alloc);
-    if passes.push(pass).is_err() {
-        return Err(Stop::NoMemory);
-    }
-    let end = match close_witness(service, passes) {
-        Ok(closed) => ScriptEnd::Closed(closed),
-        Err(fault) => ScriptEnd::NotInJournal(fault),
-    };
+    let end = closed(alloc, service, pass)?;
     match write_text(writer, last_line(&end)) {
         Ok(()) => Ok(end),
         Err(stop) => Err(stop),

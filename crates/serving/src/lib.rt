@@ -16,12 +16,7 @@ mod stream;
 pub use auditing::NodeReport;
 pub use clock::SystemClock;
 pub use node_keys::Masters;
-pub use nodes::exchanges::exchange;
-pub use nodes::{ClientNode, LinkFault, Node, NodeLog, Receipt, Role, ServerNode};
+pub use nodes::{ClientNode, ServerNode};
 pub use order::{Heights, Order};
 pub use run::{Finished, ServeFault, serve};
-pub use witness_calls::packet_texts::{ack_packet, answer_packet, challenge_packet, learn_packet};
-pub use witness_calls::{
-    Caller, Closed, Outcome, Pass, ReceiptFault, Replayed, Said, Shelf, Told, WitnessService,
-    close, indication_word, open_witness, write_case,
-};
+pub use witness_calls::{Closed, ReceiptFault, Shelf};

@@ -1,6 +1,6 @@
 //! A run of the service.
 
-ghost use Rattle.std.specs.Prelude.{◌≡◌, [], All, IfOk, IfSome, IsOk, IsTrue, OnOk};
+ghost use Rattle.std.specs.Prelude.{◌≡◌, All, IfOk, IfSome, IsOk, IsTrue, OnOk};
 ghost use Rattle.std.specs.Io.KnownBytes.{Appends};
 ghost use Rattle.std.specs.List.{flat_map};
 ghost use Rattle.serving.specs.auditing.Accounts.{HasAccount};
@@ -243,17 +243,8 @@ fn reports_of<O: Write, E: Write, S: Shelf>(
 {
     match &played.closed {
         Ok(closed) => closed_reports(alloc, writer, desk, folder, closed, played),
-        Err(_) => no_reports(alloc, writer),
+        Err(_) => Ok(Vec::new(alloc)),
     }
-}
-
-/// No reports, and no line.
-fn no_reports<O: Write>(alloc: Global, writer: &mut O) -> Result<Vec<NodeReport>, ServeFault>
-    ensures none { IfOk result (λ rs. rs.items ≡ []) }
-    ensures lines { Appends (O.contents writer.old) (O.contents writer.new) [] }
-{
-    let _ = writer;
-    Ok(Vec::new(alloc))
 }
 
 /// What the closed witness said of each node in the end.

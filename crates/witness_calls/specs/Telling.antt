@@ -1,11 +1,11 @@
 -- What a witness says to a caller: what its replies say, and what it tells of a node.
-use Rattle.std.specs.Prelude.{◌≡◌, ◌⊎◌, ℕ, List, [], ◌∷◌, ◌++◌, length, map, option_map, codes}
+use Rattle.std.specs.Prelude.{◌≡◌, ◌⊎◌, ℕ, Bool, false, List, [], ◌∷◌, ◌++◌, length, map, option_map, codes}
 use Rattle.std.specs.Arc.{arc_value}
 use Rattle.node_book.specs.Replies.{challenge_in, indication_in, refusal_in}
+use Rattle.node_book.specs.declared.refusal.Refusal.{Refusal}
 use Rattle.node_book.specs.declared.reply.Indication.{Indication}
-use Rattle.node_book.specs.declared.reply.Indication.TheVariants as i
 use Rattle.node_book.specs.witness_spec.Events.{JobParts, DoneParts, Event, Ask, ItsIndication, ItsChallenges}
-use Rattle.node_book.specs.witness_spec.Replies.{Reply, Challenge}
+use Rattle.node_book.specs.witness_spec.Replies.{Reply, Challenge, is_want}
 use Rattle.node_book.specs.witness_spec.Replies as r
 use Rattle.witness_service.specs.Claims.{Claim, Keeps}
 use Rattle.witness_calls.specs.declared.said.Said.{Said}
@@ -30,12 +30,34 @@ IsSaid reply (s.Refused f) =
     (reply ≡ r.Refused (refusal_in f)) ⊎ ((d : DoneParts) × (reply ≡ r.FileRefused (refusal_in f) d))
     ⊎ ((j : JobParts) × (reply ≡ r.PutBackRefused (refusal_in f) j))
 
+-- whether it is said that memory ran out
+abbrev pub wants_memory : Said → Bool
+wants_memory (s.Refused f) = is_want (refusal_in f)
+wants_memory _ = false
+
+-- The claims are the old ones with some more after them.
+pub record Extends (old new : List Claim) : Type 0 where
+  pub more : List Claim
+  pub is : new ≡ old ++ more
+
 -- An event was handed in, and this was said: the caller has a claim more, of the event with the reply that
 -- says it; or memory ran out, and the claims are the same.
 pub record Says (old : List Claim) (event : Event) (said : Said) (new : List Claim) : Type 0 where
   pub reply : Reply
   pub keeps : Keeps old event reply new
   pub is_said : IsSaid reply said
+
+-- A packet was handed in, and this was said: the event that it spells was, or the packet was refused before any
+-- step, and the claims are the same.
+abbrev pub Hears : (old : List Claim) → Said → (new : List Claim) → Type 0
+Hears old said new =
+    ((event : Event) × Says old event said new) ⊎ ((f : Refusal) × (said ≡ s.Refused f) × (new ≡ old))
+
+-- A node's open challenges were asked for, and this was said.
+pub record AsksOpen (old : List Claim) (node : ℕ) (new : List Claim) : Type 0 where
+  pub said : Said
+  pub says : Says old (Ask node ItsChallenges) said new
+  pub enough : wants_memory said ≡ false
 
 -- A node's open challenges were asked for, and listed: the caller has one claim more, of that.
 pub record IsListed (old : List Claim) (node : ℕ) (indication : Indication) (told : Told) (new : List Claim)
@@ -59,8 +81,20 @@ pub record Tells (old : List Claim) (node : ℕ) (told : Told) (new : List Claim
       ++ record { place = first; step = (Ask node ItsIndication, r.Told (indication_in told.indication)) }
       ∷ record { place = second; step = (Ask node ItsChallenges, r.OpenList listed) } ∷ []
 
+-- Of a node its failure indication, or its open challenges after that, weren't told, and this was said in the
+-- place.
+abbrev pub Withholds : (old : List Claim) → (node : ℕ) → Said → (new : List Claim) → Type 0
+Withholds old node said new =
+    Says old (Ask node ItsIndication) said new
+    ⊎ ((i : Indication) × (between : List Claim) × Says old (Ask node ItsIndication) (s.Told i) between
+    × Says between (Ask node ItsChallenges) said new)
+
 -- the word of an indication
+abbrev pub word_of : r.Indication → List ℕ
+word_of r.Trusted = codes "trusted"
+word_of r.Suspected = codes "suspected"
+word_of r.Exposed = codes "exposed"
+
+-- the same of one in memory
 abbrev pub indication_word : Indication → List ℕ
-indication_word i.Trusted = codes "trusted"
-indication_word i.Suspected = codes "suspected"
-indication_word i.Exposed = codes "exposed"
+indication_word i = word_of (indication_in i)

@@ -1,5 +1,8 @@
 //! What an open audit asks for.
 
+ghost use Rattle.std.specs.Prelude.{OnOk};
+ghost use Rattle.witness_calls.specs.Telling.{AsksOpen};
+
 use crate::caller::Caller;
 use crate::said::Said;
 use challenge::Challenge;
@@ -18,7 +21,9 @@ pub struct Asked {
 impl<'a, R: Wait> Caller<'a, R> {
     /// What is asked of a node by the audit that is open, if one is. `AllocError` comes
     /// where memory was refused.
-    pub fn asked(&mut self, node: u32) -> Result<Option<Asked>, AllocError> {
+    pub fn asked(&mut self, node: u32) -> Result<Option<Asked>, AllocError>
+        ensures { OnOk result (AsksOpen self.old node self.new) }
+    {
         let said = self.challenges(node);
         if said.is_no_memory() {
             return Err(AllocError);

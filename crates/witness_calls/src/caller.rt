@@ -5,7 +5,7 @@ ghost use Rattle.node_book.specs.Events.{event_in, question_in};
 ghost use Rattle.node_book.specs.Replies.{reply_in};
 ghost use Rattle.node_book.specs.witness_spec.Events.{Ask, Audit, Forward, ItsChallenges, ItsEvidence, ItsIndication};
 ghost use Rattle.witness_service.specs.Claims.{Keeps};
-ghost use Rattle.witness_calls.specs.Telling.{Says};
+ghost use Rattle.witness_calls.specs.Telling.{Hears, Says};
 
 use crate::said::Said;
 use authenticator::Roster;
@@ -100,7 +100,9 @@ impl<'a, R: Wait> Caller<'a, R> {
     }
 
     /// Hands a packet over: its bytes are checked before the step, which no one waits for.
-    pub fn deliver(&mut self, packet: &[u8]) -> Said {
+    pub fn deliver(&mut self, packet: &[u8]) -> Said
+        ensures { Hears self.old result self.new }
+    {
         match admit(self.alloc, self.roster, &mut self.cache, packet) {
             Ok(event) => self.say(event),
             Err(refusal) => Said::Refused(refusal),

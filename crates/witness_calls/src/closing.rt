@@ -1,8 +1,9 @@
 //! A witness, closed.
 
-ghost use Rattle.std.specs.Prelude.{IfErr, IfOk};
+ghost use Rattle.std.specs.Prelude.{◌≡◌, IfErr, IfOk};
+ghost use Rattle.witness_service.specs.Claims.{claims_of};
 ghost use Rattle.witness_service.specs.Closing.{IsClosed, IsFault};
-ghost use Rattle.witness_calls.specs.Closing.{IsOneRun};
+ghost use Rattle.witness_calls.specs.Closing.{IsFaulty, IsOneRun, passes_in};
 
 use witness_service::{Closed, Pass, ReceiptFault, WitnessService};
 
@@ -14,6 +15,9 @@ pub fn close(service: WitnessService, passes: Vec<Pass>) -> Result<Closed, Recei
     ensures closed { IfOk result (IsClosed service passes.items) }
     ensures run { IfOk result IsOneRun }
     ensures fault { IfErr result (IsFault service passes.items) }
+    ensures faulty { IfErr result IsFaulty }
+    ensures kept { IfOk result (λ c. claims_of c.passes.items ≡ claims_of passes.items) }
+    ensures back { IfErr result (λ f. claims_of (passes_in f) ≡ claims_of passes.items) }
 {
     match service.close(passes) {
         Ok(closed) => Ok(closed),

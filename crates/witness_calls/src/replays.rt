@@ -1,6 +1,7 @@
 //! Rounds of replays.
 
 ghost use Rattle.std.specs.Prelude.{◌≤◌};
+ghost use Rattle.witness_calls.specs.Telling.{Extends};
 
 use crate::caller::Caller;
 use crate::said::Said;
@@ -52,6 +53,7 @@ impl<R: Threads + Wait + Sync> Caller<'_, R> {
     pub fn replay(&mut self, nodes: &[u32], workers: usize) -> Result<Vec<Replayed>, AllocError>
         requires some { 1 ≤ workers }
         requires most { workers ≤ 16 }
+        ensures { Extends self.old self.new }
     {
         let jobs = self.begin_each(nodes)?;
         match replay_round(self.runtime(), self.alloc(), jobs, workers, &NoGate) {
@@ -64,7 +66,9 @@ impl<R: Threads + Wait + Sync> Caller<'_, R> {
     }
 
     /// Begins each segment that these nodes gave, in their order.
-    fn begin_each(&mut self, nodes: &[u32]) -> Result<Vec<ReplayJob>, AllocError> {
+    fn begin_each(&mut self, nodes: &[u32]) -> Result<Vec<ReplayJob>, AllocError>
+        ensures { Extends self.old self.new }
+    {
         let mut jobs = Vec::new(self.alloc());
         for node in nodes {
             let kept = match self.begin(*node) {
@@ -81,7 +85,9 @@ impl<R: Threads + Wait + Sync> Caller<'_, R> {
     }
 
     /// Keeps a job with others. Where there is no room it is put back.
-    fn keep(&mut self, jobs: &mut Vec<ReplayJob>, job: ReplayJob) -> Result<(), AllocError> {
+    fn keep(&mut self, jobs: &mut Vec<ReplayJob>, job: ReplayJob) -> Result<(), AllocError>
+        ensures { Extends self.old self.new }
+    {
         match jobs.push(job) {
             Ok(()) => Ok(()),
             Err(refused) => {
@@ -92,7 +98,9 @@ impl<R: Threads + Wait + Sync> Caller<'_, R> {
     }
 
     /// Begins the segment that a node gave, if it gave one.
-    fn begin(&mut self, node: u32) -> Result<Option<ReplayJob>, AllocError> {
+    fn begin(&mut self, node: u32) -> Result<Option<ReplayJob>, AllocError>
+        ensures { Extends self.old self.new }
+    {
         match self.step(EventOf::Begin(node)) {
             ReplyOf::Job(job) => Ok(Some(job)),
             other => {
@@ -106,12 +114,16 @@ impl<R: Threads + Wait + Sync> Caller<'_, R> {
     }
 
     /// Puts a job back into its book. Where memory is refused the job is discarded.
-    fn put_back(&mut self, job: ReplayJob) {
+    fn put_back(&mut self, job: ReplayJob)
+        ensures { Extends self.old self.new }
+    {
         let _ = Said::of(self.step(EventOf::PutBack(job)));
     }
 
     /// Puts each of these jobs back.
-    fn put_back_each(&mut self, mut jobs: Vec<ReplayJob>) {
+    fn put_back_each(&mut self, mut jobs: Vec<ReplayJob>)
+        ensures { Extends self.old self.new }
+    {
         while let Some(job) = jobs.pop() {
             self.put_back(job);
         }
@@ -119,7 +131,9 @@ impl<R: Threads + Wait + Sync> Caller<'_, R> {
     }
 
     /// Files what came back of a job. One that wasn't done is put back.
-    fn file(&mut self, back: Back) -> Result<Replayed, AllocError> {
+    fn file(&mut self, back: Back) -> Result<Replayed, AllocError>
+        ensures { Extends self.old self.new }
+    {
         match back {
             Back::Done(done) => {
                 let replayed = Replayed::of(&done);
@@ -136,7 +150,9 @@ impl<R: Threads + Wait + Sync> Caller<'_, R> {
     }
 
     /// Files what came back of each job. What was found is in the order of the jobs.
-    fn file_each(&mut self, mut backs: Vec<Back>) -> Result<Vec<Replayed>, AllocError> {
+    fn file_each(&mut self, mut backs: Vec<Back>) -> Result<Vec<Replayed>, AllocError>
+        ensures { Extends self.old self.new }
+    {
         let mut found = Vec::new(self.alloc());
         let mut failed = false;
         while let Some(back) = backs.pop() {

@@ -1,8 +1,9 @@
 //! What a witness said.
 
 ghost use Rattle.std.specs.Prelude.{◌≡◌};
-ghost use Rattle.node_book.specs.Replies.{reply_in};
-ghost use Rattle.witness_calls.specs.Telling.{IsSaid, indication_word};
+ghost use Rattle.node_book.specs.Replies.{refusal_in, reply_in};
+ghost use Rattle.node_book.specs.witness_spec.Replies.{is_want};
+ghost use Rattle.witness_calls.specs.Telling.{IsSaid, indication_word, wants_memory};
 
 use authenticator::{Authenticator, Number};
 use challenge::{Challenge, Evidence};
@@ -95,9 +96,21 @@ impl Said {
     }
 
     /// Whether it was refused because memory ran out.
-    pub fn is_no_memory(&self) -> bool {
-        matches!(self, Said::Refused(Refusal::NoMemory))
+    pub fn is_no_memory(&self) -> bool
+        ensures { result ≡ wants_memory self.now }
+    {
+        match self {
+            Said::Refused(refusal) => is_want(*refusal),
+            _ => false,
+        }
     }
+}
+
+/// Whether it is the refusal that memory ran out.
+fn is_want(refusal: Refusal) -> bool
+    ensures { result ≡ is_want (refusal_in refusal) }
+{
+    matches!(refusal, Refusal::NoMemory)
 }
 
 /// The word of an indication.

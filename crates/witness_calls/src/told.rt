@@ -1,7 +1,8 @@
 //! What a witness says of a node, in one line.
 
-ghost use Rattle.std.specs.Prelude.{◌≡◌, IfOk};
-ghost use Rattle.witness_calls.specs.Telling.{IsListed, Tells, indication_word};
+ghost use Rattle.std.specs.Prelude.{◌≡◌, IfErr, IfOk};
+ghost use Rattle.node_book.specs.witness_spec.Events.{Ask, ItsChallenges};
+ghost use Rattle.witness_calls.specs.Telling.{IsListed, Says, Tells, Withholds, indication_word};
 
 use crate::caller::Caller;
 use crate::said::{Said, indication_word};
@@ -32,7 +33,8 @@ impl<'a, R: Wait> Caller<'a, R> {
     /// Asks what the witness says of a node, and for its open challenges. Where it doesn't tell these, what
     /// it says comes back.
     pub fn told(&mut self, node: u32) -> Result<Told, Said>
-        ensures { IfOk result (λ told. Tells self.old node told self.new) }
+        ensures told { IfOk result (λ told. Tells self.old node told self.new) }
+        ensures said { IfErr result (λ said. Withholds self.old node said self.new) }
     {
         match self.indication(node) {
             Said::Told(indication) => self.told_as(node, indication),
@@ -42,7 +44,8 @@ impl<'a, R: Wait> Caller<'a, R> {
 
     /// The same of a node with this indication.
     fn told_as(&mut self, node: u32, indication: Indication) -> Result<Told, Said>
-        ensures { IfOk result (λ told. IsListed self.old node indication told self.new) }
+        ensures told { IfOk result (λ told. IsListed self.old node indication told self.new) }
+        ensures said { IfErr result (λ said. Says self.old (Ask node ItsChallenges) said self.new) }
     {
         match self.challenges(node) {
             Said::Open(challenges) => Ok(Told {

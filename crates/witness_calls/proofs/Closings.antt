@@ -1,0 +1,14 @@
+-- What comes back of a witness that was closed.
+-- Serves: close.
+use Rattle.std.proofs.Common.{◌≡◌, List}
+use Rattle.witness_service.specs.Claims.{Held, claims_of}
+use Rattle.witness_service.specs.Closing.{IsFault}
+use Rattle.witness_service.specs.Journals.{ServiceParts}
+use Rattle.witness_service.specs.declared.shared.ReceiptFault.{ReceiptFault}
+use Rattle.witness_service.specs.declared.shared.ReceiptFault.TheVariants.{NotInJournal, AnotherRoster}
+use Rattle.witness_calls.specs.Closing.{passes_in}
+
+pub given_back : (service : ServiceParts) (handed : List Held) (f : ReceiptFault) → IsFault service handed f
+    → claims_of (passes_in f) ≡ claims_of handed
+given_back service handed (NotInJournal passes journal roster) h = h.back.claims
+given_back service handed (AnotherRoster passes journal roster) h = h.back.claims

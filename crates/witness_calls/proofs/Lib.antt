@@ -1,0 +1,4 @@
+pub mod Extending
+mod Wanting
+mod Closings
+mod Withholding
