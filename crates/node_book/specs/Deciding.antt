@@ -48,73 +48,73 @@ AnyReply = ReplyOf JobParts JobParts
 -- ---- replies
 
 -- the reply to an authenticator
-abbrev pub reply_to_learn : LearnDecision → AnyReply
-reply_to_learn l.Known = r.Already
-reply_to_learn l.Full = r.Refused f.LearnedFull
-reply_to_learn l.Ignored = r.Noted
-reply_to_learn (l.Noted evidence) = r.Noted
+abbrev pub learn_reply : LearnDecision → AnyReply
+learn_reply l.Known = r.Already
+learn_reply l.Full = r.Refused f.LearnedFull
+learn_reply l.Ignored = r.Noted
+learn_reply (l.Noted evidence) = r.Noted
 
 -- the reply to a challenge with a message
-abbrev pub reply_to_challenge : ChallengeDecision → AnyReply
-reply_to_challenge o.Known = r.Already
-reply_to_challenge o.Full = r.Refused f.ChallengesFull
-reply_to_challenge o.Opened = r.Opened
+abbrev pub challenge_reply : ChallengeDecision → AnyReply
+challenge_reply o.Known = r.Already
+challenge_reply o.Full = r.Refused f.ChallengesFull
+challenge_reply o.Opened = r.Opened
 
 -- the reply to a segment
-abbrev pub reply_to_answer : AnswerDecision → AnyReply
-reply_to_answer a.NotAsked = r.Refused f.NotAsked
-reply_to_answer (a.Accepted share evidence) = r.Accepted
+abbrev pub answer_reply : AnswerDecision → AnyReply
+answer_reply a.NotAsked = r.Refused f.NotAsked
+answer_reply (a.Accepted share evidence) = r.Accepted
 
 -- the reply to an acknowledgement, by whether its challenge is open
-abbrev pub reply_to_ack : (is_open : Bool) → AnyReply
-reply_to_ack true = r.Closed
-reply_to_ack false = r.Refused f.NotAsked
+abbrev pub ack_reply : (is_open : Bool) → AnyReply
+ack_reply true = r.Closed
+ack_reply false = r.Refused f.NotAsked
 
 -- the reply to an audit
-abbrev pub reply_to_audit : AuditDecision → AnyReply
-reply_to_audit (q.Asked first last) = r.Asked first last
-reply_to_audit (q.Refused refusal) = r.Refused refusal
+abbrev pub audit_reply : AuditDecision → AnyReply
+audit_reply (q.Asked first last) = r.Asked first last
+audit_reply (q.Refused refusal) = r.Refused refusal
 
 -- the reply where a job is to begin
-abbrev pub reply_to_begin : BeginDecision → AnyReply
-reply_to_begin (b.Begun job) = r.Job job
-reply_to_begin (b.Refused refusal) = r.Refused refusal
+abbrev pub begin_reply : BeginDecision → AnyReply
+begin_reply (b.Begun job) = r.Job job
+begin_reply (b.Refused refusal) = r.Refused refusal
 
 -- the reply to a done value that comes back
-abbrev pub reply_to_file : JobParts → ReturnDecision → AnyReply
-reply_to_file j c.NoJob = r.FileRefused f.NoJob j
-reply_to_file j c.Another = r.FileRefused f.WrongJob j
-reply_to_file j c.IsOut = r.Filed
+abbrev pub file_reply : JobParts → ReturnDecision → AnyReply
+file_reply j c.NoJob = r.FileRefused f.NoJob j
+file_reply j c.Another = r.FileRefused f.WrongJob j
+file_reply j c.IsOut = r.Filed
 
 -- the reply to a job that comes back
-abbrev pub reply_to_put_back : JobParts → ReturnDecision → AnyReply
-reply_to_put_back j c.NoJob = r.PutBackRefused f.NoJob j
-reply_to_put_back j c.Another = r.PutBackRefused f.WrongJob j
-reply_to_put_back j c.IsOut = r.Returned
+abbrev pub put_back_reply : JobParts → ReturnDecision → AnyReply
+put_back_reply j c.NoJob = r.PutBackRefused f.NoJob j
+put_back_reply j c.Another = r.PutBackRefused f.WrongJob j
+put_back_reply j c.IsOut = r.Returned
 
 -- the reply where something is to be forwarded
-abbrev pub reply_to_forward : Option Authenticator → AnyReply
-reply_to_forward None = r.Empty
-reply_to_forward (Some x) = r.Forwarded x
+abbrev pub forward_reply : Option Authenticator → AnyReply
+forward_reply None = r.Empty
+forward_reply (Some x) = r.Forwarded x
 
 -- the reply to a question
-abbrev pub reply_to_ask : AskDecision → AnyReply
-reply_to_ask (t.Told indication) = r.Told indication
-reply_to_ask (t.OpenList challenges) = r.OpenList challenges
-reply_to_ask (t.EvidenceIs evidence) = r.EvidenceIs evidence
+abbrev pub question_reply : AskDecision → AnyReply
+question_reply (t.Told indication) = r.Told indication
+question_reply (t.OpenList challenges) = r.OpenList challenges
+question_reply (t.EvidenceIs evidence) = r.EvidenceIs evidence
 
 -- The reply to a step of which this was decided. No other pair of step and decision is ever made.
 abbrev pub reply_of : Step → Decision → AnyReply
-reply_of step (d.Learn x) = reply_to_learn x
-reply_of step (d.SendChallenge x) = reply_to_challenge x
-reply_of step (d.Answer x) = reply_to_answer x
-reply_of step (d.AckIn x) = reply_to_ack x
-reply_of step (d.Audit x) = reply_to_audit x
-reply_of step (d.Begin x) = reply_to_begin x
-reply_of (s.File j) (d.File x) = reply_to_file j x
-reply_of (s.PutBack j) (d.PutBack x) = reply_to_put_back j x
-reply_of step (d.Forward x) = reply_to_forward x
-reply_of step (d.Ask x) = reply_to_ask x
+reply_of step (d.Learn x) = learn_reply x
+reply_of step (d.SendChallenge x) = challenge_reply x
+reply_of step (d.Answer x) = answer_reply x
+reply_of step (d.AckIn x) = ack_reply x
+reply_of step (d.Audit x) = audit_reply x
+reply_of step (d.Begin x) = begin_reply x
+reply_of (s.File j) (d.File x) = file_reply j x
+reply_of (s.PutBack j) (d.PutBack x) = put_back_reply j x
+reply_of step (d.Forward x) = forward_reply x
+reply_of step (d.Ask x) = question_reply x
 reply_of step decided = r.Refused f.NoMemory
 
 -- ---- what is decided
@@ -130,7 +130,7 @@ DecidesLearn book x (l.Noted evidence) =
 
 -- Of a challenge with a message: whether it is open.
 abbrev pub DecidesChallenge : Book → Envelope → ChallengeDecision → Type 0
-DecidesChallenge book x opening = reply_to_send_challenge book x ≡ reply_in (reply_to_challenge opening)
+DecidesChallenge book x opening = reply_to_send_challenge book x ≡ reply_in (challenge_reply opening)
 
 -- Of a segment: whether it was asked for, and what it exposes; and one share of it more.
 abbrev pub DecidesAnswer : Book → ClosedParts → AnswerDecision → Type 0
@@ -141,15 +141,15 @@ DecidesAnswer book x (a.Accepted share evidence) =
 
 -- Of an acknowledgement: whether its challenge is open.
 abbrev pub DecidesAck : Book → Ack → (is_open : Bool) → Type 0
-DecidesAck book x is_open = reply_to_ack book x ≡ reply_in (reply_to_ack is_open)
+DecidesAck book x is_open = reply_to_ack book x ≡ reply_in (ack_reply is_open)
 
 -- Of an audit: what is asked for.
 abbrev pub DecidesAudit : Book → AuditDecision → Type 0
-DecidesAudit book x = reply_to_audit book book.stage ≡ reply_in (reply_to_audit x)
+DecidesAudit book x = reply_to_audit book book.stage ≡ reply_in (audit_reply x)
 
 -- Of a job that is to begin: the job.
 abbrev pub DecidesBegin : Book → BeginDecision → Type 0
-DecidesBegin book x = reply_to_begin book book.stage ≡ reply_in (reply_to_begin x)
+DecidesBegin book x = reply_to_begin book book.stage ≡ reply_in (begin_reply x)
 
 -- Of a job that comes back: whether it is the one that is out.
 abbrev pub DecidesReturn : Book → JobParts → ReturnDecision → Type 0
@@ -159,11 +159,11 @@ DecidesReturn book j c.IsOut = job_out book ≡ Some j
 
 -- Of what is to be forwarded: the oldest.
 abbrev pub DecidesForward : Book → Option Authenticator → Type 0
-DecidesForward book x = reply_to_forward book ≡ reply_in (reply_to_forward x)
+DecidesForward book x = reply_to_forward book ≡ reply_in (forward_reply x)
 
 -- Of a question: what is told.
 abbrev pub DecidesAsk : Book → Question → AskDecision → Type 0
-DecidesAsk book question x = reply_to_ask book (question_in question) ≡ reply_in (reply_to_ask x)
+DecidesAsk book question x = reply_to_ask book (question_in question) ≡ reply_in (question_reply x)
 
 -- This was decided of a step.
 abbrev pub Decides : Book → Step → Decision → Type 0

@@ -15,9 +15,9 @@ ghost use Rattle.node_book.specs.Deciding.{DecidesLearn, DecidesChallenge, Decid
 ghost use Rattle.node_book.specs.Deciding.{DecidesAudit, DecidesBegin, DecidesReturn, DecidesForward};
 ghost use Rattle.node_book.specs.Deciding.{Decides, HasRoomFor, HasRoomToAccept, HasRoomToAsk, HasRoomToFile};
 ghost use Rattle.node_book.specs.Deciding.{HasRoomToLearn, HasRoomToOpen, reply_of};
-ghost use Rattle.node_book.specs.Deciding.{reply_to_learn, reply_to_challenge, reply_to_answer, reply_to_ack};
-ghost use Rattle.node_book.specs.Deciding.{reply_to_audit, reply_to_begin, reply_to_file, reply_to_put_back};
-ghost use Rattle.node_book.specs.Deciding.{reply_to_forward, reply_to_ask};
+ghost use Rattle.node_book.specs.Deciding.{learn_reply, challenge_reply, answer_reply, ack_reply};
+ghost use Rattle.node_book.specs.Deciding.{audit_reply, begin_reply, file_reply, put_back_reply};
+ghost use Rattle.node_book.specs.Deciding.{forward_reply, question_reply};
 ghost use Rattle.node_book.specs.Events.{step_in};
 ghost use Rattle.replay_jobs.specs.Jobs.{done_parts};
 ghost use Rattle.node_book.specs.Outboxes.{HasPlace, outbox_in};
@@ -46,7 +46,7 @@ impl Rows {
         requires decided { DecidesLearn (book_in self.old) authenticator learning }
         requires room { HasRoomToLearn self.old learning }
         requires keeps { KeepsExposure (segments_in self.old.segments.items) self.old.exposure }
-        ensures reply { result ≡ reply_to_learn learning }
+        ensures reply { result ≡ learn_reply learning }
         ensures after { book_in self.new ≡ after_learn (book_in self.old) authenticator (reply_in result) }
         ensures keeps { KeepsExposure (segments_in self.new.segments.items) self.new.exposure }
     {
@@ -70,7 +70,7 @@ impl Rows {
         requires decided { DecidesChallenge (book_in self.old) envelope opening }
         requires room { HasRoomToOpen self.old opening }
         requires keeps { KeepsExposure (segments_in self.old.segments.items) self.old.exposure }
-        ensures reply { result ≡ reply_to_challenge opening }
+        ensures reply { result ≡ challenge_reply opening }
         ensures after { book_in self.new ≡ after_send_challenge (book_in self.old) envelope
             (reply_in result) }
         ensures keeps { KeepsExposure (segments_in self.new.segments.items) self.new.exposure }
@@ -90,7 +90,7 @@ impl Rows {
         requires decided { DecidesAnswer (book_in self.old) segment accepting }
         requires room { HasRoomToAccept self.old accepting }
         requires keeps { KeepsExposure (segments_in self.old.segments.items) self.old.exposure }
-        ensures reply { result ≡ reply_to_answer accepting }
+        ensures reply { result ≡ answer_reply accepting }
         ensures after { book_in self.new ≡ after_answer (book_in self.old) segment (reply_in result) }
         ensures keeps { KeepsExposure (segments_in self.new.segments.items) self.new.exposure }
     {
@@ -110,7 +110,7 @@ impl Rows {
     fn carry_ack(&mut self, ack: Ack, is_open: bool) -> Reply
         requires decided { DecidesAck (book_in self.old) ack is_open }
         requires keeps { KeepsExposure (segments_in self.old.segments.items) self.old.exposure }
-        ensures reply { result ≡ reply_to_ack is_open }
+        ensures reply { result ≡ ack_reply is_open }
         ensures after { book_in self.new ≡ after_ack (book_in self.old) ack (reply_in result) }
         ensures keeps { KeepsExposure (segments_in self.new.segments.items) self.new.exposure }
     {
@@ -126,7 +126,7 @@ impl Rows {
         requires decided { DecidesAudit (book_in self.old) asking }
         requires room { HasRoomToAsk self.old asking }
         requires keeps { KeepsExposure (segments_in self.old.segments.items) self.old.exposure }
-        ensures reply { result ≡ reply_to_audit asking }
+        ensures reply { result ≡ audit_reply asking }
         ensures after { book_in self.new ≡ after_audit (book_in self.old) (reply_in result) }
         ensures keeps { KeepsExposure (segments_in self.new.segments.items) self.new.exposure }
     {
@@ -146,7 +146,7 @@ impl Rows {
         requires ready { IsReady (book_in self.old) }
         requires decided { DecidesBegin (book_in self.old) beginning }
         requires keeps { KeepsExposure (segments_in self.old.segments.items) self.old.exposure }
-        ensures reply { result ≡ reply_to_begin beginning }
+        ensures reply { result ≡ begin_reply beginning }
         ensures after { book_in self.new ≡ after_begin (book_in self.old) (reply_in result) }
         ensures keeps { KeepsExposure (segments_in self.new.segments.items) self.new.exposure }
     {
@@ -167,7 +167,7 @@ impl Rows {
     fn carry_put_back(&mut self, job: ReplayJob, coming: ReturnDecision) -> Reply
         requires decided { DecidesReturn (book_in self.old) job coming }
         requires keeps { KeepsExposure (segments_in self.old.segments.items) self.old.exposure }
-        ensures reply { result ≡ reply_to_put_back job coming }
+        ensures reply { result ≡ put_back_reply job coming }
         ensures after { book_in self.new ≡ after_put_back (book_in self.old) job (reply_in result) }
         ensures keeps { KeepsExposure (segments_in self.new.segments.items) self.new.exposure }
     {
@@ -187,7 +187,7 @@ impl Rows {
         requires decided { DecidesReturn (book_in self.old) done coming }
         requires room { HasRoomToFile self.old coming }
         requires keeps { KeepsExposure (segments_in self.old.segments.items) self.old.exposure }
-        ensures reply { result ≡ reply_to_file done coming }
+        ensures reply { result ≡ file_reply done coming }
         ensures after { book_in self.new ≡
             after_file (book_in self.old) (done_parts done) (reply_in result) }
         ensures keeps { KeepsExposure (segments_in self.new.segments.items) self.new.exposure }
@@ -268,7 +268,7 @@ impl Rows {
     fn carry_forward(&mut self, forwarding: Option<Authenticator>) -> Reply
         requires decided { DecidesForward (book_in self.old) forwarding }
         requires keeps { KeepsExposure (segments_in self.old.segments.items) self.old.exposure }
-        ensures reply { result ≡ reply_to_forward forwarding }
+        ensures reply { result ≡ forward_reply forwarding }
         ensures after { book_in self.new ≡ after_forward (book_in self.old) (reply_in result) }
         ensures keeps { KeepsExposure (segments_in self.new.segments.items) self.new.exposure }
     {
@@ -328,7 +328,7 @@ impl Rows {
 
 /// What is told.
 fn reply_to_question(asked: AskDecision) -> Reply
-    ensures { result ≡ reply_to_ask asked }
+    ensures { result ≡ question_reply asked }
 {
     match asked {
         AskDecision::Told(indication) => ReplyOf::Told(indication),

@@ -13,7 +13,7 @@ ghost use Rattle.witness_book_laws.specs.Replying.{BookOwes, reply_to_answer, re
 ghost use Rattle.witness_book_laws.specs.Replying.{reply_to_learn};
 ghost use Rattle.node_book.specs.Deciding.{DecidesLearn, DecidesChallenge, DecidesAnswer, DecidesAck};
 ghost use Rattle.node_book.specs.Deciding.{DecidesAudit, DecidesBegin, DecidesReturn, DecidesForward};
-ghost use Rattle.node_book.specs.Deciding.{Decides, DecidesAsk, reply_to_audit, reply_of};
+ghost use Rattle.node_book.specs.Deciding.{Decides, DecidesAsk, audit_reply, reply_of};
 ghost use Rattle.node_book.specs.Events.{question_in, step_in};
 ghost use Rattle.node_book.specs.Replies.{indication_in, reply_in};
 ghost use Rattle.node_book.specs.Rows.{KeepsExposure, book_in, segments_in};
@@ -154,7 +154,7 @@ impl Rows {
     /// Of an audit where none is under way.
     fn decide_asking(&self) -> AuditDecision
         requires { IsReady (book_in self.now) }
-        ensures { reply_in (reply_to_audit result) ≡ ask_reply (exposed (book_in self.now)) self.now.end
+        ensures { reply_in (audit_reply result) ≡ ask_reply (exposed (book_in self.now)) self.now.end
             (length (book_in self.now).outbox) self.now.learned.items }
     {
         if self.is_exposed() || self.learned.is_empty() {
