@@ -48,30 +48,30 @@ AnyReply = ReplyOf JobParts JobParts
 -- ---- replies
 
 -- the reply to an authenticator
-abbrev pub learn_reply : LearnDecision → AnyReply
+abbrev pub learn_reply : {J D : Type 0} → LearnDecision → ReplyOf J D
 learn_reply l.Known = r.Already
 learn_reply l.Full = r.Refused f.LearnedFull
 learn_reply l.Ignored = r.Noted
 learn_reply (l.Noted evidence) = r.Noted
 
 -- the reply to a challenge with a message
-abbrev pub challenge_reply : ChallengeDecision → AnyReply
+abbrev pub challenge_reply : {J D : Type 0} → ChallengeDecision → ReplyOf J D
 challenge_reply o.Known = r.Already
 challenge_reply o.Full = r.Refused f.ChallengesFull
 challenge_reply o.Opened = r.Opened
 
 -- the reply to a segment
-abbrev pub answer_reply : AnswerDecision → AnyReply
+abbrev pub answer_reply : {J D : Type 0} → AnswerDecision → ReplyOf J D
 answer_reply a.NotAsked = r.Refused f.NotAsked
 answer_reply (a.Accepted share evidence) = r.Accepted
 
 -- the reply to an acknowledgement, by whether its challenge is open
-abbrev pub ack_reply : (is_open : Bool) → AnyReply
+abbrev pub ack_reply : {J D : Type 0} → (is_open : Bool) → ReplyOf J D
 ack_reply true = r.Closed
 ack_reply false = r.Refused f.NotAsked
 
 -- the reply to an audit
-abbrev pub audit_reply : AuditDecision → AnyReply
+abbrev pub audit_reply : {J D : Type 0} → AuditDecision → ReplyOf J D
 audit_reply (q.Asked first last) = r.Asked first last
 audit_reply (q.Refused refusal) = r.Refused refusal
 

@@ -31,6 +31,7 @@ use crate::decision::{
 };
 use crate::refusal::Refusal;
 use crate::reply::{Reply, ReplyOf};
+use crate::replying::{ack_reply, answer_reply, audit_reply, challenge_reply, learn_reply};
 use crate::rows::{Exposure, Rows, Stage};
 use crate::step::Step;
 use authenticator::Authenticator;
@@ -50,19 +51,13 @@ impl Rows {
         ensures after { book_in self.new ≡ after_learn (book_in self.old) authenticator (reply_in result) }
         ensures keeps { KeepsExposure (segments_in self.new.segments.items) self.new.exposure }
     {
+        let reply = learn_reply(&learning);
         match learning {
-            LearnDecision::Known => ReplyOf::Already,
-            LearnDecision::Full => ReplyOf::Refused(Refusal::LearnedFull),
-            LearnDecision::Ignored => ReplyOf::Noted,
-            LearnDecision::Noted(None) => {
-                self.learned.push_reserved(authenticator);
-                ReplyOf::Noted
-            }
-            LearnDecision::Noted(Some(evidence)) => {
-                self.exposure = Exposure::Fork(evidence);
-                ReplyOf::Noted
-            }
+            LearnDecision::Known | LearnDecision::Full | LearnDecision::Ignored => {}
+            LearnDecision::Noted(None) => self.learned.push_reserved(authenticator),
+            LearnDecision::Noted(Some(evidence)) => self.exposure = Exposure::Fork(evidence),
         }
+        reply
     }
 
     /// Opens a challenge with a message.
@@ -75,14 +70,11 @@ impl Rows {
             (reply_in result) }
         ensures keeps { KeepsExposure (segments_in self.new.segments.items) self.new.exposure }
     {
-        match opening {
-            ChallengeDecision::Known => ReplyOf::Already,
-            ChallengeDecision::Full => ReplyOf::Refused(Refusal::ChallengesFull),
-            ChallengeDecision::Opened => {
-                self.challenges.push_reserved(Challenge::Send(envelope));
-                ReplyOf::Opened
-            }
+        let reply = challenge_reply(&opening);
+        if let ChallengeDecision::Opened = opening {
+            self.challenges.push_reserved(Challenge::Send(envelope));
         }
+        reply
     }
 
     /// Accepts a segment.
@@ -94,16 +86,14 @@ impl Rows {
         ensures after { book_in self.new ≡ after_answer (book_in self.old) segment (reply_in result) }
         ensures keeps { KeepsExposure (segments_in self.new.segments.items) self.new.exposure }
     {
-        match accepting {
-            AnswerDecision::NotAsked => ReplyOf::Refused(Refusal::NotAsked),
-            AnswerDecision::Accepted(share, evidence) => {
-                close_answered(&mut self.challenges, segment.closed().segment());
-                self.expose(evidence);
-                self.segments.push_reserved(segment);
-                self.stage = Stage::Given(share);
-                ReplyOf::Accepted
-            }
+        let reply = answer_reply(&accepting);
+        if let AnswerDecision::Accepted(share, evidence) = accepting {
+            close_answered(&mut self.challenges, segment.closed().segment());
+            self.expose(evidence);
+            self.segments.push_reserved(segment);
+            self.stage = Stage::Given(share);
         }
+        reply
     }
 
     /// Closes the challenge that an acknowledgement answers.
@@ -114,11 +104,10 @@ impl Rows {
         ensures after { book_in self.new ≡ after_ack (book_in self.old) ack (reply_in result) }
         ensures keeps { KeepsExposure (segments_in self.new.segments.items) self.new.exposure }
     {
-        if !is_open {
-            return ReplyOf::Refused(Refusal::NotAsked);
+        if is_open {
+            close_send(&mut self.challenges, &ack.message());
         }
-        close_send(&mut self.challenges, &ack.message());
-        ReplyOf::Closed
+        ack_reply(is_open)
     }
 
     /// Asks for a segment.
@@ -130,15 +119,13 @@ impl Rows {
         ensures after { book_in self.new ≡ after_audit (book_in self.old) (reply_in result) }
         ensures keeps { KeepsExposure (segments_in self.new.segments.items) self.new.exposure }
     {
-        match asking {
-            AuditDecision::Asked(first, last) => {
-                self.stage = Stage::Wanted(first, last);
-                self.challenges
-                    .push_reserved(Challenge::Audit { first, last });
-                ReplyOf::Asked { first, last }
-            }
-            AuditDecision::Refused(refusal) => ReplyOf::Refused(refusal),
+        let reply = audit_reply(&asking);
+        if let AuditDecision::Asked(first, last) = asking {
+            self.stage = Stage::Wanted(first, last);
+            self.challenges
+                .push_reserved(Challenge::Audit { first, last });
         }
+        reply
     }
 
     /// Hands a job out.

@@ -16,6 +16,7 @@ mod outbox;
 mod refusal;
 mod replayed;
 mod reply;
+mod replying;
 mod room;
 mod rows;
 mod same_challenges;
