@@ -7,9 +7,9 @@ mod plain;
 mod segment;
 mod verdict;
 
-pub use replay::SharedState;
 pub use done::{PlainDone, ReplayDone};
 pub use job::{Back, ReplayJob};
 pub use plain::PlainJob;
+pub use replay::SharedState;
 pub use segment::SharedSegment;
 pub use verdict::JobVerdict;

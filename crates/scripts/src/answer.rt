@@ -68,6 +68,15 @@ pub(crate) fn said_line(alloc: Global, said: &Said) -> Result<String, AllocError
     }
 }
 
+/// The words `forwarded M K`.
+fn forwarded_words(alloc: Global, authenticator: &Authenticator) -> Result<String, AllocError>
+    ensures { IfOk result (λ words. string_bytes words
+        ≡ forwarded_words authenticator.now.node authenticator.now.number) }
+{
+    let number = authenticator.number.get();
+    format!(in alloc; "forwarded {} {number} ", authenticator.node)
+}
+
 /// The words `forwarded M K`, and after them a line.
 pub(crate) fn forwarded_line(
     alloc: Global,
@@ -77,8 +86,9 @@ pub(crate) fn forwarded_line(
     ensures { IfOk result (λ text. string_bytes text
         ≡ forwarded_words authenticator.now.node authenticator.now.number ++ line.now) }
 {
-    let number = authenticator.number.get();
-    format!(in alloc; "forwarded {} {number} {line}", authenticator.node)
+    let mut text = forwarded_words(alloc, authenticator)?;
+    text.push_str(line)?;
+    Ok(text)
 }
 
 /// The line of what a witness says of a node: `N INDICATION OPEN`.
