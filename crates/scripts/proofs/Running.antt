@@ -1,17 +1,19 @@
 -- Turns, one after the other.
 -- Serves: the lines of a script, and how it ends.
 use Rattle.std.proofs.Common.{◌≡◌, ◌∙◌, sym, ap, subst, refl, ℕ, List, [], ◌∷◌, ◌++◌, append_assoc, append-nil}
-use Rattle.std.proofs.Common.{Option, Some, None}
+use Rattle.std.proofs.Common.{Option, Some, None, Result, Ok, Err}
+use Rattle.std.specs.Prelude.{IfErr}
 use Rattle.std.proofs.KnownBytes.{Appends-nil, Appends-trans}
 use Rattle.std.proofs.lemmas.Grind.{flat_map-append}
 use Rattle.std.specs.Io.KnownBytes.{Appends}
 use Rattle.std.specs.List.{AllByRecursion}
 use Rattle.witness_service.specs.Claims.{Claim, Held, claims_of}
 use Rattle.scripts.specs.Ends.{Closes, Plays, Writes, last_line}
-use Rattle.scripts.specs.Turns.{Does, IsDone, IsTurn, Runs, TakesTurn, Turn, WritesTurns, added_by, texts_of}
+use Rattle.scripts.specs.Turns.{Does, IsDone, IsTurn, Leaves, Runs, TakesTurn, Turn, WritesTurns, added_by, texts_of}
 use Rattle.scripts.specs.declared.line.Act.{Act}
 use Rattle.scripts.specs.declared.script.ScriptEnd.{ScriptEnd}
 use Rattle.scripts.specs.declared.script.ScriptEnd.TheVariants as ends
+use Rattle.scripts.specs.declared.stop.Stop.{Stop}
 
 all_more : (ts : List Turn) (t : Turn) → AllByRecursion IsTurn ts → IsTurn t → AllByRecursion IsTurn (ts ++ t ∷ [])
 all_more [] t all one = (one, tt)
@@ -60,6 +62,11 @@ runs_left a b c x y runs same = record {
   each = runs.each;
   wrote = subst (λ (w : Option (List ℕ)). Appends a w (texts_of runs.turns)) (sym same) runs.wrote;
 }
+
+-- whatever stopped the next line
+pub any_left : {A : Type 0} (r : Result A Stop) (a c : Option (List ℕ)) → WritesTurns a c → IfErr r (Leaves a c)
+any_left (Ok x) a c wrote = tt
+any_left (Err stop) a c wrote = λ bad. wrote
 
 pub no_turns : (before : Option (List ℕ)) → WritesTurns before before
 no_turns before = record { turns = []; each = tt; wrote = Appends-nil before }
