@@ -3,8 +3,8 @@
 use crate::files::Files;
 use crate::parties::{CLIENT, Parties, SERVER, new_parties, paired};
 use auditing::{
-    Auditor, Closed, Desk, Office, Standing, WitnessService, close, final_reports, open_witness,
-    put_evidence, write_reports,
+    AuditContext, AuditOutput, Auditor, Closed, LogToAudit, WitnessService, close, final_reports,
+    open_witness, put_evidence, write_reports,
 };
 use challenge::{check_evidence, read_case};
 use envelopes::Envelope;
@@ -17,8 +17,8 @@ use witness_calls::{Caller, Pass};
 /// Where evidence goes.
 const FOLDER: &str = "cases";
 
-/// A desk of a test.
-type TestDesk = Desk<Vec<u8>, Files>;
+/// The output of an audit in a test.
+type TestOutput = AuditOutput<Vec<u8>, Files>;
 
 /// What came of audits.
 #[derive(Drop)]
@@ -47,23 +47,23 @@ fn challenge<R: Wait>(
 
 /// Audits both by a pass, which comes back, and asks what is said of them.
 fn audit_both<R: Threads + Wait + Sync>(
-    office: Office<'_, R, Vec<u8>, Files>,
+    context: AuditContext<'_, R, Vec<u8>, Files>,
     both: &Parties,
     pass: Pass,
 ) -> Option<Pass> {
     let standings = [
-        Standing {
+        LogToAudit {
             number: SERVER,
             log: both.server.node(),
             filed: 0,
         },
-        Standing {
+        LogToAudit {
             number: CLIENT,
             log: both.client.node(),
             filed: 0,
         },
     ];
-    let mut auditor = Auditor::new(office, pass);
+    let mut auditor = Auditor::new(context, pass);
     auditor.finish(&standings);
     match auditor.ask_all(&standings) {
         Ok(()) => Some(auditor.into_audits().pass),
@@ -73,7 +73,7 @@ fn audit_both<R: Threads + Wait + Sync>(
 
 /// The passes of a witness that has audited both, of which there is one.
 fn audited<R: Threads + Wait + Sync>(
-    office: Office<'_, R, Vec<u8>, Files>,
+    context: AuditContext<'_, R, Vec<u8>, Files>,
     both: &Parties,
     message: Option<&Envelope>,
     passes: Vec<Pass>,
@@ -82,8 +82,15 @@ fn audited<R: Threads + Wait + Sync>(
     let Some(pass) = passes.pop() else {
         return None;
     };
-    let pass = challenge(office.rt, office.alloc, office.service, both, message, pass)?;
-    passes.push(audit_both(office, both, pass)?).ok()?;
+    let pass = challenge(
+        context.rt,
+        context.alloc,
+        context.service,
+        both,
+        message,
+        pass,
+    )?;
+    passes.push(audit_both(context, both, pass)?).ok()?;
     Some(passes)
 }
 
@@ -93,32 +100,32 @@ fn closed<R: Threads + Wait + Sync>(
     alloc: Global,
     both: &Parties,
     message: Option<&Envelope>,
-    desk: &Mutex<TestDesk>,
+    output: &Mutex<TestOutput>,
 ) -> Option<Closed> {
     let (service, passes) = open_witness(alloc, &both.roster, 1).ok()?;
-    let office = Office {
+    let context = AuditContext {
         rt,
         alloc,
         service: &service,
         roster: &both.roster,
-        desk,
+        output,
         progress: false,
     };
-    let passes = audited(office, both, message, passes);
+    let passes = audited(context, both, message, passes);
     let (service, passes) = paired(service, passes)?;
     close(service, passes).ok()
 }
 
 /// The lines of a closed witness's reports, and the files of their evidence.
-fn told_of(alloc: Global, closed: &Closed, desk: TestDesk) -> Option<Told> {
-    let mut desk = desk;
+fn told_of(alloc: Global, closed: &Closed, output: TestOutput) -> Option<Told> {
+    let mut output = output;
     let reports = final_reports(alloc, &closed.journal).ok()??;
     let mut lines = Vec::new(alloc);
     write_reports(alloc, &mut lines, &reports).ok()?;
-    put_evidence(&mut desk, FOLDER, &closed.roster, &reports);
+    put_evidence(&mut output, FOLDER, &closed.roster, &reports);
     Some(Told {
         lines,
-        files: desk.into_shelf(),
+        files: output.into_shelf(),
     })
 }
 
@@ -129,9 +136,9 @@ fn audits_of<R: Threads + Wait + Sync>(
     both: &Parties,
     message: Option<&Envelope>,
 ) -> Option<Told> {
-    let desk = Mutex::new(Desk::new(alloc, Vec::new(alloc), Files::new(alloc), None));
-    let closed = closed(rt, alloc, both, message, &desk)?;
-    told_of(alloc, &closed, desk.into_inner())
+    let output = Mutex::new(AuditOutput::new(alloc, Vec::new(alloc), Files::new(alloc), None));
+    let closed = closed(rt, alloc, both, message, &output)?;
+    told_of(alloc, &closed, output.into_inner())
 }
 
 /// Whether bytes are a file of evidence that is accepted, against this node.

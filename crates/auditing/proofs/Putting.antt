@@ -1,5 +1,5 @@
 -- What was put on a shelf, before and after one more file was put there.
--- Serves: Desk's put, put_file and put_evidence.
+-- Serves: AuditOutput's put, put_file and put_evidence.
 use Rattle.std.proofs.Common.{◌≡◌, ℕ, ◌<◌, List, [], ◌∷◌, length, Option, Some, None, Result, Ok, Err, sym, subst}
 use Rattle.std.proofs.Common.{◌∙◌, ◌+◌, ◌≤◌, arith, get_or, refl, suc, take}
 use Rattle.std.proofs.lemmas.List.{take_all}
@@ -10,7 +10,7 @@ use Rattle.authenticator.specs.declared.member.Member.{Member}
 use Rattle.challenge.specs.evidence_showings.evidence_spec.Evidence.{EvidenceParts}
 use Rattle.witness_calls.specs.Shelves.{Files, KeepsPut, Puts, WasPut}
 use Rattle.witness_reports.specs.declared.report.NodeReport.{NodeReport}
-use Rattle.auditing.specs.Desks.{DeskParts, Goes, IsShown, WasEvidencePut, evidence_name, evidence_text}
+use Rattle.auditing.specs.AuditOutputs.{AuditOutputParts, Goes, IsShown, WasEvidencePut, evidence_name, evidence_text}
 
 -- an element is one of a list with one more at its front
 contains-more : {X : Type 0} (y : X) (xs : List X) (x : X) → Contains xs x → Contains (y ∷ xs) x
@@ -47,7 +47,7 @@ evidence-put old new folder ms node e name text named says put =
 -- ---- reports
 
 -- one goes on from the other
-pub goes-on : {S : Type 0} (files : S → Option Files) (a b c : DeskParts S) → Goes files a b → Goes files b c
+pub goes-on : {S : Type 0} (files : S → Option Files) (a b c : AuditOutputParts S) → Goes files a b → Goes files b c
     → Goes files a c
 goes-on files a b c first then = record {
   folder = then.folder ∙ first.folder;

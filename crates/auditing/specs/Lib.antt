@@ -1,4 +1,4 @@
-pub mod Desks
+pub mod AuditOutputs
 pub mod Accounts
 pub mod Lines
 pub use Rattle.witness_calls.specs as witness_calls

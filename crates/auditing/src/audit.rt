@@ -1,6 +1,6 @@
 //! Audits of a node's log, segment by segment.
 
-use crate::desk::Desk;
+use crate::output::AuditOutput;
 use authenticator::{Authenticator, Roster};
 use nodes::NodeLog;
 use secure_log::SegmentFault;
@@ -15,29 +15,29 @@ use witness_calls::{Asked, Caller, Evidence, Outcome, Pass, Said, Shelf, Witness
 const WORKERS: usize = 2;
 
 /// What all threads of a run share to audit.
-pub struct Office<'a, R, E, S> {
+pub struct AuditContext<'a, R, E, S> {
     pub rt: &'a R,
     pub alloc: Global,
     pub service: &'a WitnessService,
     pub roster: &'a Roster,
-    pub desk: &'a Mutex<Desk<E, S>>,
+    pub output: &'a Mutex<AuditOutput<E, S>>,
     pub progress: bool,
 }
 
-impl<'a, R, E, S> Clone for Office<'a, R, E, S> {
-    fn clone(&self) -> Result<Office<'a, R, E, S>, AllocError> {
+impl<'a, R, E, S> Clone for AuditContext<'a, R, E, S> {
+    fn clone(&self) -> Result<AuditContext<'a, R, E, S>, AllocError> {
         Ok(*self)
     }
 }
 
-impl<'a, R, E, S> Copy for Office<'a, R, E, S> {}
+impl<'a, R, E, S> Copy for AuditContext<'a, R, E, S> {}
 
 /// A pass at the witness, by which a thread audits nodes.
 #[derive(Drop)]
 pub struct Auditor<'a, R, E, S> {
-    pub(crate) office: Office<'a, R, E, S>,
+    pub(crate) context: AuditContext<'a, R, E, S>,
     pub(crate) caller: Caller<'a, R>,
-    /// What was found of other nodes and not learned, since their books had no room for it.
+    /// Authenticators of other nodes that were found, and for which their books had no room.
     pub(crate) kept: Vec<Authenticator>,
 }
 
@@ -46,25 +46,31 @@ pub struct Auditor<'a, R, E, S> {
 pub struct Audits {
     /// The pass, with the receipts of all its steps.
     pub pass: Pass,
-    /// What was found of other nodes and not learned, since their books had no room for it.
+    /// Authenticators of other nodes that were found, and for which their books had no room.
     pub kept: Vec<Authenticator>,
 }
 
 impl<'a, R: Threads + Wait + Sync, E: Write, S: Shelf> Auditor<'a, R, E, S> {
-    /// Who audits by a pass.
-    pub fn new(office: Office<'a, R, E, S>, pass: Pass) -> Auditor<'a, R, E, S> {
-        let caller = Caller::new(office.rt, office.alloc, office.service, office.roster, pass);
-        let kept = Vec::new(office.alloc);
+    /// An auditor with a pass at the witness.
+    pub fn new(context: AuditContext<'a, R, E, S>, pass: Pass) -> Auditor<'a, R, E, S> {
+        let caller = Caller::new(
+            context.rt,
+            context.alloc,
+            context.service,
+            context.roster,
+            pass,
+        );
+        let kept = Vec::new(context.alloc);
         Auditor {
-            office,
+            context,
             caller,
             kept,
         }
     }
 
-    /// What takes memory takes it from here.
+    /// The allocator of the run.
     pub fn alloc(&self) -> Global {
-        self.office.alloc
+        self.context.alloc
     }
 
     /// The pass, with what was kept.
@@ -78,12 +84,12 @@ impl<'a, R: Threads + Wait + Sync, E: Write, S: Shelf> Auditor<'a, R, E, S> {
 
     /// Says a line.
     pub fn say(&self, line: Result<String, AllocError>) {
-        self.office.desk.lock(self.office.rt).say(line);
+        self.context.output.lock(self.context.rt).say(line);
     }
 
-    /// Has the desk note that memory was refused.
+    /// Notes that memory was refused.
     pub fn note_no_memory(&self) {
-        self.office.desk.lock(self.office.rt).note_no_memory();
+        self.context.output.lock(self.context.rt).note_no_memory();
     }
 
     /// Audits a node from the last number that was filed to its last signed entry, as far as it comes.
@@ -109,8 +115,8 @@ impl<'a, R: Threads + Wait + Sync, E: Write, S: Shelf> Auditor<'a, R, E, S> {
 
     /// Says how far a node is audited, where that is to be told.
     fn say_progress(&self, number: u32, filed: u64) {
-        if self.office.progress {
-            self.say(format!(in self.office.alloc; "nfsacc: node {number}: audited to {filed}\n"));
+        if self.context.progress {
+            self.say(format!(in self.context.alloc; "nfsacc: node {number}: audited to {filed}\n"));
         }
     }
 
@@ -134,7 +140,7 @@ impl<'a, R: Threads + Wait + Sync, E: Write, S: Shelf> Auditor<'a, R, E, S> {
 
     /// Hands the witness what a node signed at a number, if it signed there.
     fn learn_at(&mut self, log: &NodeLog, last: u64) -> Result<(), AllocError> {
-        match log.authenticator(self.office.alloc, last)? {
+        match log.authenticator(self.context.alloc, last)? {
             Some(authenticator) => self.learn(&authenticator).map(|_| ()),
             None => Ok(()),
         }
@@ -142,7 +148,7 @@ impl<'a, R: Threads + Wait + Sync, E: Write, S: Shelf> Auditor<'a, R, E, S> {
 
     /// Hands the witness the segment that it asks for. Tells whether it took it.
     fn answer(&mut self, number: u32, log: &NodeLog, asked: Asked) -> Result<bool, AllocError> {
-        match segment_packet(self.office.alloc, log, asked)? {
+        match segment_packet(self.context.alloc, log, asked)? {
             Some(packet) => self.hand_segment(number, &packet),
             None => Ok(false),
         }
@@ -150,14 +156,14 @@ impl<'a, R: Threads + Wait + Sync, E: Write, S: Shelf> Auditor<'a, R, E, S> {
 
     /// Hands the witness a segment's packet of a node. Tells whether it took it.
     fn hand_segment(&mut self, number: u32, packet: &[u8]) -> Result<bool, AllocError> {
-        let answered = self.deliver(packet)?;
+        let answer = self.deliver(packet)?;
         self.look_at(number)?;
-        Ok(answered == Answered::Accepted)
+        Ok(answer == PacketAnswer::Accepted)
     }
 
     /// Hands the witness a packet.
-    fn deliver(&mut self, packet: &[u8]) -> Result<Answered, AllocError> {
-        Answered::of(&self.caller.deliver(packet))
+    fn deliver(&mut self, packet: &[u8]) -> Result<PacketAnswer, AllocError> {
+        PacketAnswer::of(&self.caller.deliver(packet))
     }
 
     /// Has the segment that a node gave replayed, and files what was found: the last number that is
@@ -173,23 +179,22 @@ impl<'a, R: Threads + Wait + Sync, E: Write, S: Shelf> Auditor<'a, R, E, S> {
         Ok(filed)
     }
 
-    /// Hands the witness an authenticator, which shows what its node signed. One for which
-    /// there is no room is kept.
+    /// Hands the witness an authenticator. Tells whether there was room for it.
     pub(crate) fn learn(&mut self, authenticator: &Authenticator) -> Result<bool, AllocError> {
-        let packet = learn_packet(self.office.alloc, authenticator)?;
+        let packet = learn_packet(self.context.alloc, authenticator)?;
         self.hand_signed(authenticator.node, &packet)
     }
 
     /// Hands the witness the packet of an authenticator of a node. Tells whether there was room for it.
     fn hand_signed(&mut self, number: u32, packet: &[u8]) -> Result<bool, AllocError> {
-        if self.deliver(packet)? == Answered::Full {
+        if self.deliver(packet)? == PacketAnswer::Full {
             return Ok(false);
         }
         self.look_at(number)?;
         Ok(true)
     }
 
-    /// Takes all that a node's log showed of others, and hands it to the witness.
+    /// Takes all authenticators of others that a node's log showed, and hands them to the witness.
     pub(crate) fn forward(&mut self, number: u32) -> Result<(), AllocError> {
         for _ in 0..u64::MAX {
             match self.caller.forward(number) {
@@ -200,7 +205,7 @@ impl<'a, R: Threads + Wait + Sync, E: Write, S: Shelf> Auditor<'a, R, E, S> {
         Ok(())
     }
 
-    /// Hands on what was found. What there is no room for is kept.
+    /// Hands on an authenticator that was found, or keeps it where there is no room.
     fn pass_on(&mut self, authenticator: Authenticator) -> Result<(), AllocError> {
         if self.learn(&authenticator)? {
             return Ok(());
@@ -213,7 +218,7 @@ impl<'a, R: Threads + Wait + Sync, E: Write, S: Shelf> Auditor<'a, R, E, S> {
 
     /// Where evidence is asked for and a node is exposed, puts the evidence in its place.
     fn look_at(&mut self, number: u32) -> Result<(), AllocError> {
-        if !self.office.desk.lock(self.office.rt).wants(number) {
+        if !self.context.output.lock(self.context.rt).wants(number) {
             return Ok(());
         }
         if is_exposed(&self.caller.indication(number))? {
@@ -236,16 +241,16 @@ impl<'a, R: Threads + Wait + Sync, E: Write, S: Shelf> Auditor<'a, R, E, S> {
 
     /// Puts evidence in its place.
     fn put(&self, number: u32, evidence: &Arc<Evidence>) {
-        self.office
-            .desk
-            .lock(self.office.rt)
-            .show(self.office.roster, number, evidence);
+        self.context
+            .output
+            .lock(self.context.rt)
+            .show(self.context.roster, number, evidence);
     }
 }
 
-/// What a witness answered to a packet, as far as an audit asks.
+/// What a witness answered to a packet, as far as an audit needs to know.
 #[derive(Clone, Copy, PartialEq, Eq)]
-enum Answered {
+enum PacketAnswer {
     /// It took the segment.
     Accepted,
     /// It has no room for the authenticator.
@@ -254,16 +259,16 @@ enum Answered {
     Other,
 }
 
-impl Answered {
+impl PacketAnswer {
     /// What it said: an error where that is that memory ran out.
-    fn of(said: &Said) -> Result<Answered, AllocError> {
+    fn of(said: &Said) -> Result<PacketAnswer, AllocError> {
         no_more(said)?;
         if said.is_learned_full() {
-            return Ok(Answered::Full);
+            return Ok(PacketAnswer::Full);
         }
         match said {
-            Said::Accepted => Ok(Answered::Accepted),
-            _ => Ok(Answered::Other),
+            Said::Accepted => Ok(PacketAnswer::Accepted),
+            _ => Ok(PacketAnswer::Other),
         }
     }
 }
@@ -301,7 +306,7 @@ fn segment_packet(
     }
 }
 
-/// That there is no more after what a witness said: an error where that is that memory ran out.
+/// An error where a witness said that memory ran out.
 pub(crate) fn no_more(said: &Said) -> Result<(), AllocError> {
     if said.is_no_memory() {
         Err(AllocError)

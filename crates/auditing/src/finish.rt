@@ -11,9 +11,9 @@ use std::sync::Wait;
 use std::thread::Threads;
 use witness_calls::Shelf;
 
-/// A node whose log is to be audited, and how far it was.
+/// The log of a node that is to be audited, and how far it was.
 #[derive(Clone, Copy)]
-pub struct Standing<'n> {
+pub struct LogToAudit<'n> {
     /// The node's number.
     pub number: u32,
     /// Its log.
@@ -23,14 +23,14 @@ pub struct Standing<'n> {
 }
 
 impl<'a, R: Threads + Wait + Sync, E: Write, S: Shelf> Auditor<'a, R, E, S> {
-    /// Audits a node to its last signed entry, and names it where it can't be.
-    fn finish_node(&mut self, standing: &Standing<'_>) -> Result<(), AllocError> {
-        let Standing { number, log, filed } = *standing;
+    /// Audits a node to its last signed entry. Where that can't be, says how far it came.
+    fn finish_node(&mut self, node: &LogToAudit<'_>) -> Result<(), AllocError> {
+        let LogToAudit { number, log, filed } = *node;
         let signed = last_signed(log);
         let mut filed = filed;
         let audited = self.go_on(number, log, signed, &mut filed);
         if filed != signed {
-            self.say(format!(in self.office.alloc;
+            self.say(format!(in self.context.alloc;
                 "nfsacc: node {number}: audited to {filed} of {signed}\n"
             ));
         }
@@ -53,11 +53,11 @@ impl<'a, R: Threads + Wait + Sync, E: Write, S: Shelf> Auditor<'a, R, E, S> {
     }
 
     /// Audits each node to its last signed entry, and hands the witness what each showed of others. Where
-    /// memory is refused for one the others are audited, and the desk notes it.
-    pub fn finish(&mut self, nodes: &[Standing<'_>]) {
-        for standing in nodes {
-            if self.finish_node(standing).is_err() {
-                self.note_unaudited(standing.number);
+    /// memory is refused for one the others are audited, and that is noted.
+    pub fn finish(&mut self, nodes: &[LogToAudit<'_>]) {
+        for node in nodes {
+            if self.finish_node(node).is_err() {
+                self.note_unaudited(node.number);
             }
         }
         if self.pass_on_all(nodes).is_err() {
@@ -65,8 +65,8 @@ impl<'a, R: Threads + Wait + Sync, E: Write, S: Shelf> Auditor<'a, R, E, S> {
         }
     }
 
-    /// Hands the witness what an earlier audit found and their books had no room for. Where memory is refused
-    /// the desk notes it.
+    /// Hands the witness what an earlier audit found, and for which their books had no room. Where memory is
+    /// refused that is noted.
     pub fn learn_kept(&mut self, kept: &[Authenticator]) {
         if self.learn_each(kept).is_err() {
             self.note_no_memory();
@@ -76,17 +76,17 @@ impl<'a, R: Threads + Wait + Sync, E: Write, S: Shelf> Auditor<'a, R, E, S> {
     /// Says that memory was refused to the audit of a node, and notes it.
     fn note_unaudited(&self, number: u32) {
         self.note_no_memory();
-        self.say(format!(in self.office.alloc;
+        self.say(format!(in self.context.alloc;
             "nfsacc: node {number}: memory was refused to its audit: what is said of it accuses nobody\n"
         ));
     }
 
     /// Hands the witness what each node's log showed of others.
-    fn pass_on_all(&mut self, nodes: &[Standing<'_>]) -> Result<(), AllocError> {
-        for standing in nodes {
-            self.forward(standing.number)?;
+    fn pass_on_all(&mut self, nodes: &[LogToAudit<'_>]) -> Result<(), AllocError> {
+        for node in nodes {
+            self.forward(node.number)?;
         }
-        let kept = mem::replace(&mut self.kept, Vec::new(self.office.alloc));
+        let kept = mem::replace(&mut self.kept, Vec::new(self.context.alloc));
         self.learn_each(&kept)
     }
 
@@ -100,9 +100,9 @@ impl<'a, R: Threads + Wait + Sync, E: Write, S: Shelf> Auditor<'a, R, E, S> {
 
     /// Asks what the witness says of each node in the end: its failure indication, its open challenges and the
     /// evidence against it, one node after the other. So these answers are the last places of its journal.
-    pub fn ask_all(&mut self, nodes: &[Standing<'_>]) -> Result<(), AllocError> {
-        for standing in nodes {
-            self.ask(standing.number)?;
+    pub fn ask_all(&mut self, nodes: &[LogToAudit<'_>]) -> Result<(), AllocError> {
+        for node in nodes {
+            self.ask(node.number)?;
         }
         Ok(())
     }

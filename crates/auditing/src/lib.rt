@@ -4,17 +4,17 @@
 
 mod accounts;
 mod audit;
-mod desk;
 mod finish;
 mod lines;
+mod output;
 mod report;
 mod trouble;
 
 pub use accounts::{has_account, last_signed};
-pub use audit::{Auditor, Audits, Office};
-pub use desk::Desk;
-pub use finish::Standing;
+pub use audit::{AuditContext, Auditor, Audits};
+pub use finish::LogToAudit;
 pub use lines::{LineFault, write_reports, write_text};
+pub use output::AuditOutput;
 pub use report::put_evidence;
 pub use trouble::Trouble;
 pub use witness_calls::{

@@ -34,8 +34,8 @@ use std::thread::Threads;
 use std::{fs, io};
 use words::{report_words, words_of};
 
-/// The statuses of the program beside 0, which is done. A fault in the input: the records end with one, a
-/// file is no evidence or has no roster, or a script has a bad line.
+/// The status of the program, beside 0, for a fault in the input: the records end with one, a file is no
+/// evidence or has no roster, or a script has a bad line.
 pub(crate) const INPUT_FAULT: u8 = 1;
 
 /// The words of the command line ask for nothing that there is.
@@ -159,7 +159,7 @@ where
     }
 }
 
-/// The status of a script that came to this end. A bad line is said on standard error.
+/// The status of a script that came to this end. A bad line is named on standard error.
 fn report_end(rt: &impl Eprint, end: &ScriptEnd) -> u8 {
     match end {
         ScriptEnd::Closed(_) => 0,

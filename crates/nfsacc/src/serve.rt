@@ -27,20 +27,20 @@ const NOTHING: &str = "/dev/null";
 /// What is said where the witness's journal isn't what it answered.
 const NOT_IN_JOURNAL: &str = "nfsacc: what the witness answered does not stand in its journal";
 
-/// What a run of the service has before its first key is made.
+/// What is opened before the first key of a run is made.
 #[derive(Drop)]
 pub struct Opened {
     pub listener: TcpListener,
     pub masters: Masters,
-    /// The socket at whose word the run comes to its end, if there is one.
+    /// The control socket, by which the run can be told to stop, if there is one.
     pub control: Option<Control>,
-    /// What stands in for standard input, output and error where they are closed. A socket would get their
-    /// numbers else, and a client what is said of others.
+    /// /dev/null in the place of standard input, output and error where they are closed, so that no socket
+    /// becomes descriptor 0 to 2 and no client gets messages about others.
     pub stand_ins: [Option<File>; 3],
 }
 
-/// Opens the port and the control socket, and reads the secret bytes where a file of them is named; or the
-/// status where that can't be. The folder for evidence is tried.
+/// Opens the port and the control socket, reads the secret bytes if a file of them is named, and tries the
+/// folder for evidence. Gives the status of the program where one of them fails.
 pub fn open<R>(rt: &R, order: &ServeOrder<'_>) -> Result<Opened, u8>
 where
     R: Files<File = File> + Input + Eprint + AllocGlobal + RandomSource,

@@ -31,14 +31,14 @@ impl Model for ListedNode {
 
 /// The nodes that a script has so far, by rising numbers. None has sent anything.
 #[derive(Drop)]
-pub(crate) struct Listed {
+pub(crate) struct ListedNodes {
     nodes: Vec<ListedNode>,
 }
 
-impl Listed {
+impl ListedNodes {
     /// No node.
-    pub(crate) fn new(alloc: Global) -> Listed {
-        Listed {
+    pub(crate) fn new(alloc: Global) -> ListedNodes {
+        ListedNodes {
             nodes: Vec::new(alloc),
         }
     }

@@ -8,7 +8,7 @@ ghost use Rattle.scripts.specs.Turns.{Leaves, Runs, TakesTurn};
 use crate::acts::Run;
 use crate::cursor::Cursor;
 use crate::line::{Line, read_line};
-use crate::parties::{Listed, Parties};
+use crate::parties::{ListedNodes, Parties};
 use crate::stop::Stop;
 use authenticator::Roster;
 use std::alloc::Global;
@@ -90,19 +90,19 @@ fn run_all<R: Threads + Wait + Sync, I: Read, O: Write, S: Shelf>(
     }
     let parties = listed.make(alloc, &roster)?;
     let (service, pass) = witness_of(alloc, &roster)?;
-    let stage = Stage {
+    let context = ScriptContext {
         roster: &roster,
         service: &service,
         parties,
         pass,
     };
-    let pass = play(rt, alloc, stage, reader, cursor, writer, shelf, more)?;
+    let pass = run_rest(rt, alloc, context, reader, cursor, writer, shelf, more)?;
     close(alloc, service, pass, writer)
 }
 
 /// What the lines after the nodes act on.
 #[derive(Drop)]
-struct Stage<'a> {
+struct ScriptContext<'a> {
     roster: &'a Roster,
     service: &'a WitnessService,
     parties: Parties,
@@ -110,10 +110,10 @@ struct Stage<'a> {
 }
 
 /// Runs the line that is there, if one is, and those after it. Gives the pass back, with all receipts.
-fn play<'a, R: Threads + Wait + Sync, I: Read, O: Write, S: Shelf>(
+fn run_rest<'a, R: Threads + Wait + Sync, I: Read, O: Write, S: Shelf>(
     rt: &'a R,
     alloc: Global,
-    stage: Stage<'a>,
+    context: ScriptContext<'a>,
     reader: &mut I,
     cursor: &mut Cursor,
     writer: &mut O,
@@ -122,16 +122,16 @@ fn play<'a, R: Threads + Wait + Sync, I: Read, O: Write, S: Shelf>(
 ) -> Result<Pass, Stop>
     requires { there ≡ false → IsAtEnd (I.remaining reader.old) }
     ensures turns { IfOk result (λ pass. Runs (O.contents writer.old) (O.contents writer.new)
-        stage.entry.pass.claims pass.claims) }
+        context.entry.pass.claims pass.claims) }
     ensures bad { IfErr result (Leaves (O.contents writer.old) (O.contents writer.new)) }
     ensures read { IsOk result → IsAtEnd (I.remaining reader.new) }
 {
-    let Stage {
+    let ScriptContext {
         roster,
         service,
         parties,
         pass,
-    } = stage;
+    } = context;
     let mut run = Run {
         alloc,
         roster,
@@ -150,10 +150,10 @@ fn read_nodes<R: Threads + Sync, I: Read>(
     alloc: Global,
     reader: &mut I,
     cursor: &mut Cursor,
-) -> Result<(Listed, bool), Stop>
+) -> Result<(ListedNodes, bool), Stop>
     ensures { IfOk result (λ read. read.1 ≡ false → IsAtEnd (I.remaining reader.new)) }
 {
-    let mut listed = Listed::new(alloc);
+    let mut listed = ListedNodes::new(alloc);
     for _ in 0..u64::MAX {
         if !cursor.next(reader)? {
             return Ok((listed, false));

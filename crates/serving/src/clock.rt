@@ -8,7 +8,7 @@ use nodes::Clock;
 use std::time::Duration;
 
 /// The system's time since 1970, in microseconds. Where the system's clock fails, or reads a time past 2^32
-/// seconds, it gives its last reading again; the first is 1970.
+/// seconds, the last reading is given again; before the first that is 1970.
 #[derive(Drop)]
 pub struct SystemClock<'a, T> {
     source: &'a T,
@@ -16,7 +16,7 @@ pub struct SystemClock<'a, T> {
 }
 
 impl<'a, T: std::time::Clock> SystemClock<'a, T> {
-    /// A clock that reads this one.
+    /// A clock that reads from `source`.
     pub fn new(source: &'a T) -> SystemClock<'a, T> {
         SystemClock {
             source,

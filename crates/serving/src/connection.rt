@@ -4,8 +4,8 @@ use crate::clock::SystemClock;
 use crate::link::ClientLink;
 use crate::members::SERVER;
 use crate::phase::Phase;
-use crate::stream::{ClientStream, Patience};
-use auditing::{Auditor, Audits, Office, Pass, Shelf};
+use crate::stream::{ClientStream, Timeouts};
+use auditing::{AuditContext, Auditor, Audits, Pass, Shelf};
 use authenticator::Authenticator;
 use nodes::{ClientNode, Gateway, HonestServer, StreamFault};
 use rpc::records::{Counting, RecordReader};
@@ -21,29 +21,29 @@ use std::thread::Threads;
 const READ_AHEAD: usize = 65536;
 
 /// What all connections of a run share.
-pub(crate) struct Stage<'a, R, T, E, S> {
-    pub(crate) office: Office<'a, R, E, S>,
+pub(crate) struct ConnectionContext<'a, R, T, E, S> {
+    pub(crate) audit: AuditContext<'a, R, E, S>,
     pub(crate) clock: &'a T,
     pub(crate) server: &'a Mutex<HonestServer>,
     pub(crate) phase: &'a Mutex<Phase>,
     /// How many seconds a connection may be silent, if there is an end to it.
     pub(crate) idle: Option<u32>,
-    /// The socket at whose word the run comes to its end, if there is one.
+    /// The control socket, at which the run can be told to stop, if there is one.
     pub(crate) control: Option<&'a UnixListener>,
 }
 
-impl<'a, R, T, E, S> Clone for Stage<'a, R, T, E, S> {
-    fn clone(&self) -> Result<Stage<'a, R, T, E, S>, AllocError> {
+impl<'a, R, T, E, S> Clone for ConnectionContext<'a, R, T, E, S> {
+    fn clone(&self) -> Result<ConnectionContext<'a, R, T, E, S>, AllocError> {
         Ok(*self)
     }
 }
 
-impl<'a, R, T, E, S> Copy for Stage<'a, R, T, E, S> {}
+impl<'a, R, T, E, S> Copy for ConnectionContext<'a, R, T, E, S> {}
 
-impl<'a, R: Wait, T, E: Write, S: Shelf> Stage<'a, R, T, E, S> {
-    /// How far the run is.
+impl<'a, R: Wait, T, E: Write, S: Shelf> ConnectionContext<'a, R, T, E, S> {
+    /// The phase of the run.
     pub(crate) fn phase(&self) -> Phase {
-        *self.phase.lock(self.office.rt)
+        *self.phase.lock(self.audit.rt)
     }
 
     /// Whether the run is to end.
@@ -51,43 +51,43 @@ impl<'a, R: Wait, T, E: Write, S: Shelf> Stage<'a, R, T, E, S> {
         self.phase() != Phase::Serving
     }
 
-    /// Has the run end, and says so.
+    /// Stops the run, and says so.
     pub(crate) fn stop(&self) {
-        *self.phase.lock(self.office.rt) = Phase::Stopping;
-        let line = format!(in self.office.alloc; "nfsacc: told to stop\n");
-        self.office.desk.lock(self.office.rt).say(line);
+        *self.phase.lock(self.audit.rt) = Phase::Stopping;
+        let line = format!(in self.audit.alloc; "nfsacc: told to stop\n");
+        self.audit.output.lock(self.audit.rt).say(line);
     }
 
     /// Notes that all connections have ended.
     pub(crate) fn end(&self) {
-        *self.phase.lock(self.office.rt) = Phase::Over;
+        *self.phase.lock(self.audit.rt) = Phase::Over;
     }
 }
 
 /// A client that waits for its connection, with its pass at the witness.
 #[derive(Drop)]
-pub(crate) struct Seat {
+pub(crate) struct WaitingClient {
     pub(crate) client: ClientNode,
     pub(crate) pass: Pass,
 }
 
 /// A client whose connection has ended, or that got none.
 #[derive(Drop)]
-pub(crate) struct Ended {
+pub(crate) struct EndedClient {
     pub(crate) client: ClientNode,
     pub(crate) pass: Pass,
     /// The last number of its log that the witness has filed.
     pub(crate) filed: u64,
-    /// What its log showed of others and they had no room for.
+    /// Authenticators of other nodes that its log showed, and for which their books had no room.
     pub(crate) kept: Vec<Authenticator>,
 }
 
-impl Ended {
+impl EndedClient {
     /// A client that got no connection.
-    pub(crate) fn unserved(alloc: Global, seat: Seat) -> Ended {
-        Ended {
-            client: seat.client,
-            pass: seat.pass,
+    pub(crate) fn without_connection(alloc: Global, waiting: WaitingClient) -> EndedClient {
+        EndedClient {
+            client: waiting.client,
+            pass: waiting.pass,
             filed: 0,
             kept: Vec::new(alloc),
         }
@@ -96,26 +96,26 @@ impl Ended {
 
 /// Serves a connection to its end, and audits its client.
 pub(crate) fn serve_connection<'a, R, T, E, S>(
-    stage: Stage<'a, R, T, E, S>,
-    seat: Seat,
+    context: ConnectionContext<'a, R, T, E, S>,
+    waiting: WaitingClient,
     stream: TcpStream,
     address: SocketAddr,
-) -> Ended
+) -> EndedClient
 where
     R: Threads + Wait + Sync,
     T: std::time::Clock,
     E: Write,
     S: Shelf,
 {
-    let Seat { client, pass } = seat;
-    let client = serve_client(stage, client, stream, address);
-    audit_client(stage.office, client, pass)
+    let WaitingClient { client, pass } = waiting;
+    let client = serve_client(context, client, stream, address);
+    audit_client(context.audit, client, pass)
 }
 
-/// Answers a client's records to the end of its stream, and says why that came before its time. Gives the
-/// client back.
+/// Answers a client's records to the end of its stream, and gives the client back. Where the stream fails
+/// first, says why.
 fn serve_client<'a, R, T, E, S>(
-    stage: Stage<'a, R, T, E, S>,
+    context: ConnectionContext<'a, R, T, E, S>,
     client: ClientNode,
     stream: TcpStream,
     address: SocketAddr,
@@ -126,28 +126,28 @@ where
     E: Write,
     S: Shelf,
 {
-    let office = stage.office;
+    let audit = context.audit;
     let number = client.number();
-    // Where it can't be set, replies to calls that follow one another unasked come later, and that is all.
+    // Where it can't be set, replies to pipelined calls come later, and nothing else changes.
     let _ = stream.set_nodelay(true);
-    let mut link = ClientLink::new(office.rt, office.alloc, client, SERVER, stage.server);
-    let served = serve_records(stage, &mut link, &stream);
+    let mut link = ClientLink::new(audit.rt, audit.alloc, client, SERVER, context.server);
+    let served = serve_records(context, &mut link, &stream);
     drop(stream);
-    if let Err(broken) = served {
-        say_broken(office, number, address, broken);
+    if let Err(failure) = served {
+        say_failure(audit, number, address, failure);
     }
     link.into_client()
 }
 
-/// Why a stream came to its end before its time.
+/// Why a stream failed before its end.
 #[derive(Clone, Copy)]
-struct Broken {
+struct StreamFailure {
     fault: StreamFault,
-    /// The error of its device, if it answered one.
+    /// The error that the connection reported, if it did.
     cause: Option<io::Error>,
 }
 
-/// Whether an error is that of a stream which its client has cut.
+/// Whether an error says that the client reset the connection.
 fn is_reset(error: &io::Error) -> bool {
     matches!(
         error.kind(),
@@ -155,7 +155,7 @@ fn is_reset(error: &io::Error) -> bool {
     )
 }
 
-impl fmt::Display for Broken {
+impl fmt::Display for StreamFailure {
     fn fmt<W: fmt::Write>(&self, f: &mut fmt::Formatter<W>) -> fmt::Result {
         let code = self.fault.number();
         match (self.fault, self.cause) {
@@ -168,54 +168,54 @@ impl fmt::Display for Broken {
     }
 }
 
-/// Says why a stream came to its end before its time.
-fn say_broken<R, E, S>(
-    office: Office<'_, R, E, S>,
+/// Says why a stream failed.
+fn say_failure<R, E, S>(
+    audit: AuditContext<'_, R, E, S>,
     number: u32,
     address: SocketAddr,
-    broken: Broken,
+    failure: StreamFailure,
 )
 where
     R: Wait,
     E: Write,
     S: Shelf,
 {
-    if let StreamFault::NoMemory = broken.fault {
-        office.desk.lock(office.rt).note_no_memory();
+    if let StreamFault::NoMemory = failure.fault {
+        audit.output.lock(audit.rt).note_no_memory();
     }
-    let line = format!(in office.alloc; "nfsacc: node {number} ({address}): {broken}\n");
-    office.desk.lock(office.rt).say(line);
+    let line = format!(in audit.alloc; "nfsacc: node {number} ({address}): {failure}\n");
+    audit.output.lock(audit.rt).say(line);
 }
 
 /// Answers the records of a stream to its end.
 fn serve_records<'a, R, T, E, S>(
-    stage: Stage<'a, R, T, E, S>,
+    context: ConnectionContext<'a, R, T, E, S>,
     link: &mut ClientLink<'_, R>,
     stream: &TcpStream,
-) -> Result<(), Broken>
+) -> Result<(), StreamFailure>
 where
     R: Threads + Wait + Sync,
     T: std::time::Clock,
     E: Write,
     S: Shelf,
 {
-    let Office { rt, alloc, .. } = stage.office;
-    let patience = Patience::new(stage.idle, stage.control.is_some());
-    patience.set(stream);
-    let input = ClientStream::new(rt, stream, stage.phase, patience);
+    let AuditContext { rt, alloc, .. } = context.audit;
+    let timeouts = Timeouts::new(context.idle, context.control.is_some());
+    timeouts.set(stream);
+    let input = ClientStream::new(rt, stream, context.phase, timeouts);
     let Ok(input) = BufReader::with_capacity(alloc, READ_AHEAD, input) else {
-        return Err(Broken {
+        return Err(StreamFailure {
             fault: StreamFault::NoMemory,
             cause: None,
         });
     };
     let mut reader = RecordReader::new(Counting::new(input));
-    let mut writer = Counting::new(ClientStream::new(rt, stream, stage.phase, patience));
-    let mut clock = SystemClock::new(stage.clock);
+    let mut writer = Counting::new(ClientStream::new(rt, stream, context.phase, timeouts));
+    let mut clock = SystemClock::new(context.clock);
     let mut gateway = Gateway::new();
     match gateway.serve_stream(alloc, link, &mut clock, &mut reader, &mut writer) {
         Ok(_) => Ok(()),
-        Err(fault) => Err(Broken {
+        Err(fault) => Err(StreamFailure {
             fault,
             cause: reader
                 .get_ref()
@@ -228,13 +228,17 @@ where
 }
 
 /// Audits a client to its last signed entry.
-fn audit_client<'a, R, E, S>(office: Office<'a, R, E, S>, client: ClientNode, pass: Pass) -> Ended
+fn audit_client<'a, R, E, S>(
+    audit: AuditContext<'a, R, E, S>,
+    client: ClientNode,
+    pass: Pass,
+) -> EndedClient
 where
     R: Threads + Wait + Sync,
     E: Write,
     S: Shelf,
 {
-    let mut auditor = Auditor::new(office, pass);
+    let mut auditor = Auditor::new(audit, pass);
     let mut filed = 0;
     if auditor
         .audit(client.number(), client.node(), &mut filed)
@@ -243,7 +247,7 @@ where
         auditor.note_no_memory();
     }
     let Audits { pass, kept } = auditor.into_audits();
-    Ended {
+    EndedClient {
         client,
         pass,
         filed,

@@ -33,7 +33,7 @@ impl<'a, R: Wait> Model for ClientLink<'a, R> {
 }
 
 impl<'a, R: Wait> ClientLink<'a, R> {
-    /// A link of a client to the server of a number, `to`, that lies under a lock.
+    /// A link of a client to the server numbered `to`, which lies under a lock.
     pub(crate) fn new(
         rt: &'a R,
         alloc: Global,
@@ -48,7 +48,7 @@ impl<'a, R: Wait> ClientLink<'a, R> {
         }
     }
 
-    /// Gives the client back, as it is now, also after a fault.
+    /// The client as it is now, also after a fault.
     pub(crate) fn into_client(self) -> ClientNode
         ensures { result ≡ self.entry.client }
     {

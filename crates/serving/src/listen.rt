@@ -2,7 +2,7 @@
 
 ghost use Rattle.std.specs.Prelude.{◌≡◌, ◌+◌, ◌≤◌, vec_len, vec_capacity};
 
-use crate::connection::{Ended, Seat, Stage, serve_connection};
+use crate::connection::{ConnectionContext, EndedClient, WaitingClient, serve_connection};
 use crate::control::attend;
 use auditing::Shelf;
 use std::alloc::AllocError;
@@ -16,18 +16,18 @@ use std::time::Duration;
 /// How many milliseconds a listener waits that can give no connection for now.
 const PAUSE: u64 = 50;
 
-/// What the system says where it has too many open files (23), the program has (24), or the system lacks
-/// memory (12) or room for buffers (105): no connection is accepted for now.
+/// The error numbers of a shortage, in which no connection is accepted for now: too many open files in the
+/// system (23) or in the program (24), no memory (12), no room for buffers (105).
 const SHORTAGES: [i32; 4] = [23, 24, 12, 105];
 
-/// A connection that a thread serves, or one whose end has come.
+/// A connection that a thread serves, or one that has ended.
 #[derive(Drop)]
-enum Started {
-    Running(JoinHandle<Ended>),
-    Over(Ended),
+enum Connection {
+    Running(JoinHandle<EndedClient>),
+    Ended(EndedClient),
 }
 
-/// Whether an error of `accept` is that of a connection which came to nothing before it was accepted.
+/// Whether an error of `accept` says that a connection was aborted before it was accepted.
 fn is_of_connection(error: &io::Error) -> bool {
     matches!(
         error.kind(),
@@ -47,11 +47,11 @@ fn is_shortage(error: &io::Error) -> bool {
     }
 }
 
-/// Accepts the next connection: none once the run is to end, or where none is accepted any more, which is
-/// said. One that came to nothing before it was accepted is none. Where the system lacks files or memory for
-/// one, that is said once, and it is waited for.
+/// Accepts the next connection: none once the run is to end, or where the listener fails, which is said. A
+/// connection that was aborted before it was accepted isn't counted. Where the system lacks files or memory,
+/// that is said once, and `accept` is tried again until there is a connection.
 fn accept<'a, R, T, L, E, S>(
-    stage: Stage<'a, R, T, E, S>,
+    context: ConnectionContext<'a, R, T, E, S>,
     listener: &L,
 ) -> Option<(TcpStream, SocketAddr)>
 where
@@ -63,22 +63,22 @@ where
 {
     let mut is_short = false;
     for _ in 0..u64::MAX {
-        if stage.is_stopping() {
+        if context.is_stopping() {
             return None;
         }
         match listener.accept() {
             Ok(connection) => return Some(connection),
             Err(error) if is_of_connection(&error) => {}
-            Err(error) if error.kind() == io::ErrorKind::WouldBlock => pause(stage),
+            Err(error) if error.kind() == io::ErrorKind::WouldBlock => pause(context),
             Err(error) if is_shortage(&error) => {
                 if !is_short {
-                    say_shortage(stage, &error);
+                    say_shortage(context, &error);
                 }
                 is_short = true;
-                pause(stage);
+                pause(context);
             }
             Err(error) => {
-                say_refused(stage, &error);
+                say_refused(context, &error);
                 return None;
             }
         }
@@ -87,43 +87,43 @@ where
 }
 
 /// Waits a moment.
-fn pause<'a, R, T: std::time::Clock, E, S>(stage: Stage<'a, R, T, E, S>) {
-    stage.clock.sleep(Duration::from_millis(PAUSE));
+fn pause<'a, R, T: std::time::Clock, E, S>(context: ConnectionContext<'a, R, T, E, S>) {
+    context.clock.sleep(Duration::from_millis(PAUSE));
 }
 
 /// Says that no connection is accepted for now.
-fn say_shortage<'a, R, T, E, S>(stage: Stage<'a, R, T, E, S>, error: &io::Error)
+fn say_shortage<'a, R, T, E, S>(context: ConnectionContext<'a, R, T, E, S>, error: &io::Error)
 where
     R: Wait,
     E: Write,
     S: Shelf,
 {
-    let office = stage.office;
-    let line = format!(in office.alloc; "nfsacc: no connection is accepted for now: {error}\n");
-    office.desk.lock(office.rt).say(line);
+    let audit = context.audit;
+    let line = format!(in audit.alloc; "nfsacc: no connection is accepted for now: {error}\n");
+    audit.output.lock(audit.rt).say(line);
 }
 
 /// Says that no connection is accepted any more.
-fn say_refused<'a, R, T, E, S>(stage: Stage<'a, R, T, E, S>, error: &io::Error)
+fn say_refused<'a, R, T, E, S>(context: ConnectionContext<'a, R, T, E, S>, error: &io::Error)
 where
     R: Wait,
     E: Write,
     S: Shelf,
 {
-    let office = stage.office;
-    let line = format!(in office.alloc; "nfsacc: no connection is accepted: {error}\n");
-    office.desk.lock(office.rt).say_trouble(line);
+    let audit = context.audit;
+    let line = format!(in audit.alloc; "nfsacc: no connection is accepted: {error}\n");
+    audit.output.lock(audit.rt).say_trouble(line);
 }
 
-/// Serves as many connections as there are seats, each by a thread of its own, in the order of the seats.
-/// Where no thread is made a connection is served before the next one is accepted. Once each seat has one, or
-/// none is accepted any more, the listener is closed, so that who comes then is refused. A seat for which none
-/// was accepted stays without one.
+/// Serves a connection for each waiting client, in their order, each by a thread of its own. If a thread can't
+/// be spawned, the connection is served before the next one is accepted. Once each client has a connection, or
+/// none is accepted any more, the listener is closed, so that later connections are refused. A client for which
+/// none was accepted ends without one.
 pub(crate) fn serve_all<'a, R, T, L, E, S>(
-    stage: Stage<'a, R, T, E, S>,
+    context: ConnectionContext<'a, R, T, E, S>,
     listener: L,
-    seats: Vec<Seat>,
-) -> Result<Vec<Ended>, AllocError>
+    clients: Vec<WaitingClient>,
+) -> Result<Vec<EndedClient>, AllocError>
 where
     R: Threads + Wait + Sync,
     T: std::time::Clock + Sync,
@@ -133,18 +133,18 @@ where
 {
     thread::scope(
         thread::scope_env(),
-        stage.office.rt,
-        |scope| serve_in(stage, listener, seats, scope),
+        context.audit.rt,
+        |scope| serve_in(context, listener, clients, scope),
     )
 }
 
 /// As `serve_all`, in a scope.
 fn serve_in<'s, V, R, T, L, E, S>(
-    stage: Stage<'s, R, T, E, S>,
+    context: ConnectionContext<'s, R, T, E, S>,
     listener: L,
-    seats: Vec<Seat>,
+    clients: Vec<WaitingClient>,
     scope: &Scope<'s, V>,
-) -> Result<Vec<Ended>, AllocError>
+) -> Result<Vec<EndedClient>, AllocError>
 where
     R: Threads + Wait + Sync,
     T: std::time::Clock + Sync,
@@ -152,23 +152,23 @@ where
     E: Write + Send,
     S: Shelf + Send,
 {
-    let count = seats.len();
-    let all = Vec::with_capacity(stage.office.alloc, count)?;
-    let started = Vec::with_capacity(stage.office.alloc, count)?;
-    let attendant = watch(stage, &listener, scope);
-    let started = start_all(stage, listener, seats, started, scope);
-    let all = end_all(stage.office.rt, started, all);
-    stage.end();
+    let count = clients.len();
+    let all = Vec::with_capacity(context.audit.alloc, count)?;
+    let connections = Vec::with_capacity(context.audit.alloc, count)?;
+    let attendant = watch(context, &listener, scope);
+    let connections = start_all(context, listener, clients, connections, scope);
+    let all = end_all(context.audit.rt, connections, all);
+    context.end();
     if let Some(handle) = attendant {
-        handle.join(stage.office.rt);
+        handle.join(context.audit.rt);
     }
     Ok(all)
 }
 
-/// Starts a thread at the control socket, if there is one. The listener then gives way to a look at whether
-/// the run is to end. Where no thread is made, that is said.
+/// Starts a thread that waits at the control socket, if there is one. The listener no longer blocks then, so
+/// that `accept` sees when the run is to end. If a thread can't be spawned, that is said.
 fn watch<'s, V, R, T, L, E, S>(
-    stage: Stage<'s, R, T, E, S>,
+    context: ConnectionContext<'s, R, T, E, S>,
     listener: &L,
     scope: &Scope<'s, V>,
 ) -> Option<JoinHandle<()>>
@@ -179,63 +179,67 @@ where
     E: Write + Send,
     S: Shelf + Send,
 {
-    let control = stage.control?;
+    let control = context.control?;
     let _ = listener.set_nonblocking(true);
-    let run = move || attend(stage, control);
+    let run = move || attend(context, control);
     match scope.spawn(run) {
         Ok(handle) => Some(handle),
         Err(_) => {
-            let office = stage.office;
-            let line = format!(in office.alloc; "nfsacc: nobody attends to the control socket\n");
-            office.desk.lock(office.rt).say_trouble(line);
+            let audit = context.audit;
+            let line = format!(in audit.alloc; "nfsacc: nobody attends to the control socket\n");
+            audit.output.lock(audit.rt).say_trouble(line);
             None
         }
     }
 }
 
-/// Accepts a connection for each seat, and starts its thread. Closes the listener then.
+/// Accepts a connection for each client, and starts its thread. Closes the listener then.
 fn start_all<'s, V, R, T, L, E, S>(
-    stage: Stage<'s, R, T, E, S>,
+    context: ConnectionContext<'s, R, T, E, S>,
     listener: L,
-    seats: Vec<Seat>,
-    started: Vec<Started>,
+    clients: Vec<WaitingClient>,
+    connections: Vec<Connection>,
     scope: &Scope<'s, V>,
-) -> Vec<Started>
+) -> Vec<Connection>
 where
     R: Threads + Wait + Sync,
     T: std::time::Clock + Sync,
     L: OpenListener<Stream = TcpStream> + Drop,
     E: Write + Send,
     S: Shelf + Send,
-    requires empty { vec_len started ≡ 0 }
-    requires room { vec_len seats ≤ vec_capacity started }
-    ensures { vec_len result ≤ vec_len seats }
+    requires empty { vec_len connections ≡ 0 }
+    requires room { vec_len clients ≤ vec_capacity connections }
+    ensures { vec_len result ≤ vec_len clients }
 {
-    let count = seats.len();
-    let mut left = seats;
+    let count = clients.len();
+    let mut left = clients;
     left.reverse();
-    let mut started = started;
+    let mut connections = connections;
     let mut listening = true;
     for place in 0..count {
-        let Some(seat) = left.pop() else {
+        let Some(client) = left.pop() else {
             break;
         };
         let next = if listening {
-            accept(stage, &listener)
+            accept(context, &listener)
         } else {
             None
         };
         listening = next.is_some();
-        started.push_reserved(start(stage, seat, next, scope));
+        connections.push_reserved(start(context, client, next, scope));
     }
-    started
+    connections
 }
 
-/// Waits for the end of each connection, and gives them in the order in which they were started.
-fn end_all<R: Threads + Wait>(rt: &R, started: Vec<Started>, room: Vec<Ended>) -> Vec<Ended>
-    requires { vec_len room + vec_len started ≤ vec_capacity room }
+/// Waits for the end of each connection. The clients come back in the order in which they were started.
+fn end_all<R: Threads + Wait>(
+    rt: &R,
+    connections: Vec<Connection>,
+    room: Vec<EndedClient>,
+) -> Vec<EndedClient>
+    requires { vec_len room + vec_len connections ≤ vec_capacity room }
 {
-    let mut left = started;
+    let mut left = connections;
     let mut all = room;
     while let Some(one) = left.pop() {
         all.push_reserved(end_of(rt, one));
@@ -245,20 +249,20 @@ fn end_all<R: Threads + Wait>(rt: &R, started: Vec<Started>, room: Vec<Ended>) -
 }
 
 /// Waits for the end of a connection.
-fn end_of<R: Threads + Wait>(rt: &R, started: Started) -> Ended {
-    match started {
-        Started::Running(handle) => handle.join(rt),
-        Started::Over(ended) => ended,
+fn end_of<R: Threads + Wait>(rt: &R, connection: Connection) -> EndedClient {
+    match connection {
+        Connection::Running(handle) => handle.join(rt),
+        Connection::Ended(ended) => ended,
     }
 }
 
-/// Starts the thread of a seat's connection, if it has one.
+/// Starts the thread of a client's connection, if it has one.
 fn start<'s, V, R, T, E, S>(
-    stage: Stage<'s, R, T, E, S>,
-    seat: Seat,
+    context: ConnectionContext<'s, R, T, E, S>,
+    client: WaitingClient,
     next: Option<(TcpStream, SocketAddr)>,
     scope: &Scope<'s, V>,
-) -> Started
+) -> Connection
 where
     R: Threads + Wait + Sync,
     T: std::time::Clock + Sync,
@@ -266,11 +270,11 @@ where
     S: Shelf + Send,
 {
     let Some((stream, address)) = next else {
-        return Started::Over(Ended::unserved(stage.office.alloc, seat));
+        return Connection::Ended(EndedClient::without_connection(context.audit.alloc, client));
     };
-    let run = move || serve_connection(stage, seat, stream, address);
+    let run = move || serve_connection(context, client, stream, address);
     match scope.spawn(run) {
-        Ok(handle) => Started::Running(handle),
-        Err(refused) => Started::Over((refused.value)()),
+        Ok(handle) => Connection::Running(handle),
+        Err(refused) => Connection::Ended((refused.value)()),
     }
 }

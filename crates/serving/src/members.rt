@@ -6,7 +6,7 @@ ghost use Rattle.serving.specs.Orders.{IsOrder};
 
 use crate::order::Order;
 use crate::run::ServeFault;
-use auditing::{Desk, Shelf};
+use auditing::{AuditOutput, Shelf};
 use authenticator::{Kind, Member, Roster};
 use node_keys::KeyedNode;
 use nodes::{ClientNode, HonestServer};
@@ -14,7 +14,7 @@ use std::alloc::{AllocError, Global};
 use std::io::Write;
 use std::thread::Threads;
 
-/// The number of the server. The clients have those after it.
+/// The number of the server. The clients have the numbers after it.
 pub(crate) const SERVER: u32 = 1;
 
 /// The nodes of a run: a server and its clients, by rising numbers.
@@ -25,7 +25,7 @@ pub(crate) struct Nodes {
     pub(crate) clients: Vec<ClientNode>,
 }
 
-/// Makes a node's keys, and tells of it.
+/// Makes a node's keys, and says so where progress is to be told.
 fn make_keys<R: Threads + Sync, E: Write, S: Shelf>(
     rt: &R,
     alloc: Global,
@@ -33,7 +33,7 @@ fn make_keys<R: Threads + Sync, E: Write, S: Shelf>(
     number: u32,
     kind: Kind,
     height: u32,
-    desk: &mut Desk<E, S>,
+    output: &mut AuditOutput<E, S>,
 ) -> Result<KeyedNode, AllocError>
     requires some { 1 ≤ height }
     requires low { height ≤ 15 }
@@ -47,7 +47,7 @@ fn make_keys<R: Threads + Sync, E: Write, S: Shelf>(
     let keyed = KeyedNode::make(rt, alloc, order.masters, number, kind, height)?;
     if order.progress {
         let keys = 1u32 << height;
-        desk.say(format!(in alloc; "nfsacc: node {number}: {keys} keys made\n"));
+        output.say(format!(in alloc; "nfsacc: node {number}: {keys} keys made\n"));
     }
     Ok(keyed)
 }
@@ -57,7 +57,7 @@ pub(crate) fn make_nodes<R: Threads + Sync, E: Write, S: Shelf>(
     rt: &R,
     alloc: Global,
     order: &Order<'_>,
-    desk: &mut Desk<E, S>,
+    output: &mut AuditOutput<E, S>,
 ) -> Result<Nodes, ServeFault>
     requires { IsOrder order.now }
 {
@@ -68,9 +68,9 @@ pub(crate) fn make_nodes<R: Threads + Sync, E: Write, S: Shelf>(
         SERVER,
         Kind::Server,
         order.heights.server,
-        desk,
+        output,
     )?;
-    match client_keys(rt, alloc, order, desk) {
+    match client_keys(rt, alloc, order, output) {
         Ok(clients) => nodes_of(alloc, server, clients),
         Err(AllocError) => Err(ServeFault::NoMemory),
     }
@@ -81,7 +81,7 @@ fn client_keys<R: Threads + Sync, E: Write, S: Shelf>(
     rt: &R,
     alloc: Global,
     order: &Order<'_>,
-    desk: &mut Desk<E, S>,
+    output: &mut AuditOutput<E, S>,
 ) -> Result<Vec<KeyedNode>, AllocError>
     requires { IsOrder order.now }
 {
@@ -89,7 +89,7 @@ fn client_keys<R: Threads + Sync, E: Write, S: Shelf>(
     for place in 0..order.connections {
         let number = SERVER + 1 + place;
         let height = order.heights.client;
-        clients.push(make_keys(rt, alloc, order, number, Kind::Client, height, desk)?)?;
+        clients.push(make_keys(rt, alloc, order, number, Kind::Client, height, output)?)?;
     }
     Ok(clients)
 }
@@ -129,12 +129,11 @@ fn roster_of(
 /// The server, made with a roster.
 fn server_of(alloc: Global, roster: &Roster, keyed: KeyedNode) -> Result<HonestServer, ServeFault> {
     let roster = roster.try_clone(alloc)?;
-    made(HonestServer::new(keyed.make_node(alloc, roster)?))
+    or_no_memory(HonestServer::new(keyed.make_node(alloc, roster)?))
 }
 
-/// What was made. Its type is a parameter, and so is that of what comes back where it wasn't, so that the
-/// proof knows nothing of what they own.
-fn made<T: Drop, E: Drop>(outcome: Result<T, E>) -> Result<T, ServeFault> {
+/// What was made, or `NoMemory`. The types are parameters, so that the proof knows nothing of what they own.
+fn or_no_memory<T: Drop, E: Drop>(outcome: Result<T, E>) -> Result<T, ServeFault> {
     match outcome {
         Ok(value) => Ok(value),
         Err(_) => Err(ServeFault::NoMemory),

@@ -1,10 +1,10 @@
-//! What a run of the service is asked.
+//! The order for a run of the service.
 
 use node_keys::Masters;
 use std::os::unix::net::UnixListener;
 
-/// The heights of the trees of keys: so many keys as 2 to the height. A call takes two keys of its
-/// client, and two of the server.
+/// The heights of the trees of keys: a tree of height n has 2^n keys. A call takes two keys of its client, and
+/// two of the server.
 #[derive(Clone, Copy, Debug, PartialEq, Eq)]
 pub struct Heights {
     /// The server's, from 1 to 15.
@@ -13,7 +13,7 @@ pub struct Heights {
     pub client: u32,
 }
 
-/// What a run of the service is asked.
+/// The order for a run of the service.
 #[derive(Clone, Copy, Debug)]
 pub struct Order<'a> {
     /// How many connections are served, from 1 to 16: each is a client of its own.
@@ -26,10 +26,10 @@ pub struct Order<'a> {
     pub roster_out: Option<&'a str>,
     /// The name of the folder that evidence goes to, if one is named.
     pub evidence: Option<&'a str>,
-    /// Whether it is told how far the keys and the audits are.
+    /// Whether progress on keys and audits is told.
     pub progress: bool,
     /// How many seconds a connection may be silent, from 1 to 86,400; any number where none is given.
     pub idle: Option<u32>,
-    /// The socket at whose word the run comes to its end, if there is one.
+    /// The control socket, by which the run can be told to stop, if there is one.
     pub control: Option<&'a UnixListener>,
 }

@@ -4,22 +4,22 @@ ghost use Rattle.std.specs.Prelude.{◌≡◌, All, IfOk, IfSome, IsOk, IsTrue, 
 ghost use Rattle.std.specs.Io.KnownBytes.{Appends};
 ghost use Rattle.std.specs.List.{flat_map};
 ghost use Rattle.serving.specs.auditing.Accounts.{HasAccount};
-ghost use Rattle.serving.specs.auditing.Desks.{IsShown};
+ghost use Rattle.serving.specs.auditing.AuditOutputs.{IsShown};
 ghost use Rattle.serving.specs.auditing.Lines.{report_line};
 ghost use Rattle.auditing.specs.declared.trouble.Trouble.TheVariants as troubles;
 ghost use Rattle.serving.specs.Orders.{IsOrder};
 ghost use Rattle.serving.specs.Runs.{AreAccounted, IsReported, WritesLines, listening_line};
 ghost use Rattle.serving.specs.witness_calls.Closing.{IsOneRun};
 
-use crate::connection::{Ended, Seat, Stage};
+use crate::connection::{ConnectionContext, EndedClient, WaitingClient};
 use crate::listen::serve_all;
 use crate::members::{Nodes, SERVER, make_nodes};
 use crate::order::Order;
 use crate::phase::Phase;
 use auditing::{
-    Auditor, Closed, Desk, LineFault, NodeReport, Office, Pass, ReceiptFault, Shelf, Standing,
-    Trouble, WitnessService, are_forwarded, close, final_reports, has_account, open_witness,
-    put_evidence, write_reports, write_text,
+    AuditContext, AuditOutput, Auditor, Closed, LineFault, LogToAudit, NodeReport, Pass,
+    ReceiptFault, Shelf, Trouble, WitnessService, are_forwarded, close, final_reports, has_account,
+    open_witness, put_evidence, write_reports, write_text,
 };
 use authenticator::Roster;
 use nodes::{ClientNode, HonestServer, ServerNode};
@@ -37,11 +37,11 @@ pub struct Finished<S> {
     pub server: ServerNode,
     /// The clients, with their logs, by rising numbers.
     pub clients: Vec<ClientNode>,
-    /// The witness's journal, where what it answered stands once in it, and no other step does.
+    /// The witness's closed journal, where it holds each answer that was given once, and no other step.
     pub closed: Result<Closed, ReceiptFault>,
-    /// What the witness said of each node in the end, and so the lines: none where it was not closed.
+    /// The witness's last answers about each node, as the lines print them: none where it was not closed.
     pub reports: Vec<NodeReport>,
-    /// Whether each file could be put in its place, and each connection was accepted.
+    /// Whether each file was put in its place, and each connection was accepted.
     pub whole: bool,
     /// Where the files were put.
     pub shelf: S,
@@ -58,10 +58,10 @@ pub enum ServeFault {
     Listener(io::Error),
     /// The file of the roster could not be put in its place.
     Roster(io::Error),
-    /// The lines were written, but the witness's journal doesn't show that everybody was audited: somebody who
-    /// is called trusted wasn't audited to the last signed entry, though nothing was refused; or what a log
-    /// showed of others wasn't handed on; or its last places aren't the answers that the lines say, and then
-    /// no line was written.
+    /// The witness's journal doesn't show that everybody was audited. Either a node that is called trusted
+    /// wasn't audited to its last signed entry, though nothing was refused, or what a log showed of others
+    /// wasn't handed on: then the lines were written. Or the journal's last places don't answer for each node:
+    /// then no line was written.
     Unaudited,
 }
 
@@ -86,33 +86,33 @@ impl From<LineFault> for ServeFault {
     }
 }
 
-/// What a run has once all keys are made.
+/// A run whose keys are made and whose witness is open.
 #[derive(Drop)]
-struct Ready {
+struct PreparedRun {
     roster: Roster,
     server: HonestServer,
-    seating: Seating,
+    witness: WitnessAndClients,
 }
 
-/// The witness of a run, and those who have a pass there.
+/// The witness of a run, and the clients that have a pass there.
 #[derive(Drop)]
-struct Seating {
+struct WitnessAndClients {
     service: WitnessService,
-    seats: Vec<Seat>,
+    clients: Vec<WaitingClient>,
     /// The pass by which everybody is audited in the end.
     last: Pass,
 }
 
-/// What came of the connections.
+/// The server, and the clients whose connections have ended.
 #[derive(Drop)]
-struct Served {
+struct ServedClients {
     server: ServerNode,
-    ended: Vec<Ended>,
+    ended: Vec<EndedClient>,
 }
 
 /// The nodes and the passes of a run whose connections have ended.
 #[derive(Drop)]
-struct Parts {
+struct NodesAndPasses {
     server: ServerNode,
     clients: Vec<ClientNode>,
     passes: Vec<Pass>,
@@ -120,16 +120,16 @@ struct Parts {
 
 /// The nodes of a run whose witness is closed.
 #[derive(Drop)]
-struct Played {
+struct AuditedRun {
     server: ServerNode,
     clients: Vec<ClientNode>,
     closed: Result<Closed, ReceiptFault>,
 }
 
-/// Serves connections, and audits everybody. The listener is closed once so many connections as are served
-/// were accepted, or none is accepted any more. The lines go to `writer`: in the end one for each node, of what
-/// the last places of the closed witness's journal say of it. What is said beside them is written to `errors`,
-/// and the files are put on the shelf: in the end the evidence of each report, where a folder is named for it.
+/// Serves COUNT connections, then audits the server and every client. The listener is closed once all
+/// connections were accepted, or none is accepted any more. The lines go to `writer`: at the end one for each
+/// node, as the last places of the closed witness's journal answer for it. Other messages go to `errors`. Files
+/// are put on `shelf`: at the end the evidence of each report, if the order names a folder for it.
 pub fn serve<R, T, L, O, E, S>(
     rt: &R,
     alloc: Global,
@@ -157,12 +157,12 @@ where
         IfOk f.closed (λ c. All (IsShown (S.files f.shelf) folder.now c.roster) f.reports.items))) }
 {
     let port = port_of(&listener)?;
-    let mut desk = Desk::new(alloc, errors, shelf, folder_of(alloc, order)?);
-    let ready = prepare(rt, alloc, order, &mut desk)?;
-    let ready = kept(ready, announce(alloc, writer, port))?;
-    let desk = Mutex::new(desk);
-    let played = play(rt, alloc, listener, clock, &desk, order, ready)?;
-    conclude(alloc, writer, desk.into_inner(), order.evidence, played)
+    let mut output = AuditOutput::new(alloc, errors, shelf, folder_of(alloc, order)?);
+    let prepared = prepare(rt, alloc, order, &mut output)?;
+    let prepared = when_done(prepared, announce(alloc, writer, port))?;
+    let output = Mutex::new(output);
+    let audited = serve_and_audit(rt, alloc, listener, clock, &output, order, prepared)?;
+    conclude(alloc, writer, output.into_inner(), order.evidence, audited)
 }
 
 /// Writes the lines of a run whose witness is closed, and puts the evidence in its place, where a folder is
@@ -170,11 +170,11 @@ where
 fn conclude<O: Write, E: Write + Drop, S: Shelf + Drop>(
     alloc: Global,
     writer: &mut O,
-    mut desk: Desk<E, S>,
+    mut output: AuditOutput<E, S>,
     folder: Option<&str>,
-    played: Played,
+    audited: AuditedRun,
 ) -> Result<Finished<S>, ServeFault>
-    ensures run { IfOk result (λ f. f.closed ≡ played.closed) }
+    ensures run { IfOk result (λ f. f.closed ≡ audited.closed) }
     ensures reported { IfOk result (λ f. IfOk f.closed (λ c.
         IsReported c f.server f.clients.items f.reports.items)) }
     ensures lines { IfOk result (λ f. Appends (O.contents writer.old) (O.contents writer.new)
@@ -182,37 +182,37 @@ fn conclude<O: Write, E: Write + Drop, S: Shelf + Drop>(
     ensures evidence { IfOk result (λ f. IsTrue f.whole → IfSome folder.entry (λ name.
         IfOk f.closed (λ c. All (IsShown (S.files f.shelf) name.now c.roster) f.reports.items))) }
 {
-    match reports_of(alloc, writer, &mut desk, folder, &played) {
-        Ok(reports) => Ok(finished_of(played, desk, reports)),
+    match reports_of(alloc, writer, &mut output, folder, &audited) {
+        Ok(reports) => Ok(finished_of(audited, output, reports)),
         Err(fault) => Err(fault),
     }
 }
 
 /// A run that came to its end.
 fn finished_of<E: Drop, S>(
-    played: Played,
-    desk: Desk<E, S>,
+    audited: AuditedRun,
+    output: AuditOutput<E, S>,
     reports: Vec<NodeReport>,
 ) -> Finished<S>
-    ensures server { result.server ≡ played.server }
-    ensures clients { result.clients ≡ played.clients }
-    ensures closed { result.closed ≡ played.closed }
+    ensures server { result.server ≡ audited.server }
+    ensures clients { result.clients ≡ audited.clients }
+    ensures closed { result.closed ≡ audited.closed }
     ensures reports { result.reports ≡ reports }
-    ensures whole { IsTrue result.whole → desk.trouble ≡ troubles.None }
-    ensures shelf { result.shelf ≡ desk.shelf }
+    ensures whole { IsTrue result.whole → output.trouble ≡ troubles.None }
+    ensures shelf { result.shelf ≡ output.shelf }
 {
-    let Played {
+    let AuditedRun {
         server,
         clients,
         closed,
-    } = played;
+    } = audited;
     Finished {
         server,
         clients,
         closed,
         reports,
-        whole: desk.trouble() == Trouble::None,
-        shelf: desk.into_shelf(),
+        whole: output.trouble() == Trouble::None,
+        shelf: output.into_shelf(),
     }
 }
 
@@ -224,54 +224,54 @@ fn port_of<L: OpenListener<Stream = TcpStream>>(listener: &L) -> Result<u16, Ser
     }
 }
 
-/// What the closed witness said of each node in the end: its lines are written, the evidence is put in its
-/// place, where a folder is named for it, and the journal shows that everybody was audited. None where the
-/// witness wasn't closed.
+/// The closed witness's last answers about each node: the lines are written, the evidence is put in its place
+/// if a folder is named for it, and the journal shows that everybody was audited. None where the witness
+/// wasn't closed.
 fn reports_of<O: Write, E: Write, S: Shelf>(
     alloc: Global,
     writer: &mut O,
-    desk: &mut Desk<E, S>,
+    output: &mut AuditOutput<E, S>,
     folder: Option<&str>,
-    played: &Played,
+    audited: &AuditedRun,
 ) -> Result<Vec<NodeReport>, ServeFault>
-    ensures reported { IfOk result (λ rs. IfOk played.now.closed (λ c.
-        IsReported c played.now.server played.now.clients.items rs.items)) }
+    ensures reported { IfOk result (λ rs. IfOk audited.now.closed (λ c.
+        IsReported c audited.now.server audited.now.clients.items rs.items)) }
     ensures lines { IfOk result (λ rs. Appends (O.contents writer.old) (O.contents writer.new)
         (flat_map report_line rs.items)) }
-    ensures evidence { IfOk result (λ rs. desk.new.trouble ≡ troubles.None → IfSome folder.entry (λ name.
-        IfOk played.now.closed (λ c. All (IsShown (S.files desk.new.shelf) name.now c.roster) rs.items))) }
+    ensures evidence { IfOk result (λ rs. output.new.trouble ≡ troubles.None → IfSome folder.entry (λ name.
+        IfOk audited.now.closed (λ c. All (IsShown (S.files output.new.shelf) name.now c.roster) rs.items))) }
 {
-    match &played.closed {
-        Ok(closed) => closed_reports(alloc, writer, desk, folder, closed, played),
+    match &audited.closed {
+        Ok(closed) => closed_reports(alloc, writer, output, folder, closed, audited),
         Err(_) => Ok(Vec::new(alloc)),
     }
 }
 
-/// What the closed witness said of each node in the end.
+/// The closed witness's last answers about each node.
 fn closed_reports<O: Write, E: Write, S: Shelf>(
     alloc: Global,
     writer: &mut O,
-    desk: &mut Desk<E, S>,
+    output: &mut AuditOutput<E, S>,
     folder: Option<&str>,
     closed: &Closed,
-    played: &Played,
+    audited: &AuditedRun,
 ) -> Result<Vec<NodeReport>, ServeFault>
     ensures reported { IfOk result (λ rs.
-        IsReported closed.now played.now.server played.now.clients.items rs.items) }
+        IsReported closed.now audited.now.server audited.now.clients.items rs.items) }
     ensures lines { IfOk result (λ rs. Appends (O.contents writer.old) (O.contents writer.new)
         (flat_map report_line rs.items)) }
-    ensures evidence { IfOk result (λ rs. desk.new.trouble ≡ troubles.None → IfSome folder.entry (λ name.
-        All (IsShown (S.files desk.new.shelf) name.now closed.now.roster) rs.items)) }
+    ensures evidence { IfOk result (λ rs. output.new.trouble ≡ troubles.None → IfSome folder.entry (λ name.
+        All (IsShown (S.files output.new.shelf) name.now closed.now.roster) rs.items)) }
 {
     let Some(reports) = final_reports(alloc, &closed.journal)? else {
         return Err(ServeFault::Unaudited);
     };
     write_reports(alloc, writer, &reports)?;
-    put_named(desk, folder, &closed.roster, &reports);
-    if desk.trouble() == Trouble::NoMemory {
+    put_evidence_in(output, folder, &closed.roster, &reports);
+    if output.trouble() == Trouble::NoMemory {
         return Err(ServeFault::NoMemory);
     }
-    if is_reported(closed, &played.server, &played.clients, &reports) {
+    if is_reported(closed, &audited.server, &audited.clients, &reports) {
         Ok(reports)
     } else {
         Err(ServeFault::Unaudited)
@@ -279,17 +279,17 @@ fn closed_reports<O: Write, E: Write, S: Shelf>(
 }
 
 /// Puts the evidence of each report in its place, where a folder is named for it.
-fn put_named<E: Write, S: Shelf>(
-    desk: &mut Desk<E, S>,
+fn put_evidence_in<E: Write, S: Shelf>(
+    output: &mut AuditOutput<E, S>,
     folder: Option<&str>,
     roster: &Roster,
     reports: &[NodeReport],
 )
-    ensures { desk.new.trouble ≡ troubles.None → IfSome folder.entry (λ name.
-        All (IsShown (S.files desk.new.shelf) name.now roster.now) reports.now) }
+    ensures { output.new.trouble ≡ troubles.None → IfSome folder.entry (λ name.
+        All (IsShown (S.files output.new.shelf) name.now roster.now) reports.now) }
 {
     if let Some(folder) = folder {
-        put_evidence(desk, folder, roster, reports);
+        put_evidence(output, folder, roster, reports);
     }
 }
 
@@ -333,18 +333,18 @@ fn prepare<R: Threads + Sync, E: Write, S: Shelf>(
     rt: &R,
     alloc: Global,
     order: &Order<'_>,
-    desk: &mut Desk<E, S>,
-) -> Result<Ready, ServeFault>
+    output: &mut AuditOutput<E, S>,
+) -> Result<PreparedRun, ServeFault>
     requires { IsOrder order.now }
 {
-    let nodes = make_nodes(rt, alloc, order, desk)?;
-    let put = put_roster(alloc, desk, order, &nodes.roster);
-    ready_of(alloc, kept(nodes, put)?)
+    let nodes = make_nodes(rt, alloc, order, output)?;
+    let put = put_roster(alloc, output, order, &nodes.roster);
+    prepared_run(alloc, when_done(nodes, put)?)
 }
 
-/// A value, where what was to be done beside it is done. Its type is a parameter, so that the proof knows
+/// A value, if what had to be done beside it was done. Its type is a parameter, so that the proof knows
 /// nothing of what it owns.
-fn kept<T: Drop>(value: T, done: Result<(), ServeFault>) -> Result<T, ServeFault>
+fn when_done<T: Drop>(value: T, done: Result<(), ServeFault>) -> Result<T, ServeFault>
     ensures value { IfOk result (λ v. v ≡ value) }
     ensures done { IfOk result (λ _. IsOk done) }
 {
@@ -354,26 +354,26 @@ fn kept<T: Drop>(value: T, done: Result<(), ServeFault>) -> Result<T, ServeFault
     }
 }
 
-/// What a run has whose nodes are made.
-fn ready_of(alloc: Global, nodes: Nodes) -> Result<Ready, ServeFault> {
+/// A run whose nodes are made: its witness is opened.
+fn prepared_run(alloc: Global, nodes: Nodes) -> Result<PreparedRun, ServeFault> {
     let Nodes {
         roster,
         server,
         clients,
     } = nodes;
-    let seating = seating_of(alloc, &roster, clients);
-    match paired(server, seating) {
-        Ok((server, seating)) => Ok(Ready {
+    let witness = open_with_passes(alloc, &roster, clients);
+    match with_made(server, witness) {
+        Ok((server, witness)) => Ok(PreparedRun {
             roster,
             server,
-            seating,
+            witness,
         }),
         Err(AllocError) => Err(ServeFault::NoMemory),
     }
 }
 
-/// A value with what was made beside it, if it was. Their types are parameters, as in `kept`.
-fn paired<T: Drop, U: Drop, E: Drop>(value: T, made: Result<U, E>) -> Result<(T, U), E> {
+/// A value with what was made beside it, if it could be made. Their types are parameters, as in `when_done`.
+fn with_made<T: Drop, U: Drop, E: Drop>(value: T, made: Result<U, E>) -> Result<(T, U), E> {
     match made {
         Ok(other) => Ok((value, other)),
         Err(error) => Err(error),
@@ -381,19 +381,19 @@ fn paired<T: Drop, U: Drop, E: Drop>(value: T, made: Result<U, E>) -> Result<(T,
 }
 
 /// Opens the witness, and gives each client a pass there.
-fn seating_of(
+fn open_with_passes(
     alloc: Global,
     roster: &Roster,
     clients: Vec<ClientNode>,
-) -> Result<Seating, AllocError> {
+) -> Result<WitnessAndClients, AllocError> {
     let (service, mut passes) = open_witness(alloc, roster, clients.len() + 1)?;
     let Some(last) = passes.pop() else {
         return Err(AllocError);
     };
-    let seats = seats_of(alloc, clients, passes)?;
-    Ok(Seating {
+    let clients = waiting_clients(alloc, clients, passes)?;
+    Ok(WitnessAndClients {
         service,
-        seats,
+        clients,
         last,
     })
 }
@@ -410,7 +410,7 @@ fn announce<O: Write>(alloc: Global, writer: &mut O, port: u16) -> Result<(), Se
 /// Puts the file of a roster in its place, if one is named.
 fn put_roster<E: Write, S: Shelf>(
     alloc: Global,
-    desk: &mut Desk<E, S>,
+    output: &mut AuditOutput<E, S>,
     order: &Order<'_>,
     roster: &Roster,
 ) -> Result<(), ServeFault> {
@@ -419,35 +419,35 @@ fn put_roster<E: Write, S: Shelf>(
     };
     let mut text = Vec::new(alloc);
     roster.write(&mut text)?;
-    match desk.put(name, &text) {
+    match output.put(name, &text) {
         Ok(()) => Ok(()),
         Err(error) => Err(ServeFault::Roster(error)),
     }
 }
 
 /// Each client with a pass.
-fn seats_of(
+fn waiting_clients(
     alloc: Global,
     clients: Vec<ClientNode>,
     passes: Vec<Pass>,
-) -> Result<Vec<Seat>, AllocError> {
+) -> Result<Vec<WaitingClient>, AllocError> {
     clients
         .into_iter()
         .zip(passes)
-        .map(|(client, pass)| Seat { client, pass })
+        .map(|(client, pass)| WaitingClient { client, pass })
         .collect(alloc)
 }
 
-/// Serves the connections, audits everybody, asks what the witness says of each, and closes it.
-fn play<R, T, L, E, S>(
+/// Serves the connections, audits everybody, asks the witness about each node, and closes it.
+fn serve_and_audit<R, T, L, E, S>(
     rt: &R,
     alloc: Global,
     listener: L,
     clock: &T,
-    desk: &Mutex<Desk<E, S>>,
+    output: &Mutex<AuditOutput<E, S>>,
     order: &Order<'_>,
-    ready: Ready,
-) -> Result<Played, ServeFault>
+    prepared: PreparedRun,
+) -> Result<AuditedRun, ServeFault>
 where
     R: Threads + Wait + Sync,
     T: std::time::Clock + Sync,
@@ -456,28 +456,28 @@ where
     S: Shelf + Send,
     ensures { IfOk result (λ p. IfOk p.closed IsOneRun) }
 {
-    let Ready {
+    let PreparedRun {
         roster,
         server,
-        seating,
-    } = ready;
-    let Seating {
+        witness,
+    } = prepared;
+    let WitnessAndClients {
         service,
-        seats,
+        clients,
         last,
-    } = seating;
-    let office = Office {
+    } = witness;
+    let audit = AuditContext {
         rt,
         alloc,
         service: &service,
         roster: &roster,
-        desk,
+        output,
         progress: order.progress,
     };
-    let served = serve_seats(office, listener, clock, order, server, seats)?;
-    let parts = finish(office, last, served)?;
+    let served = serve_clients(audit, listener, clock, order, server, clients)?;
+    let parts = finish(audit, last, served)?;
     let closed = close(service, parts.passes);
-    Ok(Played {
+    Ok(AuditedRun {
         server: parts.server,
         clients: parts.clients,
         closed,
@@ -485,14 +485,14 @@ where
 }
 
 /// Serves the connections.
-fn serve_seats<R, T, L, E, S>(
-    office: Office<'_, R, E, S>,
+fn serve_clients<R, T, L, E, S>(
+    audit: AuditContext<'_, R, E, S>,
     listener: L,
     clock: &T,
     order: &Order<'_>,
     server: HonestServer,
-    seats: Vec<Seat>,
-) -> Result<Served, AllocError>
+    clients: Vec<WaitingClient>,
+) -> Result<ServedClients, AllocError>
 where
     R: Threads + Wait + Sync,
     T: std::time::Clock + Sync,
@@ -502,97 +502,104 @@ where
 {
     let server = Mutex::new(server);
     let phase = Mutex::new(Phase::Serving);
-    let stage = Stage {
-        office,
+    let context = ConnectionContext {
+        audit,
         clock,
         server: &server,
         phase: &phase,
         idle: order.idle,
         control: order.control,
     };
-    let ended = serve_all(stage, listener, seats)?;
-    Ok(Served {
+    let ended = serve_all(context, listener, clients)?;
+    Ok(ServedClients {
         server: server.into_inner().into_server(),
         ended,
     })
 }
 
-/// Audits everybody by a pass, and asks what the witness says of each.
+/// Audits everybody by a pass, and asks the witness about each node.
 fn finish<R, E, S>(
-    office: Office<'_, R, E, S>,
+    audit: AuditContext<'_, R, E, S>,
     last: Pass,
-    served: Served,
-) -> Result<Parts, ServeFault>
+    served: ServedClients,
+) -> Result<NodesAndPasses, ServeFault>
 where
     R: Threads + Wait + Sync,
     E: Write,
     S: Shelf,
 {
-    let asked = ask(office, last, &served);
-    match paired(served, asked) {
-        Ok((served, last)) => parts_of(office.alloc, served, last),
+    let asked = audit_by(audit, last, &served);
+    match with_made(served, asked) {
+        Ok((served, last)) => nodes_and_passes(audit.alloc, served, last),
         Err(AllocError) => Err(ServeFault::NoMemory),
     }
 }
 
-/// Audits everybody by a pass, which comes back, and asks what the witness says of each.
-fn ask<R, E, S>(
-    office: Office<'_, R, E, S>,
+/// Audits everybody by a pass, which comes back, and asks the witness about each node.
+fn audit_by<R, E, S>(
+    audit: AuditContext<'_, R, E, S>,
     last: Pass,
-    served: &Served,
+    served: &ServedClients,
 ) -> Result<Pass, AllocError>
 where
     R: Threads + Wait + Sync,
     E: Write,
     S: Shelf,
 {
-    let mut auditor = Auditor::new(office, last);
-    match ask_by(&mut auditor, served) {
+    let mut auditor = Auditor::new(audit, last);
+    match audit_and_ask(&mut auditor, served) {
         Ok(()) => Ok(auditor.into_audits().pass),
         Err(AllocError) => Err(AllocError),
     }
 }
 
-/// Audits everybody to the last signed entry, and asks what the witness says of each.
-fn ask_by<R, E, S>(auditor: &mut Auditor<'_, R, E, S>, served: &Served) -> Result<(), AllocError>
+/// Audits everybody to the last signed entry, and asks the witness about each node.
+fn audit_and_ask<R, E, S>(
+    auditor: &mut Auditor<'_, R, E, S>,
+    served: &ServedClients,
+) -> Result<(), AllocError>
 where
     R: Threads + Wait + Sync,
     E: Write,
     S: Shelf,
 {
-    let standings = served.standings(auditor.alloc())?;
-    auditor.finish(&standings);
+    let logs = served.logs_to_audit(auditor.alloc())?;
+    auditor.finish(&logs);
     for one in &served.ended {
         auditor.learn_kept(&one.kept);
     }
-    auditor.ask_all(&standings)
+    auditor.ask_all(&logs)
 }
 
-impl Served {
-    /// How far the log of each node was filed, the server first.
-    fn standings(&self, alloc: Global) -> Result<Vec<Standing<'_>>, AllocError> {
-        let mut standings = Vec::with_capacity(alloc, self.ended.len() + 1)?;
-        standings.push(Standing {
+impl ServedClients {
+    /// The log of each node, and how far it was filed, the server first.
+    fn logs_to_audit(&self, alloc: Global) -> Result<Vec<LogToAudit<'_>>, AllocError> {
+        let mut logs = Vec::with_capacity(alloc, self.ended.len() + 1)?;
+        logs.push(LogToAudit {
             number: SERVER,
             log: self.server.node(),
             filed: 0,
         })?;
         for one in &self.ended {
-            standings.push(Standing {
+            logs.push(LogToAudit {
                 number: one.client.number(),
                 log: one.client.node(),
                 filed: one.filed,
             })?;
         }
-        Ok(standings)
+        Ok(logs)
     }
 }
 
-/// The nodes that were served, and all passes, of which one is the last.
-fn parts_of(alloc: Global, served: Served, last: Pass) -> Result<Parts, ServeFault> {
-    let Served { server, ended } = served;
-    match paired(server, parted(alloc, ended, last)) {
-        Ok((server, (clients, passes))) => Ok(Parts {
+/// The nodes that were served, and all passes, with one more.
+fn nodes_and_passes(
+    alloc: Global,
+    served: ServedClients,
+    last: Pass,
+) -> Result<NodesAndPasses, ServeFault> {
+    let ServedClients { server, ended } = served;
+    match with_made(server, clients_and_passes(alloc, ended, last)) {
+        Ok((server, (clients, passes))) => Ok(NodesAndPasses {
             server,
             clients,
             passes,
@@ -602,9 +609,9 @@ fn parts_of(alloc: Global, served: Served, last: Pass) -> Result<Parts, ServeFau
 }
 
 /// The clients, and their passes with one more.
-fn parted(
+fn clients_and_passes(
     alloc: Global,
-    ended: Vec<Ended>,
+    ended: Vec<EndedClient>,
     last: Pass,
 ) -> Result<(Vec<ClientNode>, Vec<Pass>), AllocError> {
     let (clients, mut passes): (Vec<ClientNode>, Vec<Pass>) = ended

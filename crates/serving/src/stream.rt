@@ -6,72 +6,72 @@ use std::net::TcpStream;
 use std::sync::{Mutex, Wait};
 use std::time::Duration;
 
-/// How many milliseconds a read or a write of a run that may be told to end waits between two looks.
+/// How many milliseconds a read or a write waits at once, in a run that can be told to stop.
 const LOOK: u64 = 250;
 
-/// So many looks in a second.
+/// How many such waits there are in a second.
 const LOOKS_OF_A_SECOND: u64 = 4;
 
-/// How many looks a write has in all once the run is to end: ten seconds.
+/// How many such waits a write has once the run is to end: ten seconds.
 const LAST_LOOKS: u64 = 40;
 
-/// How long a stream waits for bytes, and for room for bytes.
+/// How long a stream waits for bytes to read, and for room to write.
 #[derive(Clone, Copy)]
-pub(crate) struct Patience {
-    /// How long the system waits at once, if not for ever.
+pub(crate) struct Timeouts {
+    /// How long the system waits at once; for ever if none is given.
     wait: Option<Duration>,
-    /// How often it waits so long.
+    /// How many times it waits so long.
     turns: u64,
 }
 
-impl Patience {
-    /// That of a run whose connections may be silent for so many seconds, if a number is given. Where it may be
-    /// told to end, it looks for that now and then.
-    pub(crate) fn new(idle: Option<u32>, has_control: bool) -> Patience {
+impl Timeouts {
+    /// The timeouts of a run whose connections may be silent for `idle` seconds, or for ever if none is given.
+    /// Where the run can be told to stop, the stream looks for that four times a second.
+    pub(crate) fn new(idle: Option<u32>, has_control: bool) -> Timeouts {
         let seconds = idle.map(u64::from);
         if has_control {
-            return Patience {
+            return Timeouts {
                 wait: Some(Duration::from_millis(LOOK)),
                 turns: seconds.map_or(u64::MAX, |s| s.saturating_mul(LOOKS_OF_A_SECOND)),
             };
         }
-        Patience {
+        Timeouts {
             wait: seconds.map(Duration::from_secs),
             turns: 1,
         }
     }
 
-    /// Has the system wait so long at a stream. Where that can't be set it waits for ever.
+    /// Sets the timeouts of a stream. Where they can't be set it waits for ever.
     pub(crate) fn set(self, stream: &TcpStream) {
         let _ = stream.set_read_timeout(self.wait);
         let _ = stream.set_write_timeout(self.wait);
     }
 }
 
-/// A client's stream. A read that nothing came for in its time, and each read once the run is to end, finds
-/// the end of the stream. It keeps the last error of a read or a write.
+/// A client's stream. A read that times out finds the end of the stream, as does each read once the run is to
+/// end. The last error of a read or a write is kept.
 #[derive(Drop)]
 pub(crate) struct ClientStream<'a, R> {
     rt: &'a R,
     stream: &'a TcpStream,
     phase: &'a Mutex<Phase>,
-    patience: Patience,
+    timeouts: Timeouts,
     last: Option<io::Error>,
 }
 
 impl<'a, R: Wait> ClientStream<'a, R> {
-    /// A stream of a run that is in this phase, with the patience that was set for it.
+    /// A stream of a run in this phase, with the timeouts that were set for it.
     pub(crate) fn new(
         rt: &'a R,
         stream: &'a TcpStream,
         phase: &'a Mutex<Phase>,
-        patience: Patience,
+        timeouts: Timeouts,
     ) -> ClientStream<'a, R> {
         ClientStream {
             rt,
             stream,
             phase,
-            patience,
+            timeouts,
             last: None,
         }
     }
@@ -86,7 +86,7 @@ impl<'a, R: Wait> ClientStream<'a, R> {
         *self.phase.lock(self.rt) != Phase::Serving
     }
 
-    /// Keeps an error, and gives it.
+    /// Keeps an error, and returns it.
     fn noted(&mut self, error: io::Error) -> io::Error {
         self.last = Some(error);
         error
@@ -104,7 +104,7 @@ impl<'a, R: Wait> Read for ClientStream<'a, R> {
                 Err(error) if error.kind() != io::ErrorKind::WouldBlock => {
                     return Err(self.noted(error));
                 }
-                Err(_) if turn >= self.patience.turns => return Ok(0),
+                Err(_) if turn >= self.timeouts.turns => return Ok(0),
                 Err(_) => {}
             }
         }
@@ -120,7 +120,7 @@ impl<'a, R: Wait> Write for ClientStream<'a, R> {
                 Err(error) if error.kind() != io::ErrorKind::WouldBlock => {
                     return Err(self.noted(error));
                 }
-                Err(_) if turn >= self.patience.turns => break,
+                Err(_) if turn >= self.timeouts.turns => break,
                 Err(_) if turn >= LAST_LOOKS && self.is_stopping() => break,
                 Err(_) => {}
             }

@@ -1,6 +1,6 @@
 use Rattle.std.proofs.Common.{◌∙◌}
 use Rattle.auditing.proofs.Putting.{evidence-put}
-use Rattle.auditing.proofs.desk.Desk.put_evidence.Goals as goal
+use Rattle.auditing.proofs.output.AuditOutput.put_evidence.Goals as goal
 
 pub returns-in-Ok-clause-put : goal.returns-in-Ok-clause-put
 returns-in-Ok-clause-put g c h =

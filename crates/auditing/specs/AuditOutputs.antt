@@ -1,4 +1,4 @@
--- What a desk has: where files go, the folder for evidence, and what went wrong; and what is put there.
+-- The output of audits: where files go, the folder for evidence, what went wrong; and what is put there.
 use Rattle.std.specs.Prelude.{◌≡◌, ℕ, List, ◌++◌, Option, IfSome, codes, decimal}
 use Rattle.std.specs.Arc.{arc_value}
 use Rattle.xdr.specs.Item.{spelling}
@@ -11,8 +11,8 @@ use Rattle.witness_reports.specs.declared.report.NodeReport.{NodeReport}
 use Rattle.auditing.specs.declared.trouble.Trouble.{Trouble}
 use Rattle.auditing.specs.declared.trouble.Trouble.TheVariants.{None}
 
--- What a caller sees of a desk.
-pub record DeskParts (S : Type 0) : Type 0 where
+-- What a caller sees of it.
+pub record AuditOutputParts (S : Type 0) : Type 0 where
   -- where files are put
   pub shelf : S
   -- the name of the folder that evidence goes to, if one is named
@@ -36,9 +36,9 @@ WasEvidencePut files folder ms node e = WasPut files (evidence_name folder node)
 abbrev pub IsShown : Option Files → (folder : List ℕ) → List Member → NodeReport → Type 0
 IsShown files folder ms r = IfSome r.evidence (λ e. WasEvidencePut files folder ms r.node (arc_value e))
 
--- What is put at a desk leaves its folder, and what was put before. Where nothing has gone wrong after
--- it, nothing had before.
-pub record Goes {S : Type 0} (files : S → Option Files) (old new : DeskParts S) : Type 0 where
+-- A step keeps the folder and what was put before. Where nothing has gone wrong after it, nothing had
+-- before.
+pub record Goes {S : Type 0} (files : S → Option Files) (old new : AuditOutputParts S) : Type 0 where
   pub folder : new.folder ≡ old.folder
   pub calm : new.trouble ≡ None → old.trouble ≡ None
   pub kept : KeepsPut (files old.shelf) (files new.shelf)

@@ -1,6 +1,6 @@
 use Rattle.std.proofs.Common.{refl}
 use Rattle.auditing.proofs.Putting.{kept-by}
-use Rattle.auditing.proofs.desk.Desk.put.Goals as goal
+use Rattle.auditing.proofs.output.AuditOutput.put.Goals as goal
 
 pub returns-clause-goes : goal.returns-clause-goes
 returns-clause-goes g c =

@@ -1,5 +1,5 @@
 use Rattle.std.proofs.Common.{refl}
-use Rattle.auditing.proofs.desk.Desk.note_device.Goals as goal
+use Rattle.auditing.proofs.output.AuditOutput.note_device.Goals as goal
 
 pub returns-clause-goes : goal.returns-clause-goes
 returns-clause-goes g c =

@@ -1,7 +1,7 @@
 //! What a run says beside its lines, and the files that it leaves: one thread at a time.
 
 ghost use Rattle.std.specs.Prelude.{◌≡◌, ◌≢◌, IfOk, OnOk, option_map, string_bytes};
-ghost use Rattle.auditing.specs.Desks.{Goes, WasEvidencePut, evidence_name, evidence_text};
+ghost use Rattle.auditing.specs.AuditOutputs.{Goes, WasEvidencePut, evidence_name, evidence_text};
 ghost use Rattle.auditing.specs.declared.trouble.Trouble.TheVariants as troubles;
 ghost use Rattle.witness_calls.specs.Shelves.{Puts};
 
@@ -17,7 +17,7 @@ use witness_reports::NodeReport;
 
 /// Where the threads of a run say what isn't one of its lines, and put evidence: it lies under a lock.
 #[derive(Drop)]
-pub struct Desk<E, S> {
+pub struct AuditOutput<E, S> {
     alloc: Global,
     errors: E,
     shelf: S,
@@ -27,11 +27,11 @@ pub struct Desk<E, S> {
     trouble: Trouble,
 }
 
-impl<E, S> Model for Desk<E, S> {
+impl<E, S> Model for AuditOutput<E, S> {
     ghost use Rattle.std.specs.Prelude.{option_map, string_bytes};
-    ghost use Rattle.auditing.specs.Desks.{DeskParts};
+    ghost use Rattle.auditing.specs.AuditOutputs.{AuditOutputParts};
 
-    ghost Value = { DeskParts S };
+    ghost Value = { AuditOutputParts S };
 
     ghost view = { λ d. record {
       shelf = d.shelf;
@@ -40,7 +40,7 @@ impl<E, S> Model for Desk<E, S> {
     } };
 }
 
-impl<E, S> Desk<E, S> {
+impl<E, S> AuditOutput<E, S> {
     /// What went wrong so far.
     pub fn trouble(&self) -> Trouble
         ensures { result ≡ self.now.trouble }
@@ -49,25 +49,25 @@ impl<E, S> Desk<E, S> {
     }
 }
 
-impl<E: Drop, S> Desk<E, S> {
+impl<E: Drop, S> AuditOutput<E, S> {
     /// The shelf, with what was put there.
     pub fn into_shelf(self) -> S
         ensures { result ≡ self.shelf }
     {
-        let Desk { shelf, .. } = self;
+        let AuditOutput { shelf, .. } = self;
         shelf
     }
 }
 
-impl<E: Write, S: Shelf> Desk<E, S> {
-    /// A desk at which nothing was said yet. What is said is written to `errors`, files are put on the shelf,
+impl<E: Write, S: Shelf> AuditOutput<E, S> {
+    /// An output to which nothing was said yet. Messages are written to `errors`, files are put on the shelf,
     /// and evidence in the folder there, if one is named.
-    pub fn new(alloc: Global, errors: E, shelf: S, folder: Option<String>) -> Desk<E, S>
+    pub fn new(alloc: Global, errors: E, shelf: S, folder: Option<String>) -> AuditOutput<E, S>
         ensures shelf { result.shelf ≡ shelf }
         ensures folder { result.folder ≡ option_map string_bytes folder }
         ensures calm { result.trouble ≡ troubles.None }
     {
-        Desk {
+        AuditOutput {
             alloc,
             errors,
             shelf,
