@@ -56,28 +56,18 @@ IsOutside (Some text) = (a : IpAddr) × IsIpText text a × (¬ (IsLoopback a))
 -- the order that it makes
 pub record Orders (r : ServeRequest) (o : ServeOrder) : Type 0 where
   pub port : Writes 0 65535 r.port.now o.port
-  pub connections : Writes 1 16 r.count.now o.connections
-  pub server : WritesOr 1 15 12 (option_map (λ s. s.now) r.server_height) o.server_height
-  pub client : WritesOr 1 15 10 (option_map (λ s. s.now) r.client_height) o.client_height
+  pub connections : Writes 1 16 r.count.now o.options.connections
+  pub server : WritesOr 1 15 12 (option_map (λ s. s.now) r.server_height) o.options.heights.server
+  pub client : WritesOr 1 15 10 (option_map (λ s. s.now) r.client_height) o.options.heights.client
   pub address : IfSome r.address (λ text. IsIpText text.now o.address)
   pub own : r.address ≡ None → IsLocalhost o.address
   pub guarded : ¬ (IsLoopback o.address) → IsSome r.master
   pub master : o.master ≡ r.master
-  pub roster_out : o.roster_out ≡ r.roster_out
-  pub evidence : o.evidence ≡ r.evidence
+  pub roster_out : o.options.roster_out ≡ r.roster_out
+  pub evidence : o.options.evidence ≡ r.evidence
   pub control : o.control ≡ r.control
-  pub idle : WritesIf 1 86400 (option_map (λ s. s.now) r.idle) o.idle
-  pub progress : o.progress ≡ r.progress
-
--- its numbers are within their bounds
-pub record IsBounded (o : ServeOrder) : Type 0 where
-  pub some : 1 ≤ o.connections
-  pub most : o.connections ≤ 16
-  pub server_some : 1 ≤ o.server_height
-  pub server_most : o.server_height ≤ 15
-  pub client_some : 1 ≤ o.client_height
-  pub client_most : o.client_height ≤ 15
-  pub idle : IfSome o.idle (λ seconds. (1 ≤ seconds) × (seconds ≤ 86400))
+  pub idle : WritesIf 1 86400 (option_map (λ s. s.now) r.idle) o.options.idle
+  pub progress : o.options.progress ≡ r.progress
 
 -- an option isn't given, or its word is a number from the one to the other
 abbrev pub IsWithinOr : ℕ → ℕ → Option Text → Type 0

@@ -4,11 +4,13 @@ ghost use Rattle.std.specs.Prelude.{◌≡◌, ◌↔◌, ◌≤◌, IsTrue, IfE
 ghost use Rattle.std.specs.Prelude.{None, true, false, option_map};
 ghost use Rattle.std.specs.Str.Parse.{IsNumeral, digits_value};
 ghost use Rattle.std.specs.Net.Grammar.{IsIpText};
-ghost use Rattle.command_line.specs.ServeOrders.{HasNumbers, IsBounded, IsLocalhost, IsLoopback, IsNotWithin};
+ghost use Rattle.serve_options.specs.Options.{AreServeOptions};
+ghost use Rattle.command_line.specs.ServeOrders.{HasNumbers, IsLocalhost, IsLoopback, IsNotWithin};
 ghost use Rattle.command_line.specs.ServeOrders.{IsWithin, IsWithinOr, Orders, Refuses};
 ghost use Rattle.command_line.specs.ServeOrders.{Writes, WritesIf, WritesOr};
 
 use crate::serve::ServeRequest;
+use serve_options::{Heights, ServeOptions};
 use std::net::{IpAddr, Ipv4Addr};
 use thiserror::Error;
 
@@ -17,27 +19,15 @@ use thiserror::Error;
 pub struct ServeOrder<'a> {
     /// The port that is listened on; 0 lets the system choose.
     pub port: u16,
-    /// How many connections are served, 1 to 16.
-    pub connections: u32,
     /// The address that is listened on; 127.0.0.1 where none is named.
     pub address: IpAddr,
-    /// The height of the server's tree of keys, 1 to 15; 12 where none is named.
-    pub server_height: u32,
-    /// The height of each client's tree of keys, 1 to 15; 10 where none is named.
-    pub client_height: u32,
     /// The name of the file with the secret bytes of which all keys are made. There is one unless the address
     /// is a loopback one: without it anybody can sign for each node.
     pub master: Option<&'a str>,
-    /// The name of the file that the roster's text goes to, if one is named.
-    pub roster_out: Option<&'a str>,
-    /// The name of the folder that evidence goes to, if one is named.
-    pub evidence: Option<&'a str>,
     /// The name of the folder that the control socket is made in, if one is named.
     pub control: Option<&'a str>,
-    /// How many seconds a connection may be silent, 1 to 86,400; any number where none is given.
-    pub idle: Option<u32>,
-    /// Whether it is told how far the keys and the audits are.
-    pub progress: bool,
+    /// The options of the run.
+    pub options: ServeOptions<'a>,
 }
 
 /// Why what `serve` is asked makes no order.
@@ -157,7 +147,7 @@ fn is_guarded(address: &IpAddr, master: Option<&str>) -> bool
 /// bytes is named.
 pub fn serve_order<'a>(request: &ServeRequest<'a>) -> Result<ServeOrder<'a>, ServeRefusal>
     ensures order { IfOk result (Orders request.now) }
-    ensures bounds { IfOk result IsBounded }
+    ensures bounds { IfOk result (λ order. AreServeOptions order.options) }
     ensures refused { IfErr result (Refuses request.now) }
 {
     let port = number_within(request.port, 0, 65535).ok_or(ServeRefusal::Port)?;
@@ -167,15 +157,19 @@ pub fn serve_order<'a>(request: &ServeRequest<'a>) -> Result<ServeOrder<'a>, Ser
     let idle = idle_of(request.idle)?;
     Ok(ServeOrder {
         port: port as u16,
-        connections,
         address: address_of(request)?,
-        server_height,
-        client_height,
         master: request.master,
-        roster_out: request.roster_out,
-        evidence: request.evidence,
         control: request.control,
-        idle,
-        progress: request.progress,
+        options: ServeOptions {
+            connections,
+            heights: Heights {
+                server: server_height,
+                client: client_height,
+            },
+            roster_out: request.roster_out,
+            evidence: request.evidence,
+            progress: request.progress,
+            idle,
+        },
     })
 }

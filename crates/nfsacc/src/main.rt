@@ -235,7 +235,7 @@ fn main(rt: HostRuntime) -> ExitCode {
                     let socket = control.as_ref().map(|control| &control.listener);
                     let asked = order_of(&order, masters, socket);
                     let mut lines = Remembering::new(io::writer(&rt));
-                    let errors = TimedErrors::new(&rt, alloc, order.progress);
+                    let errors = TimedErrors::new(&rt, alloc, order.options.progress);
                     let shelf = FileShelf::new(&rt, alloc);
                     let served = serve(
                         &rt, alloc, listener, &rt, &mut lines, errors, shelf, &asked,

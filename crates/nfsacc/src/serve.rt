@@ -2,8 +2,6 @@
 
 ghost use Rattle.std.specs.Prelude.{◌≡◌, ◌≢◌, ◌⊎◌, true, false, IsOk, IsErr, IfOk, IfErr};
 ghost use Rattle.std.specs.declared.io.Error.{Error};
-ghost use Rattle.command_line.specs.ServeOrders.{IsBounded};
-ghost use Rattle.serving.specs.Orders.{IsOrder};
 
 use crate::control::{Control, ControlFault};
 use crate::master::{MasterFault, read_master};
@@ -12,7 +10,7 @@ use crate::{
     COMMAND_LINE, DEVICE, INPUT_FAULT, STANDARD_INPUT, report_file, report_no_memory, report_output,
 };
 use command_line::ServeOrder;
-use serving::{Finished, Heights, Masters, Order, ServeFault};
+use serving::{Finished, Masters, Order, ServeFault};
 use shown_names::ShownName;
 use std::fs::File;
 use std::net::{Net, SocketAddr, TcpListener, TcpStream};
@@ -54,7 +52,7 @@ where
             Err(fault) => return Err(report_master(rt, name, &fault)),
         },
     };
-    if let Some(name) = order.evidence {
+    if let Some(name) = order.options.evidence {
         if let Err(error) = try_folder(rt, name) {
             return Err(report_file(rt, name, &error));
         }
@@ -104,34 +102,19 @@ fn nothing<R: Files<File = File>>(rt: &R) -> Option<File> {
     fs::open(rt, NOTHING).ok()
 }
 
-/// What a run is asked.
+/// The order for a run: its options, and what was opened for it.
 pub fn order_of<'a>(
     order: &ServeOrder<'a>,
     masters: Masters,
     control: Option<&'a UnixListener>,
 ) -> Order<'a>
-    requires { IsBounded order.now }
-    ensures order { IsOrder result }
-    ensures connections { result.connections ≡ order.now.connections }
-    ensures heights { (result.heights.server ≡ order.now.server_height)
-        × (result.heights.client ≡ order.now.client_height) }
+    ensures options { result.options ≡ order.now.options }
     ensures masters { result.masters ≡ masters }
-    ensures files { (result.roster_out ≡ order.now.roster_out) × (result.evidence ≡ order.now.evidence) }
-    ensures progress { result.progress ≡ order.now.progress }
-    ensures idle { result.idle ≡ order.now.idle }
     ensures control { result.control ≡ control.entry }
 {
     Order {
-        connections: order.connections,
-        heights: Heights {
-            server: order.server_height,
-            client: order.client_height,
-        },
+        options: order.options,
         masters,
-        roster_out: order.roster_out,
-        evidence: order.evidence,
-        progress: order.progress,
-        idle: order.idle,
         control,
     }
 }
@@ -228,7 +211,7 @@ fn report_fault(
             let _ = eprintln!(rt; "nfsacc: {error}");
             DEVICE
         }
-        ServeFault::Roster(error) => report_file(rt, order.roster_out.unwrap_or(""), error),
+        ServeFault::Roster(error) => report_file(rt, order.options.roster_out.unwrap_or(""), error),
         ServeFault::Unaudited => {
             let _ = rt.eprintln(
                 "nfsacc: the witness's journal does not show that everybody was audited",

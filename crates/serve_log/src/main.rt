@@ -7,13 +7,13 @@
 #![tactic(auto)]
 
 ghost use Rattle.std.specs.Prelude.{◌<◌, IfOk};
-ghost use Rattle.serving.specs.Orders.{IsOrder};
+ghost use Rattle.serve_options.specs.Options.{AreServeOptions};
 
 use anyhow::{Context, Result, bail, ensure};
 use nfs_items::Time;
 use secure_log::log_entries::Entry;
 use service::Service;
-use serving::{Heights, Masters, Order, ServeFault, Shelf, serve};
+use serving::{Heights, Masters, Order, ServeFault, ServeOptions, Shelf, serve};
 use std::alloc::Global;
 use std::io::Write;
 use std::net::{IpAddr, Ipv4Addr, SocketAddr, TcpListener};
@@ -173,19 +173,21 @@ fn number(words: &[String], place: usize, limit: u32) -> Result<u32>
 
 /// What a run is asked.
 fn order_of(words: &[String]) -> Result<Order<'static>>
-    ensures { IfOk result (λ order. IsOrder order) }
+    ensures { IfOk result (λ order. AreServeOptions order.options) }
 {
     let server = number(words, 1, HIGHEST + 1)?;
     let client = number(words, 2, HIGHEST + 1)?;
     ensure!(server > 0 && client > 0, "no height");
     Ok(Order {
-        connections: CLIENTS,
-        heights: Heights { server, client },
+        options: ServeOptions {
+            connections: CLIENTS,
+            heights: Heights { server, client },
+            roster_out: None,
+            evidence: None,
+            progress: false,
+            idle: None,
+        },
         masters: Masters::Known,
-        roster_out: None,
-        evidence: None,
-        progress: false,
-        idle: None,
         control: None,
     })
 }

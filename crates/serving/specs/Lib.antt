@@ -1,5 +1,4 @@
 pub mod Links
-pub mod Orders
 pub mod Runs
 pub use Rattle.witness_calls.specs as witness_calls
 pub use Rattle.nodes.specs as nodes

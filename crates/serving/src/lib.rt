@@ -17,6 +17,7 @@ pub use auditing::NodeReport;
 pub use clock::SystemClock;
 pub use node_keys::Masters;
 pub use nodes::{ClientNode, ServerNode};
-pub use order::{Heights, Order};
+pub use order::Order;
 pub use run::{Finished, ServeFault, serve};
+pub use serve_options::{Heights, ServeOptions};
 pub use witness_calls::{Closed, ReceiptFault, Shelf};

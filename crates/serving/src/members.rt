@@ -2,7 +2,7 @@
 
 ghost use Rattle.std.specs.Prelude.{◌≡◌, ◌≤◌, IfOk};
 ghost use Rattle.node_keys.specs.Masters.{master_of};
-ghost use Rattle.serving.specs.Orders.{IsOrder};
+ghost use Rattle.serve_options.specs.Options.{AreServeOptions};
 
 use crate::order::Order;
 use crate::run::ServeFault;
@@ -45,7 +45,7 @@ fn make_keys<R: Threads + Sync, E: Write, S: Shelf>(
     }) }
 {
     let keyed = KeyedNode::make(rt, alloc, order.masters, number, kind, height)?;
-    if order.progress {
+    if order.options.progress {
         let keys = 1u32 << height;
         output.say(format!(in alloc; "nfsacc: node {number}: {keys} keys made\n"));
     }
@@ -59,7 +59,7 @@ pub(crate) fn make_nodes<R: Threads + Sync, E: Write, S: Shelf>(
     order: &Order<'_>,
     output: &mut AuditOutput<E, S>,
 ) -> Result<Nodes, ServeFault>
-    requires { IsOrder order.now }
+    requires { AreServeOptions order.now.options }
 {
     let server = make_keys(
         rt,
@@ -67,7 +67,7 @@ pub(crate) fn make_nodes<R: Threads + Sync, E: Write, S: Shelf>(
         order,
         SERVER,
         Kind::Server,
-        order.heights.server,
+        order.options.heights.server,
         output,
     )?;
     match client_keys(rt, alloc, order, output) {
@@ -83,12 +83,12 @@ fn client_keys<R: Threads + Sync, E: Write, S: Shelf>(
     order: &Order<'_>,
     output: &mut AuditOutput<E, S>,
 ) -> Result<Vec<KeyedNode>, AllocError>
-    requires { IsOrder order.now }
+    requires { AreServeOptions order.now.options }
 {
-    let mut clients = Vec::with_capacity(alloc, order.connections as usize)?;
-    for place in 0..order.connections {
+    let mut clients = Vec::with_capacity(alloc, order.options.connections as usize)?;
+    for place in 0..order.options.connections {
         let number = SERVER + 1 + place;
-        let height = order.heights.client;
+        let height = order.options.heights.client;
         clients.push(make_keys(rt, alloc, order, number, Kind::Client, height, output)?)?;
     }
     Ok(clients)

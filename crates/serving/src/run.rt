@@ -7,7 +7,7 @@ ghost use Rattle.serving.specs.auditing.Accounts.{HasAccount};
 ghost use Rattle.serving.specs.auditing.AuditOutputs.{IsShown};
 ghost use Rattle.serving.specs.auditing.Lines.{report_line};
 ghost use Rattle.auditing.specs.declared.trouble.Trouble.TheVariants as troubles;
-ghost use Rattle.serving.specs.Orders.{IsOrder};
+ghost use Rattle.serve_options.specs.Options.{AreServeOptions};
 ghost use Rattle.serving.specs.Runs.{AreAccounted, IsReported, WritesLines, listening_line};
 ghost use Rattle.serving.specs.witness_calls.Closing.{IsOneRun};
 
@@ -147,13 +147,13 @@ where
     O: Write,
     E: Write + Send + Drop,
     S: Shelf + Send + Drop,
-    requires { IsOrder order.now }
+    requires { AreServeOptions order.now.options }
     ensures run { IfOk result (λ f. IfOk f.closed IsOneRun) }
     ensures reported { IfOk result (λ f. IfOk f.closed (λ c.
         IsReported c f.server f.clients.items f.reports.items)) }
     ensures lines { IfOk result (λ f. WritesLines (O.contents writer.old) f.reports.items
         (O.contents writer.new)) }
-    ensures evidence { IfOk result (λ f. IsTrue f.whole → IfSome order.now.evidence (λ folder.
+    ensures evidence { IfOk result (λ f. IsTrue f.whole → IfSome order.now.options.evidence (λ folder.
         IfOk f.closed (λ c. All (IsShown (S.files f.shelf) folder.now c.roster) f.reports.items))) }
 {
     let port = port_of(&listener)?;
@@ -162,7 +162,13 @@ where
     let prepared = when_done(prepared, announce(alloc, writer, port))?;
     let output = Mutex::new(output);
     let audited = serve_and_audit(rt, alloc, listener, clock, &output, order, prepared)?;
-    conclude(alloc, writer, output.into_inner(), order.evidence, audited)
+    conclude(
+        alloc,
+        writer,
+        output.into_inner(),
+        order.options.evidence,
+        audited,
+    )
 }
 
 /// Writes the lines of a run whose witness is closed, and puts the evidence in its place, where a folder is
@@ -322,7 +328,7 @@ fn have_accounts(reports: &[NodeReport], places: &[Note], clients: &[ClientNode]
 
 /// The name of the folder that evidence goes to.
 fn folder_of(alloc: Global, order: &Order<'_>) -> Result<Option<String>, AllocError> {
-    match order.evidence {
+    match order.options.evidence {
         Some(folder) => Ok(Some(String::from_str(alloc, folder)?)),
         None => Ok(None),
     }
@@ -335,7 +341,7 @@ fn prepare<R: Threads + Sync, E: Write, S: Shelf>(
     order: &Order<'_>,
     output: &mut AuditOutput<E, S>,
 ) -> Result<PreparedRun, ServeFault>
-    requires { IsOrder order.now }
+    requires { AreServeOptions order.now.options }
 {
     let nodes = make_nodes(rt, alloc, order, output)?;
     let put = put_roster(alloc, output, order, &nodes.roster);
@@ -414,7 +420,7 @@ fn put_roster<E: Write, S: Shelf>(
     order: &Order<'_>,
     roster: &Roster,
 ) -> Result<(), ServeFault> {
-    let Some(name) = order.roster_out else {
+    let Some(name) = order.options.roster_out else {
         return Ok(());
     };
     let mut text = Vec::new(alloc);
@@ -472,7 +478,7 @@ where
         service: &service,
         roster: &roster,
         output,
-        progress: order.progress,
+        progress: order.options.progress,
     };
     let served = serve_clients(audit, listener, clock, order, server, clients)?;
     let parts = finish(audit, last, served)?;
@@ -507,7 +513,7 @@ where
         clock,
         server: &server,
         phase: &phase,
-        idle: order.idle,
+        idle: order.options.idle,
         control: order.control,
     };
     let ended = serve_all(context, listener, clients)?;

@@ -1,13 +1,13 @@
 -- What a run of the service may be asked.
 use Rattle.std.specs.Prelude.{ℕ, ◌≤◌, IfSome}
-use Rattle.serving.specs.declared.order.Order.{Order}
+use Rattle.serve_options.specs.declared.options.ServeOptions.{ServeOptions}
 
 -- a height of a tree of keys, with which a log has no more entries than a witness audits
 abbrev pub IsHeight : ℕ → Type 0
 IsHeight height = (1 ≤ height) × (height ≤ 15)
 
 -- so many connections, such heights, and at most a day of silence where there is an end to it
-pub record IsOrder (o : Order) : Type 0 where
+pub record AreServeOptions (o : ServeOptions) : Type 0 where
   pub some : 1 ≤ o.connections
   pub most : o.connections ≤ 16
   pub server : IsHeight o.heights.server
