@@ -4,6 +4,7 @@ With --check it writes nothing, and ends with 1 where the page isn't what it wou
 import pathlib
 import re
 import sys
+from layers import read_lines
 from reading import CRATES, ROOT, scope_of
 
 PAGE = ROOT / "docs" / "DEFINITIONS.md"
@@ -60,11 +61,8 @@ def plain(text):
 def write_page():
     cited = citing()
     parts = [INTRO]
-    for line in (ROOT / "crates.txt").read_text(encoding="utf-8").splitlines():
-        crate = line.partition("#")[0].partition(":")[0].split()
-        if not crate:
-            continue
-        folder = CRATES / crate[0]
+    for crate in read_lines():
+        folder = CRATES / crate
         rows = []
         for path in sorted((folder / "specs").rglob("*.antt")):
             file = str(path.relative_to(folder / "specs")).removesuffix(".antt")
@@ -77,7 +75,7 @@ def write_page():
         if rows:
             root = next(it for it in (folder / "src/lib.rt", folder / "src/main.rt") if it.is_file())
             about = " ".join(re.findall(r"^//! ?(.*)$", root.read_text(encoding="utf-8"), re.M))
-            parts.append(f"## {crate[0]}\n\n{about}\n")
+            parts.append(f"## {crate}\n\n{about}\n")
             parts.append("| Definition | What it says | File | Cited by |\n|---|---|---|---|")
             parts.append("\n".join(rows) + "\n")
     return "\n".join(parts)

@@ -6,6 +6,9 @@ what a definition cites, as a constant or the type of a value. What lies below s
 the same kind and the crates of code that are named here alone, which read and write texts or keep keys. Laws on nodes
 stand on the code of nodes' logs too. Ends with 1 where one stands on more."""
 import sys
+from pathlib import Path
+
+ROOT = Path(__file__).resolve().parent.parent
 
 # Definitions, laws and worked values.
 SPECIFICATIONS = {
@@ -23,8 +26,9 @@ ON_NODES = {"witness_node_laws": "node_logs"}
 
 
 def read_lines():
+    """For each crate of crates.txt all libraries that its line names."""
     lines = {}
-    with open("crates.txt", encoding="utf-8") as file:
+    with open(ROOT / "crates.txt", encoding="utf-8") as file:
         for line in file:
             name, colon, libraries = line.partition("#")[0].partition(":")
             if colon:

@@ -7,6 +7,7 @@ import functools
 import pathlib
 import re
 import sys
+from layers import read_lines
 
 ROOT = pathlib.Path(__file__).resolve().parent.parent
 CRATES = ROOT / "crates"
@@ -271,8 +272,7 @@ def levels(below):
 
 
 def crate_levels():
-    lines = (line.split(":") for line in (ROOT / "crates.txt").read_text().splitlines() if line[:1] not in ("", "#"))
-    return levels({left.split()[0]: right.split() for left, right in lines})
+    return levels(read_lines())
 
 
 def by_file(definitions, crates):

@@ -13,6 +13,7 @@ import os
 import re
 import sys
 from functools import lru_cache
+from layers import read_lines
 
 # `use Rattle.low.specs.Module.{a, b as c}` or `use Rattle.low.specs.Module as Other`, in a file of definitions or proofs
 # or, as `ghost use`, among code.
@@ -25,12 +26,7 @@ USES = re.compile(r"^[ \t]*(pub(?:\([^)]*\))? )?use ([^;]+);", re.M)
 
 def crates():
     """For each crate of crates.txt the libraries of the repository that its line names."""
-    lines = {}
-    with open("crates.txt", encoding="utf-8") as file:
-        for line in file:
-            name, colon, libraries = line.partition("#")[0].partition(":")
-            if colon:
-                lines[name.split()[0]] = libraries.split()
+    lines = read_lines()
     return {crate: [it for it in libraries if it in lines] for crate, libraries in lines.items()}
 
 
