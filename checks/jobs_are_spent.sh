@@ -2,11 +2,18 @@
 # A witness's jobs and done values are spent once. Programs that use one twice, that copy it, or that let one go, also
 # within an event, a reply or what comes back of a job, must not compile: each is refused at its line marked `refused:`,
 # by the words after the mark. Beside them stands a program that runs a job and discards what comes back. No other line is
-# refused, so nothing else refuses them.
+# refused, so nothing else refuses them. And a book alone makes a job: no other source names what makes one, which is public
+# since books stand in a crate above.
 set -euo pipefail
 cd "$(dirname "$0")/.."
 . checks/scratch_crate.sh
 . checks/refused_lines.sh
+
+makers=$(find crates -name out -prune -o -name '*.rt' -print | xargs grep -l 'ReplayJob::new')
+if [ "$makers" != crates/node_book/src/carry.rt ]; then
+    echo "what makes a job is named in: $makers" >&2
+    exit 1
+fi
 
 good=$(mktemp)
 cat > "$good" <<'END'
