@@ -38,12 +38,13 @@ reading_honest ms node = record {
 }
 
 -- its two texts have two digests, as they are worked out
-two_digests : sha256 (chain_text zeros (link_of 1 (Clock 1 0))) ≡ sha256 (content (Clock 1 0)) → ⊥
+pub two_digests : sha256 (chain_text zeros (link_of 1 (Clock 1 0))) ≡ sha256 (content (Clock 1 0)) → ⊥
 unfolding first_words schedule rounds compress sha.hash_after digest_bytes sha256 chain_text zeros content
     number_spelling
 two_digests e = absurd (omega (arith, ap (λ xs. slice_index xs 0) e))
 
-reading_texts : NoCollision (log_texts reading)
+-- so no two of them have one
+pub reading_texts : NoCollision (log_texts reading)
 reading_texts s t (inl a) (inl b) e = a ∙ sym b
 reading_texts s t (inl a) (inr (inl b)) e = absurd (two_digests (ap sha256 (sym a) ∙ e ∙ ap sha256 b))
 reading_texts s t (inl a) (inr (inr j)) e = absurd j

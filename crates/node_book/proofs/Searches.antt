@@ -1,11 +1,12 @@
 -- Segments that follow on one another: how many end before a number, and the one that holds it.
--- Serves: is_ended, count_ended, segment_holding.
+-- Serves: count_ended, segment_holding.
 use Rattle.std.proofs.Common.{◌≡◌, ℕ, zero, suc, ◌+◌, ◌<◌, ◌≤◌, Bool, true, false, cond, nat_lt}
 use Rattle.std.proofs.Common.{nat_le, ◌&&◌, List, [], ◌∷◌, length, get_or, Some, None, refl}
 use Rattle.std.proofs.Common.{ap, ◌∙◌, arith}
 use Rattle.std.proofs.lemmas.Bool.{and_from, le-leb, leb-true, ltb-true, ltb-false}
 use Rattle.std.proofs.lemmas.Bool.Decides.{nat_tests}
 use Rattle.secure_log.specs.Segment.{ClosedParts}
+use Rattle.secure_log.proofs.PartitionPoints.{PassInFront}
 use Rattle.witness_spec.specs.Exposing.{segment_holding}
 use Rattle.witness_book_laws.specs.Fitting.{Tile}
 use Rattle.node_book.specs.Looking.{count_ended}
@@ -57,6 +58,11 @@ count_within n (c ∷ cs) =
       | true ↦ omega arith
       | false ↦ omega arith
     ]
+
+-- so many pass in front, and none after them
+pub pass_in_front : (n : ℕ) (cs : List ClosedParts) (next : ℕ) → Tile 1 (segments_in cs) next
+    → PassInFront (λ (c : ClosedParts). nat_lt c.segment.closing.number n) cs (count_ended n (segments_in cs))
+pass_in_front n cs next t = (count_within n cs, λ k d there. at_count 1 n cs next k d t there)
 
 -- a segment that ends before a number doesn't hold it
 ended : (from to n : ℕ) → to < n → (nat_le from n && nat_le n to) ≡ false

@@ -60,33 +60,17 @@ impl Rows {
     }
 }
 
-/// How many segments, which follow on one another, end before a number. It looks at the logarithm of how many
-/// they are.
+/// How many segments, which follow on one another, end before a number.
 fn count_ended(segments: &[SharedSegment], number: u64) -> usize
     requires { FollowOn (segments_in segments.now) }
     ensures count { result ≡ count_ended number (segments_in segments.now) }
     ensures few { result ≤ length segments.now }
 {
-    let mut low = 0;
-    let mut high = segments.len();
-    while low < high {
-        let middle = low + (high - low) / 2;
-        if is_ended(segments, middle, number) {
-            low = middle + 1;
-        } else {
-            high = middle;
-        }
-    }
-    low
-}
-
-/// Whether one of these segments, the one at this index, ends before a number.
-fn is_ended(segments: &[SharedSegment], index: usize, number: u64) -> bool
-    requires on { FollowOn (segments_in segments.now) }
-    requires there { index < length segments.now }
-    ensures { result ≡ nat_lt index (count_ended number (segments_in segments.now)) }
-{
-    segments[index].closed().segment().closing().number.get() < number
+    segments.partition_point(
+        |shared: &SharedSegment| -> bool
+            ensures { result ≡ nat_lt shared.now.segment.closing.number number }
+        { shared.closed().segment().closing().number.get() < number },
+    )
 }
 
 /// The segment that holds a number from 1 on, of some that follow on one another.

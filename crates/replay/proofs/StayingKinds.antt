@@ -9,7 +9,7 @@ use Rattle.replay_spec.specs.Placed.{place}
 use Rattle.replay_spec.specs.Steps.{after_entry}
 use Rattle.replay_spec.specs.Stepping.{ReplayFault, fault_of, step, unless_fault}
 use Rattle.replay.specs.Steps.{Steps}
-use Rattle.replay.specs.Kinds.{kind_of}
+use Rattle.replay_spec.specs.Opening.{kind_of}
 use Rattle.replay.specs.declared.steps.StepFault.{StepFault}
 use Rattle.replay.specs.declared.steps.StepFault.TheVariants.{NoMemory, Fault}
 

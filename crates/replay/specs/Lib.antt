@@ -1,6 +1,5 @@
 pub use Rattle.replay_spec.specs as replay_spec
 pub mod Faults
 pub mod Steps
-pub mod Kinds
 pub mod Endings
 pub mod Verdicts

@@ -9,7 +9,7 @@ ghost use Rattle.checkpoint.specs.state_spec.State as spec;
 ghost use Rattle.checkpoint.specs.state_spec.StateText.{IsStateText};
 ghost use Rattle.replay_spec.specs.Placed.{place};
 ghost use Rattle.replay.specs.Steps.{Steps};
-ghost use Rattle.replay.specs.Kinds.{kind_of};
+ghost use Rattle.replay_spec.specs.Opening.{kind_of};
 
 use crate::steps::{StepFault, step};
 use authenticator::{Kind, Number, Roster};
@@ -112,7 +112,7 @@ impl<K: NodeKind> Model for KindMachine<K> {
     ghost use Rattle.std.specs.Prelude.{◌≡◌};
     ghost use Rattle.checkpoint.specs.state_spec.Codes.{state_code};
     ghost use Rattle.checkpoint.specs.state_spec.State.{State};
-    ghost use Rattle.replay.specs.Kinds.{kind_of};
+    ghost use Rattle.replay_spec.specs.Opening.{kind_of};
 
     ghost Value = { State };
 

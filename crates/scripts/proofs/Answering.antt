@@ -269,15 +269,6 @@ not_shown old node said new text says line =
 
 -- ---- floods
 
-pub extends_none : (a : List Claim) → Extends a a
-extends_none a = record { more = []; is = sym (append-nil a) }
-
-pub extends_on : (a b c : List Claim) → Extends a b → Extends b c → Extends a c
-extends_on a b c first then = record {
-  more = first.more ++ then.more;
-  is = then.is ∙ ap (λ l. l ++ then.more) first.is ∙ append_assoc a first.more then.more;
-}
-
 -- a packet that was handed in adds to the claims
 pub heard_extends : (a : List Claim) (said : Said) (b : List Claim) → Hears a said b → Extends a b
 heard_extends a said b (inl (event, says)) = elim says.keeps [

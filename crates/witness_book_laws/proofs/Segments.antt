@@ -16,37 +16,10 @@ use Rattle.witness_laws.specs.witness_spec.Standing.{Stage, NoAudit, Wanted, Giv
 use Rattle.witness_laws.specs.witness_spec.Histories.{HoldSame}
 use Rattle.witness_book_laws.specs.Books.{Book, exposed, is_audited, book_audited}
 use Rattle.witness_book_laws.specs.Fitting.{IsWhole, Tile, Follows, IsOne, IsMore, AreTiles}
-use Rattle.witness_laws.proofs.OfEvidence.Before.{on_left}
+use Rattle.witness_laws.proofs.evidence_spec.Places.{AreNumbered, entries_numbered, length-links}
+use Rattle.witness_laws.proofs.OfEvidence.Before.{HasHash, has_hash, on_left}
 
 -- ---- places
-
--- a pair at a number is among these
-pub record HasHash (ps : List Pair) (number : ℕ) : Type 0 where
-  -- its hash
-  pub hash : List ℕ
-  -- it is there
-  pub there : IsAmong (number, hash) ps
-
-places : (before : ℕ) (opening : List ℕ) (es : List Entry) (n : ℕ) → before ≤ n → n ≤ before + length es
-    → HasHash (pairs before opening (links_from (before + 1) es)) n
-places before opening [] n low high =
-    let same : n ≡ before = omega (arith, low, high) in
-    record { hash = opening; there = inl (ap (λ (k : ℕ). (k, opening)) same) }
-places before opening (e ∷ es) n low high =
-    by (nat_lt before n) refl
-    (λ more less. places (before + 1) (hash_after opening (link_of (before + 1) e)) es n more less)
-  where
-    by : (b : Bool) → nat_lt before n ≡ b
-        → (before + 1 ≤ n → n ≤ before + 1 + length es
-        → HasHash (pairs (before + 1) (hash_after opening (link_of (before + 1) e))
-        (links_from (before + 1 + 1) es)) n)
-        → HasHash (pairs before opening (links_from (before + 1) (e ∷ es))) n
-    by false f next =
-        let same : n ≡ before = omega (arith, low, ltb-false before n f) in
-        record { hash = opening; there = inl (ap (λ (k : ℕ). (k, opening)) same) }
-    by true f next =
-        let rest = next (omega (arith, ltb-true before n f)) (omega (arith, high)) in
-        record { hash = rest.hash; there = inr rest.there }
 
 last_place : (before : ℕ) (opening : List ℕ) (es : List Entry)
     → IsAmong (before + length es, last_hash opening (links_from (before + 1) es))
@@ -64,9 +37,10 @@ last_place before opening (e ∷ es) =
 pub hash_at : (s : SegmentParts) (n : ℕ) → IsWhole s → s.first ≤ n + 1 → n ≤ s.closing.number
     → HasHash (segment_pairs s) n
 hash_at s n w low high =
-    let back : s.first - 1 + 1 ≡ s.first = omega (arith, w.some) in
-    subst (λ k. HasHash (pairs (s.first - 1) s.opening (links_from k s.entries)) n) back
-    (places (s.first - 1) s.opening s.entries n (omega (arith, low)) (omega (arith, high, w.count, w.some)))
+    let back : s.first ≡ s.first - 1 + 1 = omega (arith, w.some) in
+    has_hash (s.first - 1) s.opening (links_from s.first s.entries) n
+    (subst (λ k. AreNumbered k (links_from s.first s.entries)) back (entries_numbered s.first s.entries))
+    (omega (arith, low)) (omega (arith, high, w.count, w.some, length-links s.first s.entries))
 
 -- a segment that ends in its closing shows the closing's pair
 pub closes : (s : SegmentParts) → 0 < s.first → s.closing.number + 1 ≡ s.first + length s.entries

@@ -5,8 +5,8 @@ use Rattle.authenticator.specs.declared.member.Member.{Member}
 use Rattle.state_spec.specs.State.{Machine, Server, Client}
 use Rattle.node_logs.specs.replay_spec.HonestLogs.{IsHonestLog}
 use Rattle.node_logs.specs.Steps.Nodes.{NodeParts, opening_like}
-use Rattle.node_logs.specs.replay_spec.Opening.{opening_by, opening_of}
-use Rattle.witness_node_laws.specs.Logs.{IsListedAs, kind_of}
+use Rattle.node_logs.specs.replay_spec.Opening.{kind_of, opening_by, opening_of}
+use Rattle.witness_node_laws.specs.Logs.{IsListedAs}
 
 opens_alike : (machine : Machine) (node : ℕ) → opening_by (kind_of machine) node ≡ opening_like machine node
 opens_alike (Server w stage) node = refl

@@ -1,8 +1,6 @@
 -- A node's own log, and what the node showed of it, as the laws on witnesses speak of them.
 use Rattle.std.specs.Prelude.{◌≡◌, ℕ, List, ◌++◌, Some, false}
 use Rattle.authenticator.specs.declared.authenticator.Authenticator.{Authenticator}
-use Rattle.authenticator.specs.declared.member.Kind.{Kind}
-use Rattle.authenticator.specs.declared.member.Kind.TheVariants as kinds
 use Rattle.authenticator.specs.declared.member.Member.{Member}
 use Rattle.secure_log.specs.LogEntries.Chain.{IsAmong}
 use Rattle.secure_log.specs.declared.log_entries.entry.Entry.{Entry}
@@ -11,21 +9,15 @@ use Rattle.secure_log.specs.Part.{with_closing}
 use Rattle.secure_log.specs.Segment.{SegmentParts}
 use Rattle.commitment.specs.Senders.Sender.{IsSender}
 use Rattle.commitment.specs.Senders.LookUps.{authenticator_at}
-use Rattle.state_spec.specs.State.{Machine, Server, Client}
 use Rattle.node_logs.specs.replay_spec.HonestLogs.{IsHonestLog}
 use Rattle.node_logs.specs.Steps.Nodes.{NodeParts, sender_of}
 use Rattle.node_logs.specs.Nodes.{IsMemberOf}
 use Rattle.node_logs.specs.Challenges.{AnswersChallenge}
-use Rattle.node_logs.specs.replay_spec.Opening.{opening_of}
+use Rattle.node_logs.specs.replay_spec.Opening.{kind_of, opening_of}
 use Rattle.witness_laws.specs.evidence_spec.Proving.{IsLog}
 use Rattle.witness_laws.specs.witness_spec.Steps.{Step, Learn, Answer}
 
 -- ---- its log
-
--- what a node does, by its reference machine
-abbrev pub kind_of : Machine → Kind
-kind_of (Server w stage) = kinds.Server
-kind_of (Client clock) = kinds.Client
 
 -- A member of a roster is this node: by its number, by what it does, and by its key.
 pub record IsListedAs (n : NodeParts) (m : Member) : Type 0 where

@@ -26,7 +26,7 @@ use Rattle.node_logs.specs.Steps.Serving.{reading_at, reply_told, state_heard, w
 use Rattle.node_logs.specs.Steps.Logging.{with_receipt}
 use Rattle.node_logs.specs.AckTaking.{ack_entry}
 use Rattle.node_logs.specs.declared.outcome.Receipt.{Receipt}
-use Rattle.node_logs.proofs.OfSteps.Served.{later_late}
+use Rattle.node_logs.proofs.OfSteps.Served.{later_late, machine_stays}
 use Rattle.nodes.specs.Exchanges.Members.{IsListed}
 use Rattle.nodes.specs.Exchanges.Reaching.{AckReaches, IsReplyReady, ReceivesUpTo}
 use Rattle.nodes.specs.Exchanges.Exchanges.{IsAsked, IsJoined, IsReplied, IsServed}
@@ -88,11 +88,6 @@ same_world : (w : World) (time : Timeval) (body : List ℕ)
     → world_after w (later time w.clock) body ≡ world_after w time body
 unfolding world_after
 same_world w time body = rw (same_time w time) refl
-
-machine_stays : (s : State) (k : ℕ) (h : List ℕ) (to : ℕ) (o : Option (List ℕ))
-    → (with_reply s k h to o).machine ≡ s.machine
-machine_stays s k h to None = refl
-machine_stays s k h to (Some reply) = refl
 
 -- It answered what is owed.
 pub served_by : (s t : NodeParts) (time : Timeval) (body : List ℕ) (e : Envelope) (r : Receipt)

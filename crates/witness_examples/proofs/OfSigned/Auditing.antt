@@ -24,6 +24,7 @@ use Rattle.replay_spec.specs.Stepping.{step}
 use Rattle.replay_spec.specs.Replay.{Sound, segment_verdict}
 use Rattle.replay_spec.specs.HonestLogs.{IsHonestLog}
 use Rattle.witness_spec.specs.evidence_spec.Proving.{log_texts}
+use Rattle.witness_spec.proofs.evidence_spec.OneReading.{reading_texts}
 use Rattle.authenticator.specs.Signing.{is_same}
 use Rattle.witness_spec.specs.Refusals.{BadSignature}
 use Rattle.witness_spec.specs.Events.{Event, ItsIndication, IsEvent, IsClosedUnder}
@@ -121,7 +122,8 @@ module _ (secret : List ℕ) where
       ap (λ b. cond b (Ok (record { member = client secret; step = Learn (signed secret leaf number hash) }))
       (Err BadSignature)) key_is
 
-  roster_is : same_roster (alone secret) (alone secret) ≡ true
+  -- a roster is the same as itself
+  pub roster_is : same_roster (alone secret) (alone secret) ≡ true
   roster_is =
       ap (λ b. (b && true) && true) (list_same (root secret 1) (root secret 1) refl)
 
@@ -180,22 +182,6 @@ module _ (secret : List ℕ) where
   -- every signature among its steps is of the log's last place
   pub unforged : Unforged (watched (alone secret) (client secret)) readings (audited_steps secret)
   unforged = ((λ of signed. inr (inl refl)), ((λ of signed. inr (inl refl)), tt))
-
--- the two texts of the log have two digests, as they are worked out
-two_digests : sha256 (chain_text zeros (link_of 1 (Clock 1 0))) ≡ sha256 (content (Clock 1 0)) → ⊥
-unfolding first_words schedule rounds compress sha.hash_after digest_bytes sha256 chain_text zeros content
-    number_spelling
-two_digests e = absurd (omega (arith, ap (λ xs. slice_index xs 0) e))
-
--- so no two of them have one
-pub reading_texts : NoCollision (log_texts readings)
-reading_texts s t (inl a) (inl b) e = a ∙ sym b
-reading_texts s t (inl a) (inr (inl b)) e = absurd (two_digests (ap sha256 (sym a) ∙ e ∙ ap sha256 b))
-reading_texts s t (inl a) (inr (inr j)) e = absurd j
-reading_texts s t (inr (inl a)) (inl b) e = absurd (two_digests (ap sha256 (sym b) ∙ sym e ∙ ap sha256 a))
-reading_texts s t (inr (inl a)) (inr (inl b)) e = a ∙ sym b
-reading_texts s t (inr (inl a)) (inr (inr j)) e = absurd j
-reading_texts s t (inr (inr i)) j e = absurd i
 
 -- what is in two lists of texts is in one of them
 in_parts : (t : List ℕ) (xs ys : List (List ℕ)) → IsAmong t (xs ++ ys) → IsAmong t xs ⊎ IsAmong t ys

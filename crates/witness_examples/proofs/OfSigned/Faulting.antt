@@ -31,7 +31,7 @@ use Rattle.witness_examples.specs.Signed.Faulty.{back_done, back_learned, back_a
 use Rattle.witness_examples.specs.Signed.Faulty.{back_filed, back_events, back_steps, learned_back, asked_back}
 use Rattle.witness_examples.specs.Signed.Faulty.{answered_back, begun_back, filed_back}
 use Rattle.witness_examples.proofs.OfSigned.Signing.{leaf_signs}
-use Rattle.witness_examples.proofs.OfSigned.Auditing.{learned_whose, signed_event}
+use Rattle.witness_examples.proofs.OfSigned.Auditing.{learned_whose, roster_is, signed_event}
 
 module _ (secret : List ℕ) where
   -- ---- what is signed
@@ -98,16 +98,12 @@ module _ (secret : List ℕ) where
 
   -- ---- whose it is
 
-  roster_is : same_roster (alone secret) (alone secret) ≡ true
-  roster_is =
-      ap (λ b. (b && true) && true) (list_same (root secret 1) (root secret 1) refl)
-
   -- the closed segment is the client's step
   pub back_whose : whose (alone secret) (events.Answer (back_closed secret))
       ≡ Ok (record { member = client secret; step = Answer (back_closed secret) })
   back_whose =
       ap (λ b. cond b (Ok (record { member = client secret; step = Answer (back_closed secret) }))
-      (Err BadSignature)) roster_is
+      (Err BadSignature)) (roster_is secret)
 
   -- ---- the history
 

@@ -101,11 +101,14 @@ passing test (x ∷ xs) y (inr i) h = by (test x) (passing test xs y i h)
 
 -- ---- a place of a chain has a pair
 
-record HasHash (ps : List Pair) (number : ℕ) : Type 0 where
-  hash : List ℕ
-  there : IsAmong (number, hash) ps
+-- a pair at a number is among these
+pub record HasHash (ps : List Pair) (number : ℕ) : Type 0 where
+  -- its hash
+  pub hash : List ℕ
+  -- it is there
+  pub there : IsAmong (number, hash) ps
 
-has_hash : (before : ℕ) (opening : List ℕ) (links : List Link) (n : ℕ) → AreNumbered (before + 1) links
+pub has_hash : (before : ℕ) (opening : List ℕ) (links : List Link) (n : ℕ) → AreNumbered (before + 1) links
     → before ≤ n → n ≤ before + length links → HasHash (pairs before opening links) n
 has_hash before opening [] n are low high =
     let same : n ≡ before = omega (arith, low, high) in
