@@ -1,0 +1,7 @@
+-- Lemmas on states and their digests. Serves: the laws of `state_laws`.
+pub mod Bounded
+pub mod Lengths
+pub mod Heads
+pub mod SameFiles
+pub mod SameMachines
+pub mod Telling
