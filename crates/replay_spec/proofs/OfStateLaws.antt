@@ -2,6 +2,6 @@
 pub mod Bounded
 pub mod Lengths
 pub mod Heads
-pub mod SameFiles
+pub mod SameTexts
 pub mod SameMachines
 pub mod Telling

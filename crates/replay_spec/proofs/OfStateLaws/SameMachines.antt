@@ -19,7 +19,7 @@ use Rattle.replay_spec.specs.StateLaws.{IsSpelled, HasFew, MachineIsSpelled, mac
 use Rattle.replay_spec.proofs.OfStateLaws.Lengths.{counted_item, short_server, short_client, few_received}
 use Rattle.replay_spec.proofs.OfStateLaws.Lengths.{few_sends}
 use Rattle.replay_spec.proofs.OfStateLaws.Heads.{server_said, client_said, kind, body}
-use Rattle.replay_spec.proofs.OfStateLaws.SameFiles.{digests_fit, same_files}
+use Rattle.replay_spec.proofs.OfStateLaws.SameTexts.{digests_fit, same_values}
 
 -- ---- what fits
 
@@ -38,6 +38,7 @@ sends_fit count small s h few = (omega (arith, few, small), few, h.sends)
 served_fits : (node : ℕ) (w : World) (stage : Stage) → IsMachine node (Server w stage)
     → MachineIsSpelled (Server w stage)
     → Fits (rest_item (fixed 32) 1) (world_value (fixed 32) file_digest w stage)
+unfolding file_digest
 served_fits node w stage is spelled =
     let own = world_fits node w stage is spelled in
     let es = finite.entries w.files.files in
@@ -51,7 +52,7 @@ served_fits node w stage is spelled =
           (
             omega (arith, same, digests, own.1.1.1.0),
             omega (arith, same, digests, own.1.1.1.1),
-            digests_fit es,
+            digests_fit file_item file_value es,
           ),
         ),
       ),
@@ -121,6 +122,7 @@ module _ (all : List (List ℕ)) (unlike : NoCollision all) (s t : State) (h : I
       → body s (Server w stage) ≡ body t (Server v other)
       → machine_value file_item file_value s (Server w stage)
       ≡ machine_value file_item file_value t (Server v other)
+  unfolding file_digest
   same_servers w v stage other is spelled is' spelled' i j e =
       let long = short_server (server_said s w stage)
       (server_fits max_received (omega arith) s h (few_keys s few) (few_entries s few) w stage is spelled) in
@@ -133,7 +135,8 @@ module _ (all : List (List ℕ)) (unlike : NoCollision all) (s t : State) (h : I
       (omega (arith, size, long, few_sends (timeval_value v.clock) (received_said t) (sends_said t) rest))
       v other is' spelled')
       (ap (λ (x : List ℕ). x ++ []) e)).0 in
-      let files = same_files all unlike (finite.entries w.files.files) (finite.entries v.files.files)
+      let files = same_values file_item file_value all unlike
+      (finite.entries w.files.files) (finite.entries v.files.files)
       (world_fits s.node w stage is spelled).1.1.1.2 (world_fits t.node v other is' spelled').1.1.1.2 i j
       (ap (λ m. m.1.1.1.1.1.1) one) in
       λ n. (
