@@ -5,3 +5,7 @@ pub mod Heads
 pub mod SameTexts
 pub mod SameMachines
 pub mod Telling
+pub mod MachineSteps
+pub mod MessagesFit
+pub mod OpeningWorlds
+pub mod Spelled

@@ -1,9 +1,12 @@
 -- What holds of the states of nodes and of their digests: each law is the contract of a function in
 -- src/state_laws.rt.
-use Rattle.std.specs.Prelude.{◌≡◌, ℕ, ◌<◌, ◌≤◌, ◌^◌, List, [], ◌∷◌, ◌++◌, map}
+use Rattle.std.specs.Prelude.{◌≡◌, ℕ, ◌<◌, ◌≤◌, ◌^◌, List, [], ◌∷◌, ◌++◌, map, length}
 use Rattle.std.specs.List.{AllByRecursion}
 use Rattle.std.specs.FinMap as finite
 use Rattle.nfs_items.specs.xdr.Item.{Fits, spelling}
+use Rattle.secure_log.specs.authenticator.declared.member.Member.{Member}
+use Rattle.secure_log.specs.declared.log_entries.entry.Entry.{Entry}
+use Rattle.secure_log.specs.LogEntries.Entry.{entry_item, entry_value}
 use Rattle.secure_log.specs.LogEntries.Chain.{NoCollision}
 use Rattle.state_spec.specs.server_spec.FileItems.{file_item, file_value}
 use Rattle.state_spec.specs.Limits.{max_received, max_sends}
@@ -11,6 +14,9 @@ use Rattle.state_spec.specs.State.{Machine, Server, Client, State, IsState}
 use Rattle.state_spec.specs.StateItems.{received_item, received_value, sent_item, sent_value, stage_item}
 use Rattle.state_spec.specs.StateItems.{stage_value}
 use Rattle.state_spec.specs.StateText.{digest_text, state_digest}
+use Rattle.replay_spec.specs.Bodies.{HasBytes}
+use Rattle.replay_spec.specs.Opening.{opening_of}
+use Rattle.replay_spec.specs.HonestLogs.{IsHonestLog}
 
 -- ---- states that can be spelled
 
@@ -52,3 +58,12 @@ abbrev pub DigestsTellStates : Type 0
 DigestsTellStates =
     (s t : State) → IsSpelled s → HasFew s → IsSpelled t → NoCollision (state_texts s ++ state_texts t)
     → state_digest s ≡ state_digest t → s ≡ t
+
+-- The last state of an honest log can be spelled, where its entries have texts, bodies are bytes, and numbers
+-- are of 64 bits.
+abbrev pub HonestStatesAreSpelled : Type 0
+HonestStatesAreSpelled =
+    (ms : List Member) (m : Member) (log : List Entry) (s : State)
+    → m.node < 2 ^ 32 → AllByRecursion (λ e. Fits entry_item (entry_value e)) log
+    → AllByRecursion HasBytes log → length log < 2 ^ 64
+    → IsHonestLog ms (opening_of m) log s → IsSpelled s
