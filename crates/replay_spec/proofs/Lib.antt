@@ -1,4 +1,5 @@
 pub mod OfLogLaws
+pub mod OfStateLaws
 pub mod Stepping
 pub mod Runs
 pub mod Places

@@ -1,7 +1,9 @@
 pub use Rattle.secure_log.specs.authenticator as authenticator
 pub use Rattle.secure_log.specs as secure_log
 pub use Rattle.state_spec.specs as state_spec
+pub mod Bodies
 pub mod LogLaws
+pub mod StateLaws
 pub mod StateSteps
 pub mod Shown
 pub mod Placed
