@@ -8,4 +8,5 @@ pub mod Telling
 pub mod MachineSteps
 pub mod MessagesFit
 pub mod OpeningWorlds
+pub mod TextsSpelled
 pub mod Spelled

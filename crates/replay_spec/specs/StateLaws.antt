@@ -13,7 +13,7 @@ use Rattle.state_spec.specs.Limits.{max_received, max_sends}
 use Rattle.state_spec.specs.State.{Machine, Server, Client, State, IsState}
 use Rattle.state_spec.specs.StateItems.{received_item, received_value, sent_item, sent_value, stage_item}
 use Rattle.state_spec.specs.StateItems.{stage_value}
-use Rattle.state_spec.specs.StateText.{digest_text, state_digest}
+use Rattle.state_spec.specs.StateText.{IsStateText, digest_text, state_digest}
 use Rattle.replay_spec.specs.Bodies.{HasBytes}
 use Rattle.replay_spec.specs.Opening.{opening_of}
 use Rattle.replay_spec.specs.HonestLogs.{IsHonestLog}
@@ -58,6 +58,10 @@ abbrev pub DigestsTellStates : Type 0
 DigestsTellStates =
     (s t : State) → IsSpelled s → HasFew s → IsSpelled t → NoCollision (state_texts s ++ state_texts t)
     → state_digest s ≡ state_digest t → s ≡ t
+
+-- A state that has a text can be spelled, and knows few messages.
+abbrev pub TextsAreSpelled : Type 0
+TextsAreSpelled = (s : State) (bytes : List ℕ) → IsStateText s bytes → IsSpelled s × HasFew s
 
 -- The last state of an honest log can be spelled, where its entries have texts, bodies are bytes, and numbers
 -- are of 64 bits.
