@@ -2,7 +2,7 @@
 
 ghost use Rattle.std.specs.Prelude.{◌≡◌, ◌==◌, ◌&&◌};
 ghost use Rattle.node_book.specs.Events.{event_in};
-ghost use Rattle.replay_jobs.specs.Jobs.{job_verdict, verdict_told};
+ghost use Rattle.node_book.specs.replay_jobs.Jobs.{job_verdict, verdict_told};
 ghost use Rattle.node_book.specs.Replies.{refusal_in, reply_in};
 ghost use Rattle.witness_reports.specs.Audits.{are_forwarded, ends_audits, is_emptied, is_filed_to};
 ghost use Rattle.witness_reports.specs.Audits.{is_followed, is_refused_audit, is_sound, learns};

@@ -1,5 +1,5 @@
 use Rattle.std.proofs.Common.{ap, inl, inr}
-use Rattle.replay_jobs.specs.Jobs.{done_parts}
+use Rattle.node_book.specs.replay_jobs.Jobs.{done_parts}
 use Rattle.node_book.specs.Replies.{reply_in}
 use Rattle.witness_calls.proofs.said.Said.of.Goals as goal
 
