@@ -85,7 +85,7 @@ impl<E: Write, S: Shelf> AuditOutput<E, S> {
     }
 
     /// That a device failed.
-    pub fn note_device(&mut self)
+    fn note_device(&mut self)
         ensures goes { Goes S.files self.old self.new }
         ensures noted { self.new.trouble ≢ troubles.None }
     {

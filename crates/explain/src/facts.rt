@@ -172,7 +172,7 @@ impl Facts {
     }
 
     /// Ends those that were begun last, until no more than so many are left.
-    pub fn end_to(&mut self, depth: usize) {
+    pub(crate) fn end_to(&mut self, depth: usize) {
         for _ in depth..self.open.len() {
             self.end();
         }

@@ -28,5 +28,5 @@ pub use facts::Facts;
 pub use file::{File, VERSION};
 pub use lack::{Lack, lack_of};
 pub use reply::add_reply;
-pub use roster::{roster_digest, roster_facts};
+pub use roster::roster_facts;
 pub use text::Text;

@@ -14,7 +14,7 @@ pub fn roster_facts(alloc: Global, roster: &Roster) -> Facts {
 }
 
 /// The SHA-256 digest of a roster's text. `AllocError` comes only where a growth was refused.
-pub fn roster_digest(alloc: Global, roster: &Roster) -> Result<[u8; 32], AllocError> {
+fn roster_digest(alloc: Global, roster: &Roster) -> Result<[u8; 32], AllocError> {
     let mut text = Vec::new(alloc);
     roster.write(&mut text)?;
     Ok(Sha256::digest(&text))

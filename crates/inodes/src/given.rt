@@ -46,7 +46,7 @@ impl Given {
     }
 
     /// Whether a mode or a time is given.
-    pub fn has_mode_or_times(&self) -> bool
+    pub(crate) fn has_mode_or_times(&self) -> bool
         ensures { result
             ≡ (is_some self.now.mode || is_some self.now.atime || is_some self.now.mtime) }
     {

@@ -21,7 +21,7 @@ use std::alloc::{AllocError, Global};
 
 impl State {
     /// Takes a message out of those received, if it is there.
-    pub fn remove_received(&mut self, message: &ReceivedMessage)
+    fn remove_received(&mut self, message: &ReceivedMessage)
         ensures { self.new.state ≡ having_forgotten self.old.state message.now }
     {
         self.received.remove(message);

@@ -17,7 +17,7 @@ use xdr::{FromXdr, ReadFault, Reader, XdrFault, put_back_on_err, read_array};
 const MAX_BODY: u32 = state_machine::MAX_BODY as u32;
 
 /// The greatest count of files.
-const MAX_FILES: u32 = 8_192;
+const MAX_FILES: u32 = file_tree::MAX_FILES as u32;
 
 impl<'a> FromXdr<'a> for MountPart<'a> {
     ghost item = { mount_item };

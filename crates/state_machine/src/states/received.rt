@@ -111,7 +111,7 @@ impl Received {
 
     /// They are within the bounds of a text, as their types keep them: does nothing, and tells a caller's
     /// proof.
-    pub fn are_bounded(&self)
+    pub(crate) fn are_bounded(&self)
         ensures { Fits (array max_received received_item) (map received_value (keys self.now)) }
     {
         let _messages = &self.messages;

@@ -117,7 +117,7 @@ impl Sends {
 
     /// They are within the bounds of a text, as their types keep them: does nothing, and tells a caller's
     /// proof.
-    pub fn are_bounded(&self)
+    pub(crate) fn are_bounded(&self)
         ensures { Fits (array max_sends sent_item) (map sent_value (entries self.now)) }
     {
         let _messages = &self.messages;
