@@ -29,7 +29,7 @@ def code_of(readme):
         is_mark = line.startswith("```")
         lines.append(line if in_block and not is_mark else "")
         if is_mark:
-            in_block = not in_block and line == "```rust"
+            in_block = not in_block and line.startswith("```rust")
     return lines
 
 

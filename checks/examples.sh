@@ -14,7 +14,7 @@ trap 'rm -rf "$modules" "$work"' EXIT
 
 # The program does nothing, so its run takes no time; the modules are compiled all the same.
 if ! rt try --steps 1 < /dev/null > "$work/log" 2>&1; then
-    sed 's|src/\([a-z0-9_]*\)_readme\.rt|crates/\1/README.md|' "$work/log" >&2
+    sed 's|src/\([a-z0-9_]*\)_readme\.rt|crates/\1/README.md|g' "$work/log" >&2
     exit 1
 fi
 echo "the example calls of $(ls src | grep -c '_readme\.rt$') READMEs compile"
