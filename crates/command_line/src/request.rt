@@ -15,6 +15,7 @@ ghost use Rattle.command_line.specs.CommandLine.{is_set, is_told, rows_in};
 use crate::serve::{ServeRequest, serve_command, serve_request};
 use clap::error::ErrorKind;
 use clap::{Arg, ArgAction, ArgMatches, Command, Error};
+use shown_names::VERSION;
 use std::alloc::{AllocError, Global};
 
 /// What the command line asks for.
@@ -196,7 +197,7 @@ fn commands<'a>(alloc: Global) -> Result<Command<'a>, AllocError>
         "Answers the RPC records of standard input on standard output, as the server of node 1",
     );
     let nfsacc = Command::new(alloc, "nfsacc")
-        .version("0.1.0")
+        .version(VERSION)
         .about("An accountable file service: NFS version 2 whose servers can be held to account")
         .subcommand_required(true)
         .arg_required_else_help(true)

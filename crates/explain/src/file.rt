@@ -2,9 +2,7 @@
 
 use crate::facts::Facts;
 use sha2::{Digest, Sha256};
-
-/// The program's version.
-pub const VERSION: &str = "0.1.0";
+use shown_names::VERSION;
 
 /// What is said of a file.
 #[derive(Clone, Copy)]

@@ -25,8 +25,9 @@ pub use case::{CLEARS_NOBODY, Detail, case_facts, no_case_facts, rejected_facts}
 pub use decoding::first_undecodable;
 pub use draft::Draft;
 pub use facts::Facts;
-pub use file::{File, VERSION};
+pub use file::File;
 pub use lack::{Lack, lack_of};
 pub use reply::add_reply;
 pub use roster::roster_facts;
+pub use shown_names::VERSION;
 pub use text::Text;
