@@ -94,10 +94,12 @@ pub if_ok : {A E : Type 0} {P Q : A → Type 0} (r : Result A E) → ((x : A) �
 if_ok (Ok x) so h = so x h
 if_ok (Err x) so h = tt
 
+-- what holds of each value holds of a result's
 pub any_ok : {A E : Type 0} {Q : A → Type 0} (r : Result A E) → ((x : A) → Q x) → IfOk r Q
 any_ok (Ok x) so = so x
 any_ok (Err x) so = tt
 
+-- a turn of one kind is one of a wider kind
 pub does_as : {P Q : List ℕ → List Claim → Type 0} (old : List Claim) (text : List ℕ) (new : List Claim)
     → ((t : List ℕ) (c : List Claim) → P t c → Q t c) → Does P old text new → Does Q old text new
 does_as old text new so d = record { claims = d.claims; added = d.added; is_so = so text d.claims d.is_so }
@@ -124,9 +126,11 @@ pub none_added : {P : List ℕ → List Claim → Type 0} (old : List Claim) (te
     → new ≡ old → P text [] → Does P old text new
 none_added old text new same is = record { claims = []; added = same ∙ sym (append-nil old); is_so = is }
 
+-- a line that the witness isn't asked
 pub silent : (old : List Claim) (text : List ℕ) (new : List Claim) → new ≡ old → Does IsSilent old text new
 silent old text new same = none_added {P = IsSilent} old text new same refl
 
+-- what the witness said of a packet
 pub heard : (old : List Claim) (said : Said) (new : List Claim) (text : List ℕ) → Hears old said new
     → IsLineOf said text → Does IsHeard old text new
 heard old said new text (inl (event, says)) line =
@@ -136,15 +140,18 @@ heard old said new text (inr (f, is_refused, same)) line =
     none_added {P = IsHeard} old text new same
     (inr (record { claims_are = refl; is_refusal = (refusal_number (refusal_in f), line.is ∙ ap said_line is_refused) }))
 
+-- a packet that a node made, and what the witness said of it
 pub handed : (old : List Claim) (text : List ℕ) (new : List Claim) → Does IsHeard old text new
     → Does IsHanded old text new
 handed old text new d = does_as {P = IsHeard} {Q = IsHanded} old text new (λ t c h. inl h) d
 
+-- the node made no packet
 pub nothing_handed : (old : List Claim) (text : List ℕ) (new : List Claim) → new ≡ old → text ≡ none_line
     → Does IsHanded old text new
 nothing_handed old text new same is =
     none_added {P = IsHanded} old text new same (inr (record { claims_are = refl; text_is = is }))
 
+-- the node refused to make one
 pub refusal_handed : (old : List Claim) (text : List ℕ) (new : List Claim) → new ≡ old → IsRefusal text
     → Does IsHanded old text new
 refusal_handed old text new same is =
@@ -167,6 +174,7 @@ then_does event a b c before text first then = record {
 
 -- ---- what a node is asked
 
+-- what `ask` prints of a node is what the witness told of it
 pub told : (old : List Claim) (node : ℕ) (x : Told) (new : List Claim) (text : List ℕ) → Tells old node x new
     → text ≡ told_line x.node (indication_in x.indication) x.open → Does (IsAsked node) old text new
 told old node x new text t is =
@@ -185,6 +193,7 @@ told old node x new text t is =
       });
     }
 
+-- or the refusal, where the witness told less
 pub withheld : (old : List Claim) (node : ℕ) (said : Said) (new : List Claim) (text : List ℕ)
     → Withholds old node said new → IsLineOf said text
     → Does (IsAsked node) old text new
@@ -207,6 +216,7 @@ asked_before a node b c text asks d =
     (answered a (Ask node ItsChallenges) asks.said b (said_line asks.said) asks.says
     (record { enough = asks.enough; is = refl })) d
 
+-- an authenticator that is passed on, and what its own witness said of it
 pub passed : (old : List Claim) (x : Authenticator) (line : List ℕ) (new : List Claim) (text : List ℕ)
     → Does IsHeard old line new → text ≡ forwarded_words x.node x.number ++ line
     → Does (IsPassed x) old text new
@@ -216,6 +226,7 @@ passed old x line new text d is = record {
   is_so = record { words = line; text_is = is; is_heard = d.is_so };
 }
 
+-- the same after the answer that gave it
 pub passed_on : (a : List Claim) (node : ℕ) (x : Authenticator) (b c : List Claim) (text : List ℕ)
     → Says a (Forward node) (s.Forwarded x) b → Does (IsPassed x) b text c → Does (IsForwarded node) a text c
 passed_on a node x b c text says d =
@@ -233,6 +244,7 @@ passed_on a node x b c text says d =
       });
     }
 
+-- none was given
 pub not_passed : (old : List Claim) (node : ℕ) (said : Said) (new : List Claim) (text : List ℕ)
     → Says old (Forward node) said new → IsLineOf said text
     → Does (IsForwarded node) old text new
@@ -242,6 +254,7 @@ not_passed old node said new text says line =
 
 -- ---- evidence
 
+-- evidence, or that there is none
 pub shown : (old : List Claim) (node : ℕ) (said : Said) (x : Option EvidenceParts) (new : List Claim) (text : List ℕ)
     → Says old (Ask node ItsEvidence) said new → wants_memory said ≡ false
     → ((reply : Reply) → IsSaid reply said → reply ≡ r.EvidenceIs x) → text ≡ evidence_line x
@@ -260,6 +273,7 @@ shown old node said x new text says enough is_x is =
       });
     }
 
+-- or the refusal, where the witness gave neither
 pub not_shown : (old : List Claim) (node : ℕ) (said : Said) (new : List Claim) (text : List ℕ)
     → Says old (Ask node ItsEvidence) said new → IsLineOf said text
     → Does (IsEvidence node) old text new
@@ -277,10 +291,12 @@ heard_extends a said b (inl (event, says)) = elim says.keeps [
 ]
 heard_extends a said b (inr (f, is_refused, same)) = record { more = []; is = same ∙ sym (append-nil a) }
 
+-- all packets of a flood were handed in
 pub flooded : (times : ℕ) (a b : List Claim) (text : List ℕ) → Extends a b → text ≡ flooded_line times
     → Does (IsFlood times) a text b
 flooded times a b text x is = record { claims = x.more; added = x.is; is_so = inl is }
 
+-- a flood ended with what the witness said of one packet
 pub last_heard : (times : ℕ) (a b : List Claim) (said : Said) (c : List Claim) (text : List ℕ) → Extends a b
     → Hears b said c → IsLineOf said text → Does (IsFlood times) a text c
 last_heard times a b said c text x hears line =
@@ -291,11 +307,13 @@ last_heard times a b said c text x hears line =
       is_so = inr (inl (record { before = x.more; last = d.claims; claims_are = refl; is_heard = d.is_so }));
     }
 
+-- the node made no packet for a flood
 pub no_flood : (times : ℕ) (a b : List Claim) (text : List ℕ) → b ≡ a → text ≡ none_line → Does (IsFlood times) a text b
 no_flood times a b text same is =
     none_added {P = IsFlood times} a text b same (inr (inr (record { claims_are = refl; text_is = is })))
 
 -- ---- rounds
 
+-- a round's claims are those that it added
 pub round_done : (a b : List Claim) (text : List ℕ) → Extends a b → Does IsRound a text b
 round_done a b text x = record { claims = x.more; added = x.is; is_so = tt }

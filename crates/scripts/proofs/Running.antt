@@ -29,6 +29,7 @@ turn_taken before after old act text new d wrote = record {
   added = d.added;
 }
 
+-- no line was run
 pub no_runs : (before : Option (List ℕ)) (old : List Claim) → Runs before before old old
 no_runs before old = record {
   turns = [];
@@ -37,6 +38,7 @@ no_runs before old = record {
   added = sym (append-nil old);
 }
 
+-- one turn more
 pub runs_more : (a b c : Option (List ℕ)) (x y z : List Claim) → Runs a b x y → TakesTurn b c y z → Runs a c x z
 runs_more a b c x y z runs takes =
     let turns : List Turn = runs.turns ++ takes.turn ∷ [] in
@@ -68,6 +70,7 @@ pub any_left : {A : Type 0} (r : Result A Stop) (a c : Option (List ℕ)) → Wr
 any_left (Ok x) a c wrote = tt
 any_left (Err stop) a c wrote = λ bad. wrote
 
+-- nothing was written
 pub no_turns : (before : Option (List ℕ)) → WritesTurns before before
 no_turns before = record { turns = []; each = tt; wrote = Appends-nil before }
 

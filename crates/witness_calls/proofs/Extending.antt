@@ -6,9 +6,11 @@ use Rattle.node_book.specs.witness_spec.Replies.{Reply}
 use Rattle.witness_service.specs.Claims.{Claim, Keeps}
 use Rattle.witness_calls.specs.Telling.{Extends}
 
+-- nothing was added
 pub extends_none : (old new : List Claim) → new ≡ old → Extends old new
 extends_none old new same = record { more = []; is = same ∙ sym (append-nil old) }
 
+-- what was added twice was added
 pub extends_on : (a b c : List Claim) → Extends a b → Extends b c → Extends a c
 extends_on a b c first then = record {
   more = first.more ++ then.more;

@@ -9,6 +9,7 @@ use Rattle.witness_calls.specs.Telling.{wants_memory}
 use Rattle.witness_calls.specs.declared.said.Said.{Said}
 use Rattle.witness_calls.specs.declared.said.Said.TheVariants as s
 
+-- a refusal but NoMemory isn't want of memory
 pub other_refusal : (x : Refusal) → (x ≡ f.NoMemory → ⊥) → is_want (refusal_in x) ≡ false
 other_refusal f.UnknownNode h = refl
 other_refusal f.Garbage h = refl
@@ -25,6 +26,7 @@ other_refusal f.WrongJob h = refl
 other_refusal f.BookFull h = refl
 other_refusal f.NoMemory h = absurd (h refl)
 
+-- what isn't a refusal isn't want of memory
 pub other_said : (x : Said) → ((r : Refusal) → x ≡ s.Refused r → ⊥) → wants_memory x ≡ false
 other_said s.Noted h = refl
 other_said s.Already h = refl

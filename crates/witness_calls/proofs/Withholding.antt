@@ -10,6 +10,7 @@ use Rattle.witness_calls.specs.declared.said.Said.{Said}
 use Rattle.witness_calls.specs.declared.said.Said.TheVariants as s
 use Rattle.witness_calls.specs.declared.told.Told.{Told}
 
+-- the open challenges weren't told, after the indication was
 pub open_withheld : (old : List Claim) (node : ℕ) (i : Indication) (between new : List Claim) (r : Result Told Said)
     → Says old (Ask node ItsIndication) (s.Told i) between
     → IfErr r (λ said. Says between (Ask node ItsChallenges) said new)
