@@ -8,10 +8,13 @@ use crate::names::{
 };
 use crate::procedures::{EXPORTED, GROUP, Part, Procedure, Stats, procedure_of};
 use nfs_items::{Reader, XdrFault};
-use rpc::{CallBody, MAX_AUTH, read_call};
+use rpc::{CallBody, read_call};
 
 /// REPLY (RFC 5531, section 9, msg_type).
 const REPLY: u32 = 1;
+
+/// The most bytes of a verifier's body (RFC 5531, section 8.2).
+const MAX_AUTH: u32 = 400;
 
 /// The versions of RPC or of a program that are served, at a mismatch (RFC 5531, section 9).
 static VERSIONS: [Field; 2] = [

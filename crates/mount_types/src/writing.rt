@@ -12,8 +12,11 @@ ghost use Rattle.mount_types.specs.Results.{answer_of, HasLengths, IsShort, answ
 
 use crate::limits::MNT_ANSWER;
 use crate::results::MountResult;
-use nfs_items::{FileHandle, NFS_OK, Writer, all_or_nothing};
+use nfs_items::{FileHandle, Writer, all_or_nothing};
 use std::alloc::AllocError;
+
+/// The status of a directory that was mounted (RFC 1094, appendix A.4.2).
+const OK: u32 = 0;
 
 /// FALSE and TRUE, before the end of a list and before each of its items (RFC 4506, section 4.19).
 const END: u32 = 0;
@@ -54,7 +57,7 @@ fn add_handle(handle: &FileHandle, out: &mut Vec<u8>) -> Result<(), AllocError>
     ensures room { Spends 36 (vec_capacity out.old - vec_len out.old)
         result (vec_capacity out.new - vec_len out.new) }
 {
-    out.put_u32(NFS_OK)?;
+    out.put_u32(OK)?;
     handle.write(out)
 }
 

@@ -15,7 +15,7 @@ pub use attributes::{Fattr, FileType};
 pub use credential::read_credential;
 pub use handle::{FileHandle, FileHandleRef};
 pub use sattr::{RawTime, Sattr};
-pub use stat::{NFS_OK, Stat};
+pub use stat::Stat;
 pub use time::Time;
 pub use who::{Groups, Who};
 pub use xdr::{ReadFault, Reader, Writer, XdrFault, all_or_nothing};

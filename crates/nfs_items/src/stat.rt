@@ -4,9 +4,6 @@ use std::alloc::AllocError;
 use thiserror::Error;
 use xdr::Writer;
 
-/// The stat of a call that was done (RFC 1094, section 2.3.1).
-pub const NFS_OK: u32 = 0;
-
 /// A stat other than OK (RFC 1094, section 2.3.1).
 #[derive(Clone, Copy, Debug, PartialEq, Eq, Error)]
 pub enum Stat {

@@ -16,7 +16,7 @@ pub const RPC_VERSION: u32 = 2;
 const CALL: u32 = 0;
 
 /// The most bytes of a credential's or a verifier's body (RFC 5531, section 8.2).
-pub const MAX_AUTH: u32 = 400;
+const MAX_AUTH: u32 = 400;
 
 /// A credential or a verifier (RFC 5531, section 8.2): a flavor, and a body of at most 400 bytes.
 #[derive(Clone, Copy, Debug)]

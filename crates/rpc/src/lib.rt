@@ -8,7 +8,5 @@ pub mod record_laws;
 pub mod records;
 mod reply;
 
-pub use call::{
-    Call, CallBody, CallFault, Header, MAX_AUTH, OpaqueAuth, RPC_VERSION, read_call,
-};
+pub use call::{Call, CallBody, CallFault, Header, OpaqueAuth, RPC_VERSION, read_call};
 pub use reply::{AuthStat, Reply, ReplyBody, write_reply, write_success};

@@ -14,8 +14,11 @@ ghost use Rattle.nfs_types.specs.Results.{answer_of, dir_op_of, entry_of, outcom
 ghost use Rattle.nfs_types.specs.Results.{HasLengths, IsShort, answer_bytes};
 
 use crate::{DirOpOk, FsStats, NfsResult, Page, PageEntry, ReadOk, SHORT_ANSWER};
-use nfs_items::{Fattr, NFS_OK, Stat, Writer, all_or_nothing};
+use nfs_items::{Fattr, Stat, Writer, all_or_nothing};
 use std::alloc::AllocError;
+
+/// The stat of a call that was done (RFC 1094, section 2.3.1).
+const OK: u32 = 0;
 
 /// Appends what a procedure answers (RFC 1094, section 2.2). Where memory is refused, the bytes stay as they
 /// were; none is for an answer of a call that changes files where `out` has room for `SHORT_ANSWER` bytes
@@ -91,7 +94,7 @@ fn add_result(answer: &NfsResult, out: &mut Vec<u8>) -> Result<(), AllocError>
         NfsResult::DirOp(found) => add_diropres(found, out),
         NfsResult::Target(Ok(target)) => add_target(target, out),
         NfsResult::Bytes(Ok(read)) => add_read(read, out),
-        NfsResult::Status(Ok(())) => out.put_u32(NFS_OK),
+        NfsResult::Status(Ok(())) => out.put_u32(OK),
         NfsResult::Entries(Ok(page)) => add_page(page, out),
         NfsResult::Free(Ok(fs_stats)) => add_fs_stats(fs_stats, out),
         NfsResult::Target(Err(stat))
@@ -108,7 +111,7 @@ fn add_attributes(attributes: &Fattr, out: &mut Vec<u8>) -> Result<(), AllocErro
     ensures room { Spends 72 (vec_capacity out.old - vec_len out.old)
         result (vec_capacity out.new - vec_len out.new) }
 {
-    out.put_u32(NFS_OK)?;
+    out.put_u32(OK)?;
     attributes.write(out)
 }
 
@@ -119,7 +122,7 @@ fn add_dir_op(found: &DirOpOk, out: &mut Vec<u8>) -> Result<(), AllocError>
     ensures room { Spends 104 (vec_capacity out.old - vec_len out.old)
         result (vec_capacity out.new - vec_len out.new) }
 {
-    out.put_u32(NFS_OK)?;
+    out.put_u32(OK)?;
     found.file.write(out)?;
     found.attributes.write(out)
 }
@@ -128,7 +131,7 @@ fn add_target(target: &[u8], out: &mut Vec<u8>) -> Result<(), AllocError>
     requires { length target.now < 2 ^ 32 }
     ensures { Adds (spelling word 0 ++ spelling path target.now) out.old.items result out.new.items }
 {
-    out.put_u32(NFS_OK)?;
+    out.put_u32(OK)?;
     out.put_opaque(target)
 }
 
@@ -138,7 +141,7 @@ fn add_read(read: &ReadOk, out: &mut Vec<u8>) -> Result<(), AllocError>
         ++ (spelling fattr (fattr_value read.now.attributes) ++ spelling nfsdata read.now.data.now))
         out.old.items result out.new.items }
 {
-    out.put_u32(NFS_OK)?;
+    out.put_u32(OK)?;
     read.attributes.write(out)?;
     out.put_opaque(read.data)
 }
@@ -182,7 +185,7 @@ fn add_page(page: &Page, out: &mut Vec<u8>) -> Result<(), AllocError>
         ++ spelling flag page.now.eof))
         out.old.items result out.new.items }
 {
-    out.put_u32(NFS_OK)?;
+    out.put_u32(OK)?;
     add_list(&page.entries, out)?;
     out.put_bool(page.eof)
 }
