@@ -6,7 +6,7 @@ ghost use Rattle.witness_node_laws.specs.Laws.{AskedCanBeAnswered, AnswersOfNode
 ghost use Rattle.witness_node_laws.specs.Laws.{ReceivedCallsAreLogged, TakenRepliesAreLogged};
 ghost use Rattle.witness_node_laws.specs.Laws.{ReceivedCallsClose, TakenRepliesClose};
 
-use crate::texts::entries_have_texts;
+use crate::texts::{bodies_are_bytes, entries_have_texts};
 use commitment::laws::{
     each_received_message_is_acknowledged, each_send_and_recv_is_signed,
     what_a_sender_shows_is_of_its_log,
@@ -18,14 +18,17 @@ use std::alloc::Global;
 use witness_laws::answers::laws::{acknowledgements_close, answers_are_accepted};
 use witness_laws::trust::laws::honest_is_never_exposed;
 
-/// A node's log is one that the laws on witnesses speak of: its entries have texts, unless the node strayed
-/// it is honest from the state that a member like this node begins with, and each authenticator that the node
-/// makes is of it. Takes memory once for each signature in it, and tells a caller's proof.
+/// A node's log is one that the laws on witnesses speak of: its entries have texts and bodies of bytes, unless
+/// the node strayed it is honest from the state that a member like this node begins with, and each
+/// authenticator that the node makes is of it. Takes memory once for each signature in it, and tells a
+/// caller's proof.
 pub fn a_node_keeps_a_log(alloc: Global, node: &NodeLog)
     ensures { KeepsALog node.now }
 {
     node.is_honest();
-    entries_have_texts(alloc, node.log().entries());
+    let entries = node.log().entries();
+    entries_have_texts(alloc, entries);
+    bodies_are_bytes(entries);
     what_a_sender_shows_is_of_its_log();
     a_log_has_one_pair_for_each_place();
 }
