@@ -25,7 +25,6 @@ ALIKE = {
     ("explain/src/comparison.rt", "explain/src/entry.rt"): FIELDS,
     ("envelopes/src/checks.rt", "witness_service/src/checking.rt"): ORDER,
     ("witness_books/proofs/books/noted_step_of/Answers.antt", "witness_books/proofs/books/step_of/Answers.antt"): SHAPE,
-    ("file_tree/proofs/tree/Tree/remove/Answers.antt", "file_tree/proofs/tree/Tree/remove_dir/Answers.antt"): SHAPE,
     ("file_tree/proofs/tree/Tree/create/Answers.antt", "file_tree/proofs/tree/Tree/create/Answers.antt"): SHAPE,
 }
 

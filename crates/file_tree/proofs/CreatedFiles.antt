@@ -1,15 +1,19 @@
--- A file that CREATE makes under a free name: the table takes it, and that is what the call does.
--- Serves: `create_new`.
-use Rattle.std.proofs.Common.{◌≡◌, ℕ, ◌≤◌, List, length, replicate, None, Ok, refl, ap, subst, ◌∙◌, arith}
+-- A file that CREATE makes under a free name: the table takes it, and that is what the call does. Which files
+-- CREATE changes.
+-- Serves: `Tree::create`, `Tree::create_new`.
+use Rattle.std.proofs.Common.{◌≡◌, ℕ, ◌≤◌, List, [], ◌∷◌, length, replicate, Option, Some, None, Ok, refl}
+use Rattle.std.proofs.Common.{ap, subst, ◌∙◌, arith}
 use Rattle.std.specs.Prelude.{IsTrue, unwrap_or}
+use Rattle.std.specs.Option.{option_map_or}
 use Rattle.nfs_spec.specs.nfs_items.Timeval.{Timeval}
 use Rattle.nfs_spec.specs.nfs_items.Caller.{Caller}
-use Rattle.nfs_spec.specs.fs_spec.Files.{Body, Regular, File, Files}
+use Rattle.nfs_spec.specs.fs_spec.Files.{Body, Regular, File, Files, directory_entries}
+use Rattle.nfs_spec.specs.fs_spec.Listing.{DirectoryEntry}
 use Rattle.nfs_spec.specs.fs_spec.Trees.{IsTime, IsFile, IsFileTree}
 use Rattle.nfs_spec.specs.fs_spec.Changes.Limits.{has_room}
 use Rattle.nfs_spec.specs.Changes.{new_file}
 use Rattle.nfs_spec.specs.Procedures.{create, add_file}
-use Rattle.nfs_spec.specs.Sattr.{GivenFields}
+use Rattle.nfs_spec.specs.Sattr.{GivenFields, gives_any}
 use Rattle.inode_table.specs.nfs_laws.Steps.Granted.{CreateNewOk, new_regular}
 use Rattle.inode_table.proofs.nfs_laws.OfSteps.Making.{create_ok}
 use Rattle.inode_table.specs.nfs_laws.Laws.{AreValidFields, NamesIn}
@@ -17,7 +21,23 @@ use Rattle.inode_table.proofs.nfs_laws.FilesFit.{regular_fits}
 use Rattle.inode_table.specs.nfs_laws.Sizes.Bounds.{HasWords}
 use Rattle.inode_table.specs.nfs_count_laws.CountChanges.{MayMake}
 use Rattle.file_tree.specs.FileChecks.Creates.{DecidesCreate}
+use Rattle.file_tree.specs.Performs.{changed_by_create, number_if}
 use Rattle.file_tree.proofs.OfFileChecks.GrantedNames.{may_make, make_does, make_names}
+
+-- what CREATE changes where the name is free
+pub changed_new : (a : GivenFields) (w : Files) (dir : ℕ) (name : List ℕ) (number : ℕ)
+    → directory_entries w dir name ≡ None → changed_by_create a w dir name number ≡ dir ∷ number ∷ []
+changed_new a w dir name number free =
+    ap (λ (o : Option DirectoryEntry). option_map_or (λ (e : DirectoryEntry). number_if (gives_any a) number) o
+    (dir ∷ number ∷ [])) free
+
+-- and where a file has it
+pub changed_old : (a : GivenFields) (w : Files) (dir : ℕ) (name : List ℕ) (number : ℕ) (e : DirectoryEntry)
+    → directory_entries w dir name ≡ Some e
+    → changed_by_create a w dir name number ≡ number_if (gives_any a) number
+changed_old a w dir name number e is =
+    ap (λ (o : Option DirectoryEntry). option_map_or (λ (e : DirectoryEntry). number_if (gives_any a) number) o
+    (dir ∷ number ∷ [])) is
 
 -- a new file of zeros, as many as the size that is given, or none
 pub new_regular_is : (who : Caller) (now : Timeval) (a : GivenFields) (file : File) (body : Body) (size : ℕ)

@@ -5,6 +5,7 @@ pub mod OfFileChecks
 mod FilesSeen
 mod KeptDigests
 mod MissingDigests
+mod RenamedDigests
 mod RenewedDigests
 pub mod WritableFiles
 mod LookUpPaths

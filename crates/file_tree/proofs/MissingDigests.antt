@@ -1,21 +1,23 @@
 -- Which digests are missing, told by the files and by what is kept of them.
 -- Serves: each call of `Tree` that changes files.
 use Rattle.std.proofs.Common.{◌≡◌, ◌≢◌, ℕ, Bool, true, false, cond, List, [], ◌∷◌, map}
-use Rattle.std.proofs.Common.{Option, Some, None, is_none, is_some, option_map, refl, sym, ap, subst, ◌∙◌}
-use Rattle.std.proofs.Common.{◌++◌, IsSome}
-use Rattle.std.specs.Prelude.{◌&&◌, ◌||◌, unwrap_or}
+use Rattle.std.proofs.Common.{Option, Some, None, is_none, is_some, refl, sym, ap, subst, ◌∙◌}
+use Rattle.std.proofs.Common.{IsSome}
+use Rattle.std.specs.Prelude.{◌&&◌, ◌||◌, Result, Ok, Err}
 use Rattle.std.specs.Option.{option_map_or}
 use Rattle.std.specs.List.{filter, list_any}
 use Rattle.std.specs.Ordering.{nat_cmp, eq_by_cmp}
 use Rattle.std.specs.FinMap as finite
 use Rattle.nfs_spec.specs.fs_spec.Files.{File, Files, directory_entries, file_at}
 use Rattle.nfs_spec.specs.fs_spec.Listing.{DirectoryEntry}
+use Rattle.nfs_spec.proofs.fs_spec.Walks.{none_some}
 use Rattle.nfs_spec.proofs.fs_spec.Counts.{same_number}
 use Rattle.nfs_spec.proofs.fs_spec.OfChanges.Finite.{cmp_same}
 use Rattle.file_tree.specs.declared.digests.FileDigests.{FileDigests}
-use Rattle.file_tree.specs.KeptDigests.{AreAllMissing, Forgets, KeepsAll, KeepsOthers, KeptFiles}
+use Rattle.file_tree.specs.KeptDigests.{AreAllMissing, AreKept, DropsOnly, Forgets, KeepsAll, KeptFiles}
 use Rattle.file_tree.specs.KeptDigests.{has_none, is_missing, kept_at, missing_in}
-use Rattle.file_tree.specs.Performs.{named_in}
+use Rattle.nfs_spec.specs.nfs_items.declared.stat.Stat.{Stat}
+use Rattle.file_tree.specs.Performs.{Keeps, named_in}
 
 -- ---- one number
 
@@ -66,116 +68,147 @@ missing_is w k n =
     missing_among k n (finite.entries w.files)
     ∙ ap (λ (o : Option File). is_some o && is_none (kept_at k n)) (sym (finite.get-entries w.files n))
 
--- ---- all others
+-- what is seen of a tree
+abbrev pub seen : Files → FileDigests → KeptFiles
+seen w k = record { files = w; missing = missing_in k w }
 
--- what is kept of the others stays, as their files do
-pub keeps_others : (w w' : Files) (k k' : FileDigests) (changed : List ℕ)
-    → ((n : ℕ) → list_any (eq_by_cmp nat_cmp n) changed ≡ false
-    → (file_at w' n ≡ file_at w n) × (kept_at k' n ≡ kept_at k n))
-    → KeepsOthers changed (record { files = w; missing = missing_in k w })
-    (record { files = w'; missing = missing_in k' w' })
-keeps_others w w' k k' changed same n others =
-    let s = same n others in
-    missing_is w' k' n
-    ∙ ap (λ (o : Option File). is_some o && is_none (kept_at k' n)) s.0
-    ∙ ap (λ (d : Option (List ℕ)). is_some (file_at w n) && is_none d) s.1
-    ∙ sym (missing_is w k n)
+-- ---- digests that are dropped
+
+-- of these numbers none is kept any more, of others what was
+abbrev Dropped : List ℕ → FileDigests → FileDigests → Type 0
+Dropped ns k k' =
+    (n : ℕ) → kept_at k' n ≡ cond (list_any (eq_by_cmp nat_cmp n) ns) None (kept_at k n)
+
+-- no number
+none_yet : (k : FileDigests) → Dropped [] k k
+none_yet k n = refl
+
+-- one number more
+and_one : (k k₁ k₂ : FileDigests) (ns : List ℕ) (a : ℕ) → Dropped ns k k₁ → Forgets a k₁ k₂
+    → Dropped (a ∷ ns) k k₂
+and_one k k₁ k₂ ns a before f n = by (eq_by_cmp nat_cmp n a) refl
+  where
+    by : (hit : Bool) → eq_by_cmp nat_cmp n a ≡ hit
+        → kept_at k₂ n ≡ cond (hit || list_any (eq_by_cmp nat_cmp n) ns) None (kept_at k n)
+    by true is = ap (kept_at k₂) (same_number n a is) ∙ f.gone
+    by false is = f.others n (λ e. let hit = cmp_same n a e in absurd cc) ∙ before n
 
 neither : (b c : Bool) → (b || c) ≡ false → (b ≡ false) × (c ≡ false)
 neither false c e = (refl, e)
 neither true c e = absurd cc
 
 -- a number that is none of these is neither the first nor one of the others
-pub not_first : (n a : ℕ) (ns : List ℕ) → list_any (eq_by_cmp nat_cmp n) (a ∷ ns) ≡ false
+not_first : (n a : ℕ) (ns : List ℕ) → list_any (eq_by_cmp nat_cmp n) (a ∷ ns) ≡ false
     → (n ≢ a) × (list_any (eq_by_cmp nat_cmp n) ns ≡ false)
 not_first n a ns none =
     let both = neither (eq_by_cmp nat_cmp n a) (list_any (eq_by_cmp nat_cmp n) ns) none in
     (λ e. let hit = cmp_same n a e in let miss = both.0 in absurd cc, both.1)
 
+-- where all files but these stay, exactly their digests are dropped
+module _ (w w' : Files) (k k' : FileDigests) (ns : List ℕ) (dropped : Dropped ns k k')
+    (same : (n : ℕ) → list_any (eq_by_cmp nat_cmp n) ns ≡ false → file_at w' n ≡ file_at w n) where
+  once : (there none : Bool) → (there && none) ≡ (there && (there && none))
+  once true none = refl
+  once false none = refl
+
+  by_hit : (n : ℕ) (hit : Bool) → list_any (eq_by_cmp nat_cmp n) ns ≡ hit
+      → (is_some (file_at w' n) && is_none (cond hit None (kept_at k n)))
+      ≡ (is_some (file_at w' n) && (hit || is_missing (seen w k) n))
+  by_hit n true is = refl
+  by_hit n false is =
+      once (is_some (file_at w' n)) (is_none (kept_at k n))
+      ∙ ap (λ (o : Option File). is_some (file_at w' n) && (is_some o && is_none (kept_at k n))) (same n is)
+      ∙ ap (λ b. is_some (file_at w' n) && b) (sym (missing_is w k n))
+
+  drops_only : DropsOnly ns (seen w k) (seen w' k')
+  drops_only n =
+      missing_is w' k' n
+      ∙ ap (λ (d : Option (List ℕ)). is_some (file_at w' n) && is_none d) (dropped n)
+      ∙ by_hit n (list_any (eq_by_cmp nat_cmp n) ns) refl
+
 -- ---- calls that drop some
-
--- what stands under a name
-one_named : (w : Files) (dir : ℕ) (name : List ℕ) (e : DirectoryEntry) → directory_entries w dir name ≡ Some e
-    → named_in w dir name ≡ e.0 ∷ []
-one_named w dir name e is =
-    ap (λ (o : Option DirectoryEntry). option_map_or (λ (x : DirectoryEntry). x.0 ∷ []) o []) is
-
--- a number that isn't the one that moves, and is none that stands at the new name, isn't that which goes
-not_target : (n number : ℕ) (target : Option ℕ) (o : Option DirectoryEntry)
-    → target ≡ option_map (λ (e : DirectoryEntry). e.0) o → n ≢ number
-    → list_any (eq_by_cmp nat_cmp n) (option_map_or (λ (e : DirectoryEntry). e.0 ∷ []) o []) ≡ false
-    → n ≢ unwrap_or target number
-not_target n number target None is other none =
-    λ e. other (e ∙ ap (λ (t : Option ℕ). unwrap_or t number) is)
-not_target n number target (Some x) is other none =
-    λ e. (not_first n x.0 [] none).0 (e ∙ ap (λ (t : Option ℕ). unwrap_or t number) is)
-
--- what is seen of a tree
-abbrev pub seen : Files → FileDigests → KeptFiles
-seen w k = record { files = w; missing = missing_in k w }
 
 -- nothing changed
 pub nothing_dropped : (w w' : Files) (k : FileDigests) → w' ≡ w → seen w' k ≡ seen w k
 nothing_dropped w w' k same = ap (λ (x : Files). seen x k) same
 
+-- a call that leaves the files drops none, whether it was done or refused
+pub all_kept : {A : Type 0} → (w : Files) (k : FileDigests) (r : Result A Stat)
+    → Keeps (λ _. []) (seen w k) r (seen w k)
+all_kept w k (Ok x) = drops_only w w k k [] (none_yet k) (λ n others. refl)
+all_kept w k (Err e) = refl
+
+-- what stands under a name
+pub one_named : (w : Files) (dir : ℕ) (name : List ℕ) (e : DirectoryEntry) → directory_entries w dir name ≡ Some e
+    → named_in w dir name ≡ e.0 ∷ []
+one_named w dir name e is =
+    ap (λ (o : Option DirectoryEntry). option_map_or (λ (x : DirectoryEntry). x.0 ∷ []) o []) is
+
 module _ (w w' : Files) (k : FileDigests) where
+  -- no file changed
+  pub none_dropped : ((n : ℕ) → file_at w' n ≡ file_at w n) → DropsOnly [] (seen w k) (seen w' k)
+  none_dropped same = drops_only w w' k k [] (none_yet k) (λ n others. same n)
+
   -- one file changed
-  pub one_dropped : (a : ℕ) (k₁ : FileDigests) → Forgets a k k₁ →
-      ((n : ℕ) → n ≢ a → file_at w' n ≡ file_at w n)
-      → KeepsOthers (a ∷ []) (seen w k) (seen w' k₁)
-  one_dropped a k₁ f same = keeps_others w w' k k₁ (a ∷ []) (λ n others.
-      let x = not_first n a [] others in
-      (same n x.0, f.others n x.0))
+  pub one_dropped : (a : ℕ) (k₁ : FileDigests) → Forgets a k k₁
+      → ((n : ℕ) → n ≢ a → file_at w' n ≡ file_at w n)
+      → DropsOnly (a ∷ []) (seen w k) (seen w' k₁)
+  one_dropped a k₁ f same = drops_only w w' k k₁ (a ∷ []) (and_one k k k₁ [] a (none_yet k) f)
+      (λ n others. same n (not_first n a [] others).0)
 
   -- two files changed
   pub two_dropped : (a b : ℕ) (k₁ k₂ : FileDigests) → Forgets a k k₁ → Forgets b k₁ k₂
       → ((n : ℕ) → n ≢ a → n ≢ b → file_at w' n ≡ file_at w n)
-      → KeepsOthers (a ∷ b ∷ []) (seen w k) (seen w' k₂)
-  two_dropped a b k₁ k₂ f g same = keeps_others w w' k k₂ (a ∷ b ∷ []) (λ n others.
-      let x = not_first n a (b ∷ []) others in
-      let y = not_first n b [] x.1 in
-      (same n x.0 y.0, g.others n y.0 ∙ f.others n x.0))
+      → DropsOnly (b ∷ a ∷ []) (seen w k) (seen w' k₂)
+  two_dropped a b k₁ k₂ f g same = drops_only w w' k k₂ (b ∷ a ∷ [])
+      (and_one k k₁ k₂ (a ∷ []) b (and_one k k k₁ [] a (none_yet k) f) g)
+      (λ n others.
+      let y = not_first n b (a ∷ []) others in
+      same n (not_first n a [] y.1).0 y.0)
 
-  -- a file was made, and the directory changed that names it
-  pub made_dropped : (dir new number : ℕ) (k₁ : FileDigests) → Forgets dir k k₁ → number ≡ new
+  -- four files changed, the first two of which are told by others
+  pub four_dropped : (a b c e : ℕ) (k₁ k₂ k₃ k₄ : FileDigests) → Forgets a k k₁ → Forgets b k₁ k₂
+      → Forgets c k₂ k₃ → Forgets e k₃ k₄
+      → ((n : ℕ) → n ≢ a → n ≢ b → n ≢ c → n ≢ e → file_at w' n ≡ file_at w n)
+      → (rest : List ℕ)
+      → ((n : ℕ) → list_any (eq_by_cmp nat_cmp n) (b ∷ a ∷ []) ≡ list_any (eq_by_cmp nat_cmp n) rest)
+      → DropsOnly (e ∷ c ∷ rest) (seen w k) (seen w' k₄)
+  four_dropped a b c e k₁ k₂ k₃ k₄ f g h i same rest alike n =
+      drops_only w w' k k₄ (e ∷ c ∷ b ∷ a ∷ [])
+      (and_one k k₃ k₄ (c ∷ b ∷ a ∷ []) e (and_one k k₂ k₃ (b ∷ a ∷ []) c
+      (and_one k k₁ k₂ (a ∷ []) b (and_one k k k₁ [] a (none_yet k) f) g) h) i)
+      (λ n others.
+      let z = not_first n e (c ∷ b ∷ a ∷ []) others in
+      let y = not_first n c (b ∷ a ∷ []) z.1 in
+      let x = not_first n b (a ∷ []) y.1 in
+      same n (not_first n a [] x.1).0 x.0 y.0 z.0) n
+      ∙ ap (λ r. is_some (file_at w' n)
+      && ((eq_by_cmp nat_cmp n e || (eq_by_cmp nat_cmp n c || r)) || is_missing (seen w k) n)) (alike n)
+
+  -- a file was made under a number that had none, and the directory changed that names it
+  pub made_dropped : AreKept k w → (dir new number : ℕ) (k₁ : FileDigests) → Forgets dir k k₁
+      → file_at w new ≡ None → number ≡ new
       → ((n : ℕ) → n ≢ dir → n ≢ new → file_at w' n ≡ file_at w n)
-      → KeepsOthers (dir ∷ number ∷ []) (seen w k) (seen w' k₁)
-  made_dropped dir new number k₁ f is same = keeps_others w w' k k₁ (dir ∷ number ∷ []) (λ n others.
-      let x = not_first n dir (number ∷ []) others in
-      let y = not_first n number [] x.1 in
-      (same n x.0 (λ e. y.0 (e ∙ sym is)), f.others n x.0))
+      → DropsOnly (dir ∷ number ∷ []) (seen w k) (seen w' k₁)
+  made_dropped kept dir new number k₁ f free is same =
+      two_dropped number dir k k₁ (record { gone = none (kept_at k number) refl; others = λ n ne. refl }) f
+      (λ n nn nd. same n nd (λ e. nn (e ∙ sym is)))
+    where
+      none : (o : Option (List ℕ)) → kept_at k number ≡ o → kept_at k number ≡ None
+      none None at = at
+      none (Some d) at =
+          absurd (none_some (sym free ∙ ap (file_at w) (sym is) ∙ (kept number d at).1))
 
   -- a name was taken out of a directory
   pub unnamed_dropped : (dir : ℕ) (name : List ℕ) (number cookie : ℕ) (k₁ k₂ : FileDigests)
       → directory_entries w dir name ≡ Some (number, cookie)
       → Forgets number k k₁ → Forgets dir k₁ k₂
       → ((n : ℕ) → n ≢ number → n ≢ dir → file_at w' n ≡ file_at w n)
-      → KeepsOthers (dir ∷ named_in w dir name) (seen w k) (seen w' k₂)
+      → DropsOnly (dir ∷ named_in w dir name) (seen w k) (seen w' k₂)
   unnamed_dropped dir name number cookie k₁ k₂ is f g same =
-      subst (λ (ns : List ℕ). KeepsOthers (dir ∷ ns) (seen w k) (seen w' k₂))
+      subst (λ (ns : List ℕ). DropsOnly (dir ∷ ns) (seen w k) (seen w' k₂))
       (sym (one_named w dir name _ is))
-      (keeps_others w w' k k₂ (dir ∷ number ∷ []) (λ n others.
-      let x = not_first n dir (number ∷ []) others in
-      let y = not_first n number [] x.1 in
-      (same n y.0 x.0, g.others n x.0 ∙ f.others n y.0)))
-
-  -- a name went from one directory to another, over what may have stood there
-  pub moved_dropped : (number from to : ℕ) (target : Option ℕ) (from_name to_name : List ℕ) (cookie : ℕ)
-      (k₁ k₂ k₃ k₄ : FileDigests)
-      → directory_entries w from from_name ≡ Some (number, cookie)
-      → target ≡ option_map (λ (e : DirectoryEntry). e.0) (directory_entries w to to_name)
-      → Forgets number k k₁ → Forgets from k₁ k₂ → Forgets to k₂ k₃ → Forgets (unwrap_or target number) k₃ k₄
-      → ((n : ℕ) → n ≢ number → n ≢ from → n ≢ to → n ≢ unwrap_or target number → file_at w' n ≡ file_at w n)
-      → KeepsOthers (from ∷ to ∷ named_in w from from_name ++ named_in w to to_name) (seen w k) (seen w' k₄)
-  moved_dropped number from to target from_name to_name cookie k₁ k₂ k₃ k₄ is goes f g h i same =
-      subst (λ (ns : List ℕ). KeepsOthers (from ∷ to ∷ ns ++ named_in w to to_name) (seen w k) (seen w' k₄))
-      (sym (one_named w from from_name _ is))
-      (keeps_others w w' k k₄ (from ∷ to ∷ number ∷ named_in w to to_name) (λ n others.
-      let x = not_first n from (to ∷ number ∷ named_in w to to_name) others in
-      let y = not_first n to (number ∷ named_in w to to_name) x.1 in
-      let z = not_first n number (named_in w to to_name) y.1 in
-      let u = not_target n number target (directory_entries w to to_name) goes z.0 z.1 in
-      (same n z.0 x.0 y.0 u, i.others n u ∙ h.others n y.0 ∙ g.others n x.0 ∙ f.others n z.0)))
+      (two_dropped number dir k₁ k₂ f g same)
 
 -- ---- none that is kept, and more
 

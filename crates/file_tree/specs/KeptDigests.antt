@@ -1,6 +1,6 @@
 -- Digests of the texts of files, kept beside the files.
 use Rattle.std.specs.Prelude.{◌≡◌, ◌≢◌, ℕ, Bool, false, List, map, Option, Some, None, is_none, is_some, refl}
-use Rattle.std.specs.Prelude.{count_by}
+use Rattle.std.specs.Prelude.{◌&&◌, ◌||◌, count_by}
 use Rattle.std.specs.List.{filter, list_any}
 use Rattle.std.specs.Ordering.{eq_by_cmp, nat_cmp}
 use Rattle.std.specs.BTreeMap.{get}
@@ -68,10 +68,11 @@ AreAllMissing k = (n : FileNumber) → is_missing k n ≡ is_some (file_at k.fil
 abbrev pub KeepsAll : KeptFiles → KeptFiles → Type 0
 KeepsAll old new = (n : FileNumber) → is_missing old n ≡ false → is_missing new n ≡ false
 
--- what is kept of all other files than these stays as it is
-abbrev pub KeepsOthers : List FileNumber → KeptFiles → KeptFiles → Type 0
-KeepsOthers changed old new = (n : FileNumber) → list_any (eq_by_cmp nat_cmp n) changed ≡ false
-    → is_missing new n ≡ is_missing old n
+-- The digests of these files are dropped, and no others: of the files that are there afterwards, those miss
+-- theirs that are among them or missed theirs before.
+abbrev pub DropsOnly : List FileNumber → KeptFiles → KeptFiles → Type 0
+DropsOnly changed old new = (n : FileNumber) → is_missing new n
+    ≡ (is_some (file_at new.files n) && (list_any (eq_by_cmp nat_cmp n) changed || is_missing old n))
 
 -- an inode is that of a number's file, and a text can hold it
 abbrev pub IsWritableAt : Files → FileNumber × Inode → Type 0

@@ -2,11 +2,11 @@
 #![tactic(auto)]
 
 mod digests;
-pub mod file_checks;
+mod file_checks;
 mod limits;
 mod linking;
 mod making;
-pub mod name_checks;
+mod name_checks;
 mod parts;
 mod paths;
 mod reading;

@@ -29,7 +29,7 @@ impl Tree {
         ensures effect { Performs (link self.old.files (caller_of who.now) now number dir name.now)
             self.old.files result self.new.files }
         ensures paths { IfDone result (λ done. NamesIn self.old.files self.new.files dir name.now number) }
-        ensures digests { KeepsDigests (λ _. number ∷ dir ∷ []) self.old result self.new }
+        ensures digests { KeepsDigests (λ _. dir ∷ number ∷ []) self.old result self.new }
     {
         self.table.files_are_a_tree();
         if let Err(stat) = check_link(&self.table, who, number, dir, name) {

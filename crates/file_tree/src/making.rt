@@ -11,7 +11,7 @@ ghost use Rattle.inode_table.specs.nfs_laws.Laws.{AreValidFields, NamesIn};
 ghost use Rattle.inode_table.specs.inodes.Given.{given_in};
 ghost use Rattle.inode_table.specs.inodes.Inodes.{body_in, file_in};
 ghost use Rattle.file_tree.specs.FileChecks.Creates.{DecidesCreate};
-ghost use Rattle.file_tree.specs.Performs.{Performs, IfDone, KeepsDigests};
+ghost use Rattle.file_tree.specs.Performs.{Performs, IfDone, KeepsDigests, changed_by_create};
 
 use crate::file_checks::{check_make, find_to_create};
 use crate::tree::Tree;
@@ -52,8 +52,9 @@ impl Tree {
         ensures paths { directory_entries self.old.files dir name.now ≡ None →
             IfDone result (λ number. NamesIn self.old.files self.new.files dir name.now number) }
 
-        // The digests of all other files stay kept, as do all where nothing changed.
-        ensures digests { KeepsDigests (λ number. dir ∷ number ∷ []) self.old result self.new }
+        ensures digests { KeepsDigests
+            (changed_by_create (given_fields now attributes.now) self.old.files dir name.now)
+            self.old result self.new }
     {
         let given = Given::of(attributes, now);
         match find_to_create(&self.table, who, dir, name, given.size) {
@@ -85,7 +86,8 @@ impl Tree {
             (create self.old.files (caller_of who.now) now dir name.now (given_in given.now))
             self.old.files result self.new.files }
         ensures paths { IfDone result (λ number. NamesIn self.old.files self.new.files dir name.now number) }
-        ensures digests { KeepsDigests (λ number. dir ∷ number ∷ []) self.old result self.new }
+        ensures digests { KeepsDigests (changed_by_create (given_in given.now) self.old.files dir name.now)
+            self.old result self.new }
     {
         self.table.files_are_a_tree();
         let body = Body::zeros(alloc, given.size.unwrap_or(0))?;

@@ -4,6 +4,7 @@ ghost use Rattle.std.specs.Prelude.{◌≡◌, ◌∷◌, OnOk};
 ghost use Rattle.nfs_spec.specs.nfs_items.CallerOf.{caller_of};
 ghost use Rattle.nfs_spec.specs.Procedures.{remove, remove_dir};
 ghost use Rattle.inode_table.specs.nfs_laws.Laws.{UnnamesIn};
+ghost use Rattle.file_tree.specs.NameChecks.Names.{MayGo, unnamed_by};
 ghost use Rattle.file_tree.specs.Performs.{Does, Keeps, named_in};
 
 use crate::name_checks::{check_remove, check_remove_dir};
@@ -22,11 +23,8 @@ impl Tree {
         ensures digests { Keeps (λ _. dir ∷ named_in self.old.files dir name.now) self.old result self.new }
     {
         self.table.files_are_a_tree();
-        let number = check_remove(&self.table, who, dir, name)?;
-        self.table.unlink(now, dir, name, number);
-        self.digests.forget(number);
-        self.digests.forget(dir);
-        Ok(())
+        let checked = check_remove(&self.table, who, dir, name);
+        self.unname(now, dir, name, checked)
     }
 
     /// Takes a directory out, which must be empty (RFC 1094, section 2.2.16). Stale, NotDir, Acces and NoEnt;
@@ -39,7 +37,24 @@ impl Tree {
         ensures digests { Keeps (λ _. dir ∷ named_in self.old.files dir name.now) self.old result self.new }
     {
         self.table.files_are_a_tree();
-        let number = check_remove_dir(&self.table, who, dir, name)?;
+        let checked = check_remove_dir(&self.table, who, dir, name);
+        self.unname(now, dir, name, checked)
+    }
+
+    /// Takes a name out by what a check gave: the number that stands at it, or a refusal.
+    fn unname(
+        &mut self,
+        now: Time,
+        dir: u32,
+        name: &[u8],
+        checked: Result<u32, Stat>,
+    ) -> Result<(), Stat>
+        requires { MayGo self.old.files dir name.now checked }
+        ensures effect { Does (unnamed_by now self.old.files dir name.now checked)
+            self.old.files result self.new.files }
+        ensures digests { Keeps (λ _. dir ∷ named_in self.old.files dir name.now) self.old result self.new }
+    {
+        let number = checked?;
         self.table.unlink(now, dir, name, number);
         self.digests.forget(number);
         self.digests.forget(dir);

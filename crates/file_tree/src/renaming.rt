@@ -1,12 +1,12 @@
 //! RENAME.
 
-ghost use Rattle.std.specs.Prelude.{◌≡◌, ◌≤◌, ◌∷◌, ◌++◌, length};
+ghost use Rattle.std.specs.Prelude.{◌≡◌, ◌≤◌, length};
 ghost use Rattle.nfs_spec.specs.nfs_items.CallerOf.{caller_of};
 ghost use Rattle.nfs_spec.specs.fs_spec.Maxima.{max_name};
 ghost use Rattle.nfs_spec.specs.Procedures.{rename};
 ghost use Rattle.inode_table.specs.nfs_laws.Steps.Granted.{IsSameFile};
 ghost use Rattle.inode_table.specs.nfs_laws.Laws.{RenamesIn};
-ghost use Rattle.file_tree.specs.Performs.{Performs, IfDone, KeepsDigests, named_in};
+ghost use Rattle.file_tree.specs.Performs.{Performs, IfDone, KeepsDigests, changed_by_rename};
 
 use crate::name_checks::{Move, check_rename};
 use crate::tree::Tree;
@@ -38,8 +38,9 @@ impl Tree {
         ensures paths { IfDone result (λ done.
             (IsSameFile self.old.files from from_name.now to to_name.now → ⊥) →
             RenamesIn self.old.files self.new.files from from_name.now to to_name.now) }
-        ensures digests { KeepsDigests (λ _. from ∷ to ∷ named_in self.old.files from from_name.now
-            ++ named_in self.old.files to to_name.now) self.old result self.new }
+        ensures digests { KeepsDigests
+            (λ _. changed_by_rename self.old.files from from_name.now to to_name.now)
+            self.old result self.new }
     {
         self.table.files_are_a_tree();
         let moved = match check_rename(&self.table, who, from, from_name, to, to_name) {
@@ -52,10 +53,10 @@ impl Tree {
         let name = to_name.to_vec(alloc)?;
         self.table
             .rename(now, number, from, from_name, to, name, target)?;
-        self.digests.forget(number);
-        self.digests.forget(from);
-        self.digests.forget(to);
         self.digests.forget(target.unwrap_or(number));
+        self.digests.forget(number);
+        self.digests.forget(to);
+        self.digests.forget(from);
         Ok(Ok(()))
     }
 }

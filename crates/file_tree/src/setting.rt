@@ -1,12 +1,12 @@
 //! Calls that change what a file holds: its attributes and its bytes.
 
-ghost use Rattle.std.specs.Prelude.{◌≡◌, ◌∷◌, []};
+ghost use Rattle.std.specs.Prelude.{◌≡◌, ◌==◌, length, not};
 ghost use Rattle.nfs_spec.specs.nfs_items.CallerOf.{caller_of};
-ghost use Rattle.nfs_spec.specs.Sattr.{given_fields};
+ghost use Rattle.nfs_spec.specs.Sattr.{given_fields, gives_any};
 ghost use Rattle.nfs_spec.specs.Procedures.{set_attributes, write};
 ghost use Rattle.inode_table.specs.nfs_laws.Laws.{AreValidFields};
 ghost use Rattle.inode_table.specs.inodes.Given.{given_in};
-ghost use Rattle.file_tree.specs.Performs.{KeepsDigests, PerformsAt};
+ghost use Rattle.file_tree.specs.Performs.{KeepsDigests, PerformsAt, number_if};
 
 use crate::file_checks::{check_set, check_write};
 use crate::tree::Tree;
@@ -28,7 +28,9 @@ impl Tree {
         ensures effect { PerformsAt
             (set_attributes self.old.files (caller_of who.now) now number (given_fields now attributes.now))
             number self.old.files result self.new.files }
-        ensures digests { KeepsDigests (λ _. number ∷ []) self.old result self.new }
+        ensures digests { KeepsDigests
+            (λ _. number_if (gives_any (given_fields now attributes.now)) number)
+            self.old result self.new }
     {
         self.set(who, now, number, &Given::of(attributes, now))
     }
@@ -45,7 +47,8 @@ impl Tree {
         ensures effect { PerformsAt
             (set_attributes self.old.files (caller_of who.now) now number (given_in given.now))
             number self.old.files result self.new.files }
-        ensures digests { KeepsDigests (λ _. number ∷ []) self.old result self.new }
+        ensures digests { KeepsDigests (λ _. number_if (gives_any (given_in given.now)) number)
+            self.old result self.new }
     {
         if let Err(stat) = check_set(&self.table, who, number, given) {
             return Ok(Err(stat));
@@ -72,7 +75,8 @@ impl Tree {
     ) -> Result<Result<Fattr, Stat>, AllocError>
         ensures effect { PerformsAt (write self.old.files (caller_of who.now) now number offset bytes.now)
             number self.old.files result self.new.files }
-        ensures digests { KeepsDigests (λ _. number ∷ []) self.old result self.new }
+        ensures digests { KeepsDigests (λ _. number_if (not (length bytes.now == 0)) number)
+            self.old result self.new }
     {
         if let Err(stat) = check_write(&self.table, who, number, offset, bytes) {
             return Ok(Err(stat));

@@ -2,8 +2,8 @@
 //! ask for.
 #![tactic(auto)]
 
-pub mod edits;
-pub mod links;
+mod edits;
+mod links;
 mod opening;
 mod table;
 

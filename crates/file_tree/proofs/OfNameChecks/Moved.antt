@@ -5,7 +5,7 @@ use Rattle.std.proofs.Common.{Err, option_map, not, IsTrue, refl, sym, ap, subst
 use Rattle.std.specs.Prelude.{◌==◌, ◌&&◌, nat_le, if◌then◌else◌}
 use Rattle.std.specs.Option.{option_map_or}
 use Rattle.std.specs.Result.{result_map_both}
-use Rattle.std.proofs.lemmas.Bool.{not-true, leb-true}
+use Rattle.std.proofs.lemmas.Bool.{not-true, leb-true, eqb-true}
 use Rattle.nfs_spec.specs.nfs_items.Timeval.{Timeval}
 use Rattle.nfs_spec.specs.nfs_items.Caller.{Caller}
 use Rattle.nfs_spec.specs.nfs_items.declared.stat.Stat.{Stat}
@@ -21,6 +21,7 @@ use Rattle.inode_table.specs.nfs_count_laws.CountChanges.{MayMove}
 use Rattle.inode_table.proofs.nfs_laws.OfSteps.Steps.{bind_ok, check_ok, file_ok, dir_ok, edit_ok, number_ok}
 use Rattle.inode_table.proofs.nfs_laws.OfSteps.Steps.{entry_found}
 use Rattle.inode_table.proofs.nfs_laws.OfSteps.Steps.{listing_found, ok_same}
+use Rattle.inode_table.specs.nfs_laws.Steps.Granted.{IsSameFile}
 use Rattle.inode_table.proofs.nfs_laws.OfSteps.Renaming.{target_ok}
 use Rattle.file_tree.specs.NameChecks.Moves.{Moving, names_to_edit, move_checked, with_moved}
 use Rattle.file_tree.proofs.OfNameChecks.Chains.{bind_assoc, bind_alike, map_bind, map_tests}
@@ -35,6 +36,11 @@ module _ (w : Files) (who : Caller) (from : ℕ) (from_name : List ℕ) (to : �
 
   abbrev not_into_itself : ℕ → File → Result (Unit {0}) Stat
   not_into_itself n f = check (not (is_directory f.body && is_above w n to)) stats.Acces
+
+  -- what moves in a file's move, by whether both names are of one file
+  abbrev further : ℕ → Listing → File → Bool → Result (Option Moving) Stat
+  further n l f same = if same then Ok None else (not_into_itself n f >>= (λ _.
+      check_target w f (target_in l) >>= (λ _. check_cookie l >>= (λ _. Ok (Some (n, target_in l))))))
 
   -- RENAME of a number that was found
   abbrev rest : Timeval → ℕ → Listing → Result (Unit {0} × Files) Stat
@@ -67,9 +73,7 @@ module _ (w : Files) (who : Caller) (from : ℕ) (from_name : List ℕ) (to : �
   rename_refused now e h = in_parts now ∙ ap (λ r. r >>= (λ p. rest now p.0 p.1)) h
 
   decided : (now : Timeval) (n : ℕ) (l : Listing) (f : File) (same : Bool)
-      → result_map_both (with_moved now w from from_name to to_name) (λ e. e)
-      (if same then Ok None else (not_into_itself n f >>= (λ _.
-      check_target w f (target_in l) >>= (λ _. check_cookie l >>= (λ _. Ok (Some (n, target_in l)))))))
+      → result_map_both (with_moved now w from from_name to to_name) (λ e. e) (further n l f same)
       ≡ (if same then Ok (tt, w) else (not_into_itself n f >>= (λ _.
       check_target w f (target_in l) >>= (λ _. check_cookie l >>= (λ _.
       Ok (tt, move_entry now w n from from_name to to_name (target_in l)))))))
@@ -84,8 +88,7 @@ module _ (w : Files) (who : Caller) (from : ℕ) (from_name : List ℕ) (to : �
       ≡ rename w who now from from_name to to_name
   rename_checked now n l h =
       map_bind (with_moved now w from from_name to to_name) (file_of w n)
-      (λ f. if is_same n l then Ok None else (not_into_itself n f >>= (λ _.
-      check_target w f (target_in l) >>= (λ _. check_cookie l >>= (λ _. Ok (Some (n, target_in l)))))))
+      (λ f. further n l f (is_same n l))
       ∙ bind_alike (file_of w n) _ _ (λ f. decided now n l f (is_same n l))
       ∙ sym (in_parts now ∙ ap (λ r. r >>= (λ p. rest now p.0 p.1)) h)
 
@@ -127,6 +130,37 @@ module _ (w : Files) (who : Caller) (from : ℕ) (from_name : List ℕ) (to : �
         named = (edit_ok w who to e.0 to_name q.0 found q.1).named;
       }
 
+  -- where nothing moves, both names are of one file
+  pub one_file : (n : ℕ) (l : Listing) → AreEnds n l → move_checked w n to l to_name ≡ Ok None
+      → IsSameFile w from from_name to to_name
+  one_file n l ends h =
+      let f = bind_ok (file_of w n) _ None h in
+      by f.0 (is_same n l) refl f.2
+    where
+      listed : (o : Option (ℕ × ℕ)) → entry_at l to_name ≡ o
+          → option_map_or (λ t. t == n) (option_map (λ e. e.0) o) false ≡ true
+          → IsSameFile w from from_name to to_name
+      listed None is same = absurd cc
+      listed (Some e) is same = (
+        n,
+        ends.cookie,
+        e.1,
+        ends.is_named,
+        ends.listed ∙ is ∙ ap (λ m. Some (m, e.1)) (eqb-true e.0 n same),
+      )
+
+      by : (f : File) (same : Bool) → is_same n l ≡ same → further n l f same ≡ Ok None
+          → IsSameFile w from from_name to to_name
+      by f true same h = listed (entry_at l to_name) refl same
+      by f false same h =
+          let a = bind_ok (not_into_itself n f) _ None h in
+          let t = bind_ok (check_target w f (target_in l)) _ None a.2 in
+          let k = bind_ok (check_cookie l) _ None t.2 in
+          absurd (none k.2)
+        where
+          none : ◌≡◌ {A = Result (Option Moving) Stat} (Ok (Some (n, target_in l))) (Ok None) → ⊥
+          none h = cc
+
   -- what moves may
   pub may_move : (n : ℕ) (l : Listing) → length to_name ≤ 255 → AreEnds n l → (m : Moving)
       → move_checked w n to l to_name ≡ Ok (Some m)
@@ -136,9 +170,7 @@ module _ (w : Files) (who : Caller) (from : ℕ) (from_name : List ℕ) (to : �
       by f.0 (file_ok w n f.0 f.1) (is_same n l) refl f.2
     where
       by : (f : File) → file_at w n ≡ Some f → (same : Bool) → is_same n l ≡ same
-          → (if same then Ok None else (not_into_itself n f >>= (λ _.
-          check_target w f (target_in l) >>= (λ _. check_cookie l >>= (λ _. Ok (Some (n, target_in l)))))))
-          ≡ Ok (Some m)
+          → further n l f same ≡ Ok (Some m)
           → (f : File) × (cookie : ℕ) × MayMove w m.0 from from_name to to_name f cookie m.1
       by f there true same h = absurd (none h)
         where

@@ -1,15 +1,17 @@
 -- Names that a caller may take out of directories.
-use Rattle.std.specs.Prelude.{◌==◌, length, Result, option_map}
+use Rattle.std.specs.Prelude.{◌==◌, length, IfOk, Result, option_map}
+use Rattle.std.specs.Result.{result_map_both}
 use Rattle.nfs_spec.specs.nfs_items.Timeval.{Timeval}
 use Rattle.nfs_spec.specs.nfs_items.Caller.{Caller}
 use Rattle.nfs_spec.specs.nfs_items.declared.stat.Stat.{Stat}
 use Rattle.nfs_spec.specs.nfs_items.declared.stat.Stat.TheVariants as stats
-use Rattle.nfs_spec.specs.nfs_items.Terms.{Name, FileNumber}
+use Rattle.nfs_spec.specs.nfs_items.Terms.{Cookie, Name, FileNumber}
 use Rattle.nfs_spec.specs.fs_spec.Listing.{Listing, file_number, entry_at}
 use Rattle.nfs_spec.specs.fs_spec.Files.{File, Files}
 use Rattle.nfs_spec.specs.ProcedureChecks.{◌>>=◌, ok_or, listing_or, check, NumberedDir, dir_of, check_edit}
 use Rattle.nfs_spec.specs.ProcedureChecks.{number_at}
-use Rattle.nfs_spec.specs.Changes.{touch, unlink}
+use Rattle.nfs_spec.specs.Changes.{Effect, touch, unlink}
+use Rattle.inode_table.specs.nfs_count_laws.CountChanges.{MayUnlink}
 use Rattle.inode_table.specs.inodes.Inodes.{file_in}
 use Rattle.file_tree.specs.declared.name_checks.found.Found.{Found}
 
@@ -37,3 +39,12 @@ check_empty f = do
 -- REMOVE and RMDIR of a name of a number
 abbrev pub unnamed : Timeval → Files → FileNumber → Name → FileNumber → Unit {0} × Files
 unnamed now fs dir name n = (tt, touch now (unlink now fs dir name n) dir)
+
+-- the same by what a check gave: the number, or a refusal
+abbrev pub unnamed_by : Timeval → Files → FileNumber → Name → Result FileNumber Stat → Effect (Unit {0})
+unnamed_by now fs dir name checked = result_map_both (unnamed now fs dir name) (λ e. e) checked
+
+-- the number that a check gave stands at the name, and may go from there
+abbrev pub MayGo : Files → FileNumber → Name → Result FileNumber Stat → Type 0
+MayGo fs dir name checked =
+    IfOk checked (λ number. (cookie : Cookie) × (f : File) × MayUnlink fs dir name number cookie f)

@@ -1,6 +1,6 @@
 //! What RENAME refuses.
 
-ghost use Rattle.std.specs.Prelude.{◌≡◌, ◌≤◌, IfOk, IfSome, length, option_map};
+ghost use Rattle.std.specs.Prelude.{◌≡◌, ◌≤◌, IfOk, IfSome, None, length, option_map};
 ghost use Rattle.std.specs.Result.{result_map_both};
 ghost use Rattle.nfs_spec.specs.nfs_items.Terms.{Cookie};
 ghost use Rattle.nfs_spec.specs.nfs_items.Timeval.{Timeval};
@@ -8,6 +8,7 @@ ghost use Rattle.nfs_spec.specs.nfs_items.CallerOf.{caller_of};
 ghost use Rattle.nfs_spec.specs.fs_spec.Maxima.{max_name};
 ghost use Rattle.nfs_spec.specs.fs_spec.Files.{File, IsDirectory};
 ghost use Rattle.nfs_spec.specs.Procedures.{check_target, rename};
+ghost use Rattle.inode_table.specs.nfs_laws.Steps.Granted.{IsSameFile};
 ghost use Rattle.inode_table.specs.nfs_count_laws.CountChanges.{MayMove};
 ghost use Rattle.inode_table.specs.inodes.Inodes.{file_in};
 ghost use Rattle.file_tree.specs.NameChecks.Moves.{names_to_edit, ends_found, move_of, move_checked, moved};
@@ -128,6 +129,7 @@ pub fn check_rename(
         ≡ rename table.now (caller_of who.now) now from from_name.now to to_name.now }
     ensures granted { IfOk result (λ o. IfSome o (λ m. (f : File) × (cookie : Cookie)
         × MayMove table.now m.number from from_name.now to to_name.now f cookie m.target)) }
+    ensures same { IfOk result (λ o. o ≡ None → IsSameFile table.now from from_name.now to to_name.now) }
 {
     let ends = find_ends(table, who, from, from_name, to, to_name)?;
     check_move(table, ends.number, to, ends.listing, to_name)

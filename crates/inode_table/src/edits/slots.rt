@@ -202,7 +202,7 @@ pub fn put_name(
 }
 
 /// Takes a name out of a directory, if it is there.
-pub fn take_name(inodes: &mut BTreeMap<u32, Inode>, dir: u32, name: &[u8])
+fn take_name(inodes: &mut BTreeMap<u32, Inode>, dir: u32, name: &[u8])
     ensures { ChangesFile dir (map_listing (λ l. without_entry l name.now))
         inodes.old.entries inodes.new.entries }
 {
@@ -244,7 +244,7 @@ pub fn set_parent(inodes: &mut BTreeMap<u32, Inode>, number: u32, parent: u32)
 }
 
 /// One more inode, under a free number. Where memory is refused nothing changes.
-pub fn add(inodes: &mut BTreeMap<u32, Inode>, number: u32, inode: Inode) -> Result<(), AllocError>
+fn add(inodes: &mut BTreeMap<u32, Inode>, number: u32, inode: Inode) -> Result<(), AllocError>
     ensures ok { OnOk result (AddsInode number inode inodes.old.entries inodes.new.entries) }
     ensures err { OnErr result (AreAlike inodes.old.entries inodes.new.entries) }
 {
@@ -253,7 +253,7 @@ pub fn add(inodes: &mut BTreeMap<u32, Inode>, number: u32, inode: Inode) -> Resu
 }
 
 /// Takes an inode out.
-pub fn remove(inodes: &mut BTreeMap<u32, Inode>, number: u32)
+fn remove(inodes: &mut BTreeMap<u32, Inode>, number: u32)
     ensures { RemovesInode number inodes.old.entries inodes.new.entries }
 {
     inodes.remove(&number);
@@ -359,7 +359,7 @@ pub fn unlink(
 
 /// Puts a name last in a directory, which has one link more if the name is a directory's. Where memory is
 /// refused nothing changes.
-pub fn add_entry(
+fn add_entry(
     inodes: &mut BTreeMap<u32, Inode>,
     dir: u32,
     name: Vec<u8>,

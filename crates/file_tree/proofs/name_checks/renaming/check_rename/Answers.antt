@@ -6,7 +6,7 @@ use Rattle.nfs_spec.specs.nfs_items.declared.stat.Stat.{Stat}
 use Rattle.file_tree.specs.declared.name_checks.renaming.Move.{Move}
 use Rattle.file_tree.specs.NameChecks.Moves.{ends_found, move_of, with_moved}
 use Rattle.file_tree.proofs.OfNameChecks.Chains.{map_twice}
-use Rattle.file_tree.proofs.OfNameChecks.Moved.{rename_refused, rename_checked, are_ends, may_move}
+use Rattle.file_tree.proofs.OfNameChecks.Moved.{rename_refused, rename_checked, are_ends, may_move, one_file}
 use Rattle.file_tree.proofs.name_checks.renaming.check_rename.Goals as goal
 
 pub returns-in_err-ends-clause-effect : goal.returns-in_err-ends-clause-effect
@@ -41,3 +41,17 @@ returns-clause-granted c = if_moves c.check_move.result _ (λ m is.
     c.args.to_name.now c.in_ok-ends.ends.number c.in_ok-ends.ends.listing.now
     (sym c.find_ends.ensures ∙ ap (result_map_both ends_found (λ e. e)) c.in_ok-ends.was))
     (move_of m) (sym c.check_move.ensures ∙ ap (result_map_both (option_map move_of) (λ e. e)) is))
+
+-- where nothing moves
+if_none : (r : Result (Option Move) Stat) (P : Type 0) → (r ≡ Ok None → P) → IfOk r (λ o. o ≡ None → P)
+if_none (Ok o) P h = λ is. h (ap (λ o. Ok o) is)
+if_none (Err e) P h = tt
+
+pub returns-clause-same : goal.returns-clause-same
+returns-clause-same c = if_none c.check_move.result _ (λ is.
+    one_file c.args.table.now (caller_of c.args.who.now) c.args.from c.args.from_name.now c.args.to
+    c.args.to_name.now c.in_ok-ends.ends.number c.in_ok-ends.ends.listing.now
+    (are_ends c.args.table.now (caller_of c.args.who.now) c.args.from c.args.from_name.now c.args.to
+    c.args.to_name.now c.in_ok-ends.ends.number c.in_ok-ends.ends.listing.now
+    (sym c.find_ends.ensures ∙ ap (result_map_both ends_found (λ e. e)) c.in_ok-ends.was))
+    (sym c.check_move.ensures ∙ ap (result_map_both (option_map move_of) (λ e. e)) is))

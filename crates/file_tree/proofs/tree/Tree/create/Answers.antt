@@ -5,7 +5,10 @@ use Rattle.nfs_spec.specs.ProcedureChecks.{◌>>=◌}
 use Rattle.nfs_spec.specs.Procedures.{set_attributes, create}
 use Rattle.inode_table.specs.inodes.Given.{given_in}
 use Rattle.file_tree.specs.FileChecks.Creates.{DecidesCreate}
-use Rattle.file_tree.specs.Performs.{DoesAt}
+use Rattle.file_tree.specs.KeptDigests.{DropsOnly}
+use Rattle.file_tree.specs.Performs.{DoesAt, Keeps, changed_by_create, number_if}
+use Rattle.nfs_spec.specs.Sattr.{gives_any}
+use Rattle.file_tree.proofs.CreatedFiles.{changed_old}
 use Rattle.file_tree.proofs.KeptDigests.{files_seen}
 use Rattle.file_tree.proofs.tree.Tree.create.Goals as goal
 
@@ -46,6 +49,24 @@ returns-in-Ok-clause-paths c =
     subst (λ w. DecidesCreate w (caller_of c.args.who.now) c.args.now c.args.dir c.args.name.now a
     (Ok (Some c.in-Ok-Some.number))) (files_seen c.self.view_is) (rw c.in-Ok-Some.field-0-is at found) in
     λ none. absurd (none_some (sym none ∙ over.0.1))
+
+-- what SETATTR of the file that has the name drops
+pub returns-in-Ok-clause-digests : goal.returns-in-Ok-clause-digests
+returns-in-Ok-clause-digests c =
+    let a = given_in c.of-given.result in
+    let found : DecidesCreate c.self.inside.table
+    (caller_of c.args.who.now) c.args.now c.args.dir c.args.name.now a (Ok c.in-Ok-Some.field-0) =
+    c.in-Ok-Some.ensures c.args.now a refl in
+    let over =
+    subst (λ w. DecidesCreate w (caller_of c.args.who.now) c.args.now c.args.dir c.args.name.now a
+    (Ok (Some c.in-Ok-Some.number))) (files_seen c.self.view_is) (rw c.in-Ok-Some.field-0-is at found) in
+    let kept : DropsOnly (number_if (gives_any a) c.in-Ok-Some.number) c.args.self.now c.set.new.self =
+    subst (λ r. Keeps (λ _. number_if (gives_any a) c.in-Ok-Some.number) c.args.self.now r c.set.new.self)
+    c.in-Ok.is c.in_ok-_attributes-in-Ok-Some.ensures.digests in
+    subst (λ ns. DropsOnly ns c.args.self.now c.set.new.self)
+    (sym (changed_old a c.args.self.now.files c.args.dir c.args.name.now c.in-Ok-Some.number _ over.0.1)
+    ∙ ap (λ a. changed_by_create a c.args.self.now.files c.args.dir c.args.name.now c.in-Ok-Some.number)
+    c.of-given.ensures) kept
 
 pub returns-in-Err-2-clause-effect : goal.returns-in-Err-2-clause-effect
 returns-in-Err-2-clause-effect c =

@@ -6,13 +6,14 @@ use Rattle.inode_table.specs.nfs_laws.Sizes.Bounds.{HasWords}
 use Rattle.inode_table.specs.inodes.Given.{given_in}
 use Rattle.inode_table.specs.inodes.Inodes.{file_in}
 use Rattle.file_tree.specs.FileChecks.Creates.{DecidesCreate}
-use Rattle.file_tree.proofs.CreatedFiles.{new_regular_is, may_create, create_does, create_names}
+use Rattle.file_tree.specs.KeptDigests.{DropsOnly}
+use Rattle.file_tree.proofs.CreatedFiles.{changed_new, new_regular_is, may_create, create_does, create_names}
 use Rattle.nfs_spec.specs.fs_spec.Files.{Files, file_at}
 use Rattle.inode_table.proofs.nfs_laws.OfTrees.FilesFit.{next_free}
 use Rattle.inode_table.proofs.nfs_laws.OfChanges.OtherFiles.{made_other}
 use Rattle.file_tree.proofs.KeptDigests.{made_kept, same_kept}
 use Rattle.file_tree.proofs.KeptDigests.{files_seen}
-use Rattle.file_tree.proofs.MissingDigests.{made_dropped}
+use Rattle.file_tree.proofs.MissingDigests.{made_dropped, seen}
 use Rattle.file_tree.proofs.tree.Tree.create_new.Goals as goal
 
 pub make-requires : goal.make-requires
@@ -83,9 +84,13 @@ invariant_of-self-2 c =
 
 pub returns-clause-digests : goal.returns-clause-digests
 returns-clause-digests c =
-    rw (← c.self.view_is) (made_dropped c.self.inside.table c.make.new.self c.self.inside.digests c.args.dir
+    subst (λ ns. DropsOnly ns c.args.self.now (seen c.make.new.self c.forget.new.self))
+    (sym (changed_new (given_in c.args.given.now) c.args.self.now.files c.args.dir c.args.name.now
+    c.in_ok-number.number c.requires.granted.0)) (
+    rw (← c.self.view_is) (made_dropped c.self.inside.table c.make.new.self c.self.inside.digests
+    c.self.invariant c.args.dir
     c.self.inside.table.next c.in_ok-number.number c.forget.new.self c.forget.ensures
-    c.in_ok-number.ensures.number
+    (next_free c.self.inside.table c.files_are_a_tree.ensures.tree) c.in_ok-number.ensures.number
     (λ n nd nn. ap (λ (w : Files). file_at w n) c.in_ok-number.ensures.ok
     ∙ made_other c.args.now c.self.inside.table c.args.dir c.in_ok-to_vec.field-0.items
-    (file_in c.new-inode.result) n nd nn))
+    (file_in c.new-inode.result) n nd nn)))

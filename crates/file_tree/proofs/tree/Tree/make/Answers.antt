@@ -84,9 +84,10 @@ invariant_of-self-2 c =
 
 pub returns-clause-digests : goal.returns-clause-digests
 returns-clause-digests c =
-    rw (← c.self.view_is) (made_dropped c.self.inside.table c.make.new.self c.self.inside.digests c.args.dir
+    rw (← c.self.view_is) (made_dropped c.self.inside.table c.make.new.self c.self.inside.digests
+    c.self.invariant c.args.dir
     c.self.inside.table.next c.in_ok-number.number c.forget.new.self c.forget.ensures
-    c.in_ok-number.ensures.number
+    (next_free c.self.inside.table c.files_are_a_tree.ensures.tree) c.in_ok-number.ensures.number
     (λ n nd nn. ap (λ (w : Files). file_at w n) c.in_ok-number.ensures.ok
     ∙ made_other c.args.now c.self.inside.table c.args.dir c.in_ok-to_vec.field-0.items
     (file_in c.args.inode) n nd nn))

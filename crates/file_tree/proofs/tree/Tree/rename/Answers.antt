@@ -1,4 +1,4 @@
-use Rattle.std.proofs.Common.{sym, ap, subst, ◌≡◌, ◌∙◌, arith, rules, Ok}
+use Rattle.std.proofs.Common.{refl, sym, ap, subst, ◌≡◌, ◌∙◌, arith, rules, Ok}
 use Rattle.std.specs.Prelude.{unwrap_or}
 use Rattle.nfs_spec.specs.nfs_items.CallerOf.{caller_of}
 use Rattle.nfs_spec.specs.fs_spec.Trees.{IsFileTree}
@@ -9,7 +9,7 @@ use Rattle.nfs_spec.specs.fs_spec.Files.{Files, file_at}
 use Rattle.inode_table.proofs.nfs_laws.OfChanges.OtherFiles.{moved_other}
 use Rattle.file_tree.proofs.KeptDigests.{four_kept}
 use Rattle.file_tree.proofs.KeptDigests.{files_seen}
-use Rattle.file_tree.proofs.MissingDigests.{moved_dropped}
+use Rattle.file_tree.proofs.RenamedDigests.{moved_dropped, one_file_dropped}
 use Rattle.file_tree.proofs.tree.Tree.rename.Goals as goal
 
 pub returns-clause-effect : goal.returns-clause-effect
@@ -55,10 +55,10 @@ invariant_of-self-2 c =
     let number = c.in-Some.field-0.number in
     let target = c.in-Some.field-0.target in
     four_kept c.self.inside.table c.rename.new.self c.self.inside.digests c.self.invariant
-    number c.args.from c.args.to c.unwrap_or.result
+    c.unwrap_or.result number c.args.to c.args.from
     c.forget.new.self c.forget-2.new.self c.forget-3.new.self c.forget-4.new.self
     c.forget.ensures c.forget-2.ensures c.forget-3.ensures c.forget-4.ensures
-    (λ n nn nf nt ng. ap (λ (w : Files). file_at w n) c.in_ok-rename.ensures.ok
+    (λ n ng nn nt nf. ap (λ (w : Files). file_at w n) c.in_ok-rename.ensures.ok
     ∙ moved_other c.args.now c.self.inside.table number c.args.from c.args.from_name.now c.args.to
     c.in_ok-name.name.items target n nf nt nn
     (λ k is e. ng (e ∙ sym (c.unwrap_or.ensures ∙ ap (λ t. unwrap_or t number) is))))
@@ -69,12 +69,19 @@ returns-clause-digests c =
     let target = c.in-Some.field-0.target in
     let granted = rw c.in-Some.is at c.in-Ok.ensures.granted in
     let goes : c.unwrap_or.result ≡ unwrap_or target number = c.unwrap_or.ensures in
-    rw (← c.self.view_is) (moved_dropped c.self.inside.table c.rename.new.self c.self.inside.digests number
-    c.args.from c.args.to target c.args.from_name.now c.args.to_name.now granted.1
+    rw (← c.self.view_is) (moved_dropped c.self.inside.table c.args.from c.args.from_name.now c.args.to
+    c.args.to_name.now number granted.1 target granted.2.is_named granted.2.is_target granted.2.other
+    c.rename.new.self c.self.inside.digests
     c.forget.new.self c.forget-2.new.self c.forget-3.new.self c.forget-4.new.self
-    granted.2.is_named granted.2.is_target
-    c.forget.ensures c.forget-2.ensures c.forget-3.ensures (rw goes at c.forget-4.ensures)
-    (λ n nn nf nt ng. ap (λ (w : Files). file_at w n) c.in_ok-rename.ensures.ok
+    (rw goes at c.forget.ensures) c.forget-2.ensures c.forget-3.ensures c.forget-4.ensures
+    (λ n ng nn nt nf. ap (λ (w : Files). file_at w n) c.in_ok-rename.ensures.ok
     ∙ moved_other c.args.now c.self.inside.table number c.args.from c.args.from_name.now c.args.to
     c.in_ok-name.name.items target n nf nt nn
     (λ k is e. ng (e ∙ sym (ap (λ t. unwrap_or t number) is)))))
+
+-- nothing moves, and all stay
+pub returns-in_default-clause-digests : goal.returns-in_default-clause-digests
+returns-in_default-clause-digests c =
+    rw (← c.self.view_is) (one_file_dropped c.self.inside.table c.args.from c.args.from_name.now c.args.to
+    c.args.to_name.now c.self.inside.table c.self.inside.digests (c.in-Ok.ensures.same c.in_default.is)
+    (λ n. refl))

@@ -1,13 +1,14 @@
 use Rattle.nfs_spec.specs.nfs_items.CallerOf.{caller_of}
 use Rattle.inode_table.specs.inodes.Given.{given_in}
 use Rattle.file_tree.proofs.OfFileChecks.Granted.{may_set, set_does}
-use Rattle.std.proofs.Common.{◌∙◌, ◌∷◌, [], ap, refl, sym}
+use Rattle.std.proofs.Common.{◌≡◌, ◌∙◌, true, false, ap, sym}
 use Rattle.nfs_spec.specs.fs_spec.Files.{Files, file_at}
 use Rattle.nfs_spec.proofs.fs_spec.OfChanges.Finite.{changed_other}
 use Rattle.nfs_spec.specs.Changes.{apply_fields}
+use Rattle.nfs_spec.specs.Sattr.{gives_any}
 use Rattle.file_tree.proofs.KeptDigests.{one_kept, same_kept, nothing_set}
 use Rattle.file_tree.proofs.KeptDigests.{files_seen}
-use Rattle.file_tree.proofs.MissingDigests.{keeps_others, one_dropped}
+use Rattle.file_tree.proofs.MissingDigests.{none_dropped, one_dropped}
 use Rattle.file_tree.proofs.tree.Tree.set.Goals as goal
 
 pub set-requires-clause-sized : goal.set-requires-clause-sized
@@ -58,18 +59,16 @@ invariant_of-self-2 c =
 pub returns-clause-digests : goal.returns-clause-digests
 returns-clause-digests c =
     let change = apply_fields c.args.now (given_in c.args.given.now) in
-    rw (← c.self.view_is) (one_dropped c.self.inside.table c.set.new.self c.self.inside.digests c.args.number
-    c.forget.new.self c.forget.ensures
+    let any : gives_any (given_in c.args.given.now) ≡ true = sym c.if-not-is_any.ensures in
+    rw (any, ← c.self.view_is) (one_dropped c.self.inside.table c.set.new.self c.self.inside.digests
+    c.args.number c.forget.new.self c.forget.ensures
     (λ n ne. ap (λ (w : Files). file_at w n) c.in_ok-attributes.ensures.ok
     ∙ changed_other c.self.inside.table c.args.number change n ne))
 
 -- nothing was given, and all stays
 pub returns-then-not-is_any-clause-digests : goal.returns-then-not-is_any-clause-digests
 returns-then-not-is_any-clause-digests c =
-    rw (← c.self.view_is) (keeps_others c.self.inside.table c.set.new.self c.self.inside.digests
-    c.self.inside.digests (c.args.number ∷ []) (λ n others. (
-      ap (λ (w : Files). file_at w n) c.in_ok-attributes.ensures.ok
-          ∙ nothing_set c.self.inside.table c.args.number c.args.now (given_in c.args.given.now)
-          (sym c.if-not-is_any.ensures) n,
-      refl,
-    )))
+    let none : gives_any (given_in c.args.given.now) ≡ false = sym c.if-not-is_any.ensures in
+    rw (none, ← c.self.view_is) (none_dropped c.self.inside.table c.set.new.self c.self.inside.digests
+    (λ n. ap (λ (w : Files). file_at w n) c.in_ok-attributes.ensures.ok
+    ∙ nothing_set c.self.inside.table c.args.number c.args.now (given_in c.args.given.now) none n))

@@ -1,4 +1,5 @@
-use Rattle.std.proofs.Common.{sym, ◌∙◌, ap}
+use Rattle.std.proofs.Common.{◌≡◌, true, false, length, sym, ◌∙◌, ap}
+use Rattle.std.specs.Prelude.{◌==◌}
 use Rattle.nfs_spec.specs.nfs_items.CallerOf.{caller_of}
 use Rattle.file_tree.proofs.OfFileChecks.Granted.{may_write_at, write_does, write_does_nothing, write_file}
 use Rattle.file_tree.proofs.FilesSeen.{told_there}
@@ -7,7 +8,7 @@ use Rattle.nfs_spec.proofs.fs_spec.OfChanges.Finite.{changed_other}
 use Rattle.nfs_spec.specs.Procedures.{with_bytes_written, write}
 use Rattle.file_tree.proofs.KeptDigests.{one_kept}
 use Rattle.file_tree.proofs.KeptDigests.{files_seen}
-use Rattle.file_tree.proofs.MissingDigests.{one_dropped}
+use Rattle.file_tree.proofs.MissingDigests.{all_kept, one_dropped}
 use Rattle.file_tree.proofs.tree.Tree.write.Goals as goal
 
 pub returns-then-is_empty-clause-effect : goal.returns-then-is_empty-clause-effect
@@ -58,9 +59,17 @@ returns-clause-digests c =
     let may = may_write_at c.self.inside.table
     (caller_of c.args.who.now) c.args.now c.args.number c.args.offset c.args.bytes.now granted.0 granted.1
     (sym c.if-is_empty.ensures) in
-    rw (← c.self.view_is) (one_dropped c.self.inside.table c.write.new.self c.self.inside.digests
+    let some : (length c.args.bytes.now == 0) ≡ false = sym c.if-is_empty.ensures in
+    rw (some, ← c.self.view_is) (one_dropped c.self.inside.table c.write.new.self c.self.inside.digests
     c.args.number
     c.forget.new.self c.forget.ensures
     (λ n ne. ap (λ (w : Files). file_at w n) (c.in_ok-attributes.ensures.ok may.0 may.1)
     ∙ changed_other c.self.inside.table c.args.number
     (with_bytes_written c.args.now c.args.offset c.args.bytes.now may.0) n ne))
+
+-- no bytes, and all stays
+pub returns-then-is_empty-clause-digests : goal.returns-then-is_empty-clause-digests
+returns-then-is_empty-clause-digests c =
+    let none : (length c.args.bytes.now == 0) ≡ true = sym c.if-is_empty.ensures in
+    rw (none, ← c.self.view_is) (all_kept c.self.inside.table c.self.inside.digests
+    c.attributes.result)
