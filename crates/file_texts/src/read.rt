@@ -7,12 +7,12 @@ ghost use Rattle.xdr.specs.ReadFault.{xdr_fault};
 ghost use Rattle.fs_spec.specs.nfs_items.Timeval.{timeval};
 ghost use Rattle.tree_rules.specs.GivenListing.{said_entry, said_entries};
 ghost use Rattle.server_spec.specs.FileItems.{entry_item, attributes_item, kind_item, is_file_kind, file_item};
-ghost use Rattle.tree_rules.specs.declared.limits.TheConstants.{MAX_ENTRIES};
+ghost use Rattle.tree_rules.specs.declared.limits.TheConstants.{MAX_DIRECTORY_ENTRIES};
 ghost use Rattle.file_texts.specs.Parts.{time_said, attributes_said, kind_said, file_said};
 
 use crate::parts::{AttributesPart, BodyPart, FilePart, TimePart};
 use std::alloc::Global;
-use tree_rules::{GivenEntry, MAX_ENTRIES, MAX_FILE_SIZE};
+use tree_rules::{GivenEntry, MAX_DIRECTORY_ENTRIES, MAX_FILE_SIZE};
 use xdr::{FromXdr, ReadFault, Reader, XdrFault, put_back_on_err};
 
 /// The most bytes of a name.
@@ -119,11 +119,11 @@ fn read_entries<'a>(
     alloc: Global,
     reader: &mut Reader<'a>,
 ) -> Result<Vec<GivenEntry<'a>>, ReadFault>
-    ensures { GivesUnless xdr_fault (array MAX_ENTRIES entry_item) (λ v. said_entries v.items)
+    ensures { GivesUnless xdr_fault (array MAX_DIRECTORY_ENTRIES entry_item) (λ v. said_entries v.items)
         reader.old result reader.new }
 {
     let count = reader.u32()?;
-    if count > MAX_ENTRIES {
+    if count > MAX_DIRECTORY_ENTRIES {
         return Err(ReadFault::Fault(XdrFault::TooLong));
     }
     let mut entries = Vec::new(alloc);

@@ -13,7 +13,7 @@ ghost use Rattle.server_spec.specs.FileItems.{entry_item, attributes_item, attri
 ghost use Rattle.server_spec.specs.FileItems.{kind_value, is_file_kind, file_item, file_value};
 ghost use Rattle.file_texts.specs.Bounds.{IsWritable};
 ghost use Rattle.file_texts.specs.Stored.{entry_in};
-ghost use Rattle.tree_rules.specs.declared.limits.TheConstants.{MAX_ENTRIES};
+ghost use Rattle.tree_rules.specs.declared.limits.TheConstants.{MAX_DIRECTORY_ENTRIES};
 
 use fs_spec::Time;
 use indexmap::map::Slice;
@@ -75,7 +75,7 @@ fn add_symlink(inode: &Inode, target: &[u8], out: &mut Vec<u8>) -> Result<(), Al
 }
 
 fn add_directory(inode: &Inode, listing: &Directory, out: &mut Vec<u8>) -> Result<(), AllocError>
-    requires few { length listing.now.entries ≤ MAX_ENTRIES }
+    requires few { length listing.now.entries ≤ MAX_DIRECTORY_ENTRIES }
     requires names { AllByRecursion (λ e. length e.0 ≤ max_name) listing.now.entries }
     ensures fits { OnOk result (Fits (choice is_file_kind kind_item)
         (2, (attributes_value (file_in inode.now), (listing.now.next, listing.now.entries)))) }
@@ -91,10 +91,10 @@ fn add_directory(inode: &Inode, listing: &Directory, out: &mut Vec<u8>) -> Resul
 
 /// A directory's entries after their count.
 fn add_entries(listing: &Directory, out: &mut Vec<u8>) -> Result<(), AllocError>
-    requires few { length listing.now.entries ≤ MAX_ENTRIES }
+    requires few { length listing.now.entries ≤ MAX_DIRECTORY_ENTRIES }
     requires names { AllByRecursion (λ e. length e.0 ≤ max_name) listing.now.entries }
-    ensures fits { OnOk result (Fits (array MAX_ENTRIES entry_item) listing.now.entries) }
-    ensures text { Adds (spelling (array MAX_ENTRIES entry_item) listing.now.entries)
+    ensures fits { OnOk result (Fits (array MAX_DIRECTORY_ENTRIES entry_item) listing.now.entries) }
+    ensures text { Adds (spelling (array MAX_DIRECTORY_ENTRIES entry_item) listing.now.entries)
         out.old.items result out.new.items }
 {
     out.put_u32(listing.len() as u32)?;

@@ -16,7 +16,7 @@ mod setting;
 mod tree;
 
 pub use inode_table::{is_tree, total_usage};
-pub use limits::{MAX_BLOCKS, MAX_ENTRIES, MAX_FILES, MAX_NUMBER};
+pub use limits::{MAX_BLOCKS, MAX_DIRECTORY_ENTRIES, MAX_FILES, MAX_NUMBER};
 pub use nfs_spec::{
     DirOpArgs, DirOpOk, NfsArgs, NfsResult, SHORT_ANSWER, write_attributes, write_dir_op,
     write_result,

@@ -1,3 +1,3 @@
 //! Limits of a server.
 
-pub use crate::file_checks::{MAX_BLOCKS, MAX_ENTRIES, MAX_FILES, MAX_NUMBER};
+pub use crate::file_checks::{MAX_BLOCKS, MAX_DIRECTORY_ENTRIES, MAX_FILES, MAX_NUMBER};

@@ -9,6 +9,6 @@ mod table;
 
 pub use table::InodeTable;
 pub use tree_rules::{
-    BLOCK_SIZE, Body, Directory, Given, Inode, MAX_BLOCKS, MAX_ENTRIES, MAX_FILE_SIZE, MAX_FILES,
-    is_name, is_tree, total_usage,
+    BLOCK_SIZE, Body, Directory, Given, Inode, MAX_BLOCKS, MAX_DIRECTORY_ENTRIES, MAX_FILE_SIZE,
+    MAX_FILES, is_name, is_tree, total_usage,
 };

@@ -11,6 +11,6 @@ mod rules;
 pub use entries::{GivenEntry, directory_of};
 pub use inodes::directories::{Directory, Entry, is_name};
 pub use inodes::{BLOCK_SIZE, Body, Given, Inode, MAX_FILE_SIZE};
-pub use limits::{MAX_BLOCKS, MAX_ENTRIES, MAX_FILES, Usage, total_usage};
+pub use limits::{MAX_BLOCKS, MAX_DIRECTORY_ENTRIES, MAX_FILES, Usage, total_usage};
 pub use names::{Counts, count_names, numbers_in, place_of};
 pub use rules::is_tree;

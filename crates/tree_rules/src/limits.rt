@@ -17,7 +17,7 @@ use inodes::{Body, Inode};
 pub const MAX_FILES: usize = 8_192;
 
 /// The greatest number of directory entries of a server.
-pub const MAX_ENTRIES: u32 = 16_384;
+pub const MAX_DIRECTORY_ENTRIES: u32 = 16_384;
 
 /// The greatest number of blocks of 512 bytes that the regular files of a server take.
 pub const MAX_BLOCKS: u32 = 32_768;
@@ -60,7 +60,7 @@ fn with_file(usage: Usage, body: &Body) -> Option<Usage>
 {
     let entries = entry_count(body);
     let blocks = body.blocks();
-    if entries > (MAX_ENTRIES - usage.entries) as usize {
+    if entries > (MAX_DIRECTORY_ENTRIES - usage.entries) as usize {
         return None;
     }
     if blocks > MAX_BLOCKS - usage.blocks {

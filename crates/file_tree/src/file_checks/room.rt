@@ -7,7 +7,7 @@ ghost use Rattle.nfs_spec.specs.fs_spec.Changes.Limits.{block_count};
 ghost use Rattle.inode_table.specs.nfs_laws.Room.{HasRoomToMake, HasRoomToLink};
 ghost use Rattle.file_tree.specs.FileChecks.Decides.{IsCheckOf};
 
-use crate::file_checks::limits::{MAX_BLOCKS, MAX_ENTRIES, MAX_FILES, MAX_NUMBER};
+use crate::file_checks::limits::{MAX_BLOCKS, MAX_DIRECTORY_ENTRIES, MAX_FILES, MAX_NUMBER};
 use inode_table::{Directory, InodeTable};
 use nfs_spec::Stat;
 
@@ -27,7 +27,7 @@ pub fn check_blocks(table: &InodeTable, before: u32, after: u32) -> Result<(), S
 pub fn check_entry(table: &InodeTable, listing: &Directory) -> Result<(), Stat>
     ensures { IsCheckOf (HasRoomToLink table.now listing.now.next) stats.NoSpc result }
 {
-    if table.entry_count() < MAX_ENTRIES && listing.next() <= MAX_NUMBER {
+    if table.entry_count() < MAX_DIRECTORY_ENTRIES && listing.next() <= MAX_NUMBER {
         Ok(())
     } else {
         Err(Stat::NoSpc)

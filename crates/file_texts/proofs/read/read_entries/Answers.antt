@@ -5,7 +5,7 @@ use Rattle.xdr.specs.Reading.{read_at}
 use Rattle.xdr.specs.ArraysAndUnions.{begins, goes_on, fails_unless, ends, array_at}
 use Rattle.tree_rules.specs.GivenListing.{said_entry, said_entries}
 use Rattle.server_spec.specs.FileItems.{entry_item}
-use Rattle.tree_rules.specs.declared.limits.TheConstants.{MAX_ENTRIES}
+use Rattle.tree_rules.specs.declared.limits.TheConstants.{MAX_DIRECTORY_ENTRIES}
 use Rattle.file_texts.proofs.read.read_entries.Goals as goal
 
 pub returns-in_err-read_entry : goal.returns-in_err-read_entry
@@ -16,8 +16,8 @@ returns-in_err-read_entry c =
     rw (
       p.1,
       p.2,
-      array_at entry_item MAX_ENTRIES c.in_ok-count.count _ _ c.in_ok-count.ensures
-          c.if-count-gt-MAX_ENTRIES.false,
+      array_at entry_item MAX_DIRECTORY_ENTRIES c.in_ok-count.count _ _ c.in_ok-count.ensures
+          c.if-count-gt-MAX_DIRECTORY_ENTRIES.false,
     ) (fails_unless _ _ _ _ _ _ _ c.loop-test.true
     c.in_err-read_entry.ensures c.loop.invariant)
 
@@ -36,6 +36,6 @@ loop-init c = rw c.new-entries.ensures.items (begins (read_at entry_item) c.in_o
 pub returns : goal.returns
 returns c =
     let whole =
-    array_at entry_item MAX_ENTRIES c.in_ok-count.count c.args.reader.now c.u32.new.self
-    c.in_ok-count.ensures c.if-count-gt-MAX_ENTRIES.false in
+    array_at entry_item MAX_DIRECTORY_ENTRIES c.in_ok-count.count c.args.reader.now c.u32.new.self
+    c.in_ok-count.ensures c.if-count-gt-MAX_DIRECTORY_ENTRIES.false in
     rw whole (ends _ _ _ _ _ _ c.loop-test.false c.loop.invariant)
