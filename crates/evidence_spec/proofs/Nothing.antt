@@ -69,6 +69,6 @@ unsigned ms member node at a b honest there h k =
       b = option_map authenticator_showing b;
     } in
     own_texts ms member (record { node = node; charge = Fork showings }) [] (opening_of member) there
-    (record { each = tt; few = omega arith }) honest
+    (record { each = tt; bytes = tt; few = omega arith }) honest
     (λ of signed. absurd (h signed), each_unforged ms member.node [] b k)
     (λ t i. absurd (no_texts b t i)) (λ s t i j e. absurd i)

@@ -53,7 +53,11 @@ reading_texts s t (inr (inl a)) (inr (inr j)) e = absurd j
 reading_texts s t (inr (inr i)) j e = absurd i
 
 reading_log : IsLog reading
-reading_log = record { each = ((omega arith, refl, (omega arith, omega arith)), tt); few = omega arith }
+reading_log = record {
+  each = ((omega arith, refl, (omega arith, omega arith)), tt);
+  bytes = (tt, tt);
+  few = omega arith;
+}
 
 -- a client's segment of one clock reading proves nothing, whatever signature closes it
 pub reading_proves_nothing : (ms : List Member) (member : Member) (node : ℕ) (closing : Authenticator)

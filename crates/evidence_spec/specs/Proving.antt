@@ -15,14 +15,16 @@ use Rattle.replay_spec.specs.secure_log.LogEntries.Chain.{zeros, links_from, cha
 use Rattle.replay_spec.specs.secure_log.Log.{log_pairs}
 use Rattle.replay_spec.specs.secure_log.Segment.{SegmentParts}
 use Rattle.replay_spec.specs.state_spec.State.{State}
+use Rattle.replay_spec.specs.Bodies.{HasBytes}
 use Rattle.replay_spec.specs.Opening.{opening_of}
 use Rattle.replay_spec.specs.HonestLogs.{IsHonestLog}
 use Rattle.evidence_spec.specs.Showing.{ShowingParts, numbered}
 use Rattle.evidence_spec.specs.Evidence.{Charge, Fork, Replay, EvidenceParts}
 
--- Entries are those of a log: each has a text, and their numbers are of 64 bits.
+-- Entries are those of a log: each has a text, bodies are bytes, and their numbers are of 64 bits.
 pub record IsLog (entries : List Entry) : Type 0 where
   pub each : AllByRecursion (λ e. Fits entry_item (entry_value e)) entries
+  pub bytes : AllByRecursion HasBytes entries
   pub few : length entries < 2 ^ 64
 
 -- ---- texts that are hashed

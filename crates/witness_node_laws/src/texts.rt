@@ -1,22 +1,26 @@
-//! What the entries of a log have by their types: texts.
+//! What the entries of a log have by their types: texts, and bodies of bytes.
 
 ghost use Rattle.std.specs.Prelude.{◌<◌, ◌^◌, length, map};
 ghost use Rattle.std.specs.List.{AllByRecursion};
 ghost use Rattle.xdr.specs.Item.{Fits};
 ghost use Rattle.merkle_keys.specs.Signing.{signature_item, signature_value};
 ghost use Rattle.secure_log.specs.LogEntries.Entry.{entry_item, entry_value};
+ghost use Rattle.node_logs.specs.replay_spec.Bodies.{HasBytes};
 
 use authenticator::Number;
+use secure_log::are_bytes;
 use secure_log::log_entries::{Body, Entry, SignatureText};
 use std::alloc::Global;
 
-/// Entries each have a text, and are fewer than 2^64. Takes memory once for each signature, and tells a
-/// caller's proof.
+/// Entries each have a text and a body of bytes, if any, and are fewer than 2^64. Takes memory once for each
+/// signature, and tells a caller's proof.
 pub(crate) fn entries_have_texts(alloc: Global, entries: &[Entry])
     ensures each { AllByRecursion (Fits entry_item) (map entry_value entries.now) }
+    ensures bytes { AllByRecursion HasBytes entries.now }
     ensures few { length entries.now < 2 ^ 64 }
 {
     let _count = entries.len();
+    bodies_are_bytes(entries);
     for entry in entries {
         has_text(alloc, entry);
     }
@@ -107,4 +111,29 @@ fn signature_has_text(alloc: Global, signature: &SignatureText)
 {
     let mut text = Vec::new(alloc);
     let _written = signature.signature().write(&mut text);
+}
+
+/// The body of each SEND and each RECV is bytes.
+fn bodies_are_bytes(entries: &[Entry])
+    ensures { AllByRecursion HasBytes entries.now }
+{
+    for entry in entries {
+        has_bytes(entry);
+    }
+}
+
+fn has_bytes(entry: &Entry)
+    ensures { HasBytes entry.now }
+{
+    match entry {
+        Entry::Send { to: _, body } => are_bytes(body.bytes()),
+        Entry::Recv {
+            from: _,
+            seq: _,
+            prev: _,
+            body,
+            signature: _,
+        } => are_bytes(body.bytes()),
+        _ => {}
+    }
 }

@@ -2,14 +2,15 @@
 -- Serves: answers.
 use Rattle.std.proofs.Common.{◌≡◌, inl, inr, ℕ, zero, suc, ◌<◌, ◌≤◌, true, cond, ◌==◌, ◌&&◌, List}
 use Rattle.std.proofs.Common.{[], ◌∷◌, ◌++◌, Some, Ok, Err, length, get_or, replicate}
-use Rattle.std.proofs.Common.{refl, ap, ap₂, subst, arith}
+use Rattle.std.proofs.Common.{refl, ap, ap₂, subst, ltb, arith}
 use Rattle.std.specs.Prelude.{is_some}
 use Rattle.std.specs.FinMap as finite
-use Rattle.std.proofs.lemmas.Bool.{and_from}
+use Rattle.std.specs.List.{list_all}
+use Rattle.std.proofs.lemmas.Bool.{and_from, and_parts, ltb-true}
 use Rattle.std.proofs.lemmas.List.{length-replicate}
 use Rattle.sha2.proofs.Facts256.{length-sha256}
 use Rattle.lamport.specs.declared.key.TheConstants.{TEXT_SIZE}
-use Rattle.xdr.specs.Item.{Fits, number_spelling}
+use Rattle.xdr.specs.Item.{Fits, IsBytes, number_spelling}
 use Rattle.xdr.specs.Reading.{number_at, fixed_at, opaque_at, tested_at}
 use Rattle.merkle_keys.specs.Signing.{signature_item, signature_value}
 use Rattle.merkle_keys.specs.Tree.{root, path_end, parent_hash, inner_hash}
@@ -102,6 +103,12 @@ signature_fits =
 
 -- ---- the log has texts
 
+-- numbers that are each tested to be a byte
+are_bytes : (xs : List ℕ) → list_all (λ x. ltb x 256) xs ≡ true → IsBytes xs
+are_bytes [] h i = omega arith
+are_bytes (x ∷ xs) h zero = ltb-true x 256 (and_parts _ _ h).0
+are_bytes (x ∷ xs) h (suc i) = are_bytes xs (and_parts _ _ h).1 i
+
 -- each entry has a text
 pub served_log : IsLog served
 served_log = record {
@@ -125,6 +132,7 @@ served_log = record {
       ),
     ),
   );
+  bytes = (are_bytes call refl, (tt, (are_bytes reply refl, tt)));
   few = omega arith;
 }
 

@@ -4,6 +4,7 @@ use Rattle.xdr.specs.Item.{Fits}
 use Rattle.secure_log.specs.declared.log_entries.entry.Entry.{Entry}
 use Rattle.secure_log.specs.LogEntries.Entry.{entry_item, entry_value}
 use Rattle.witness_laws.proofs.evidence_spec.Parts.{each_of_values}
+use Rattle.node_logs.specs.replay_spec.Bodies.{HasBytes}
 use Rattle.node_logs.specs.Steps.Nodes.{log_of, sender_of}
 use Rattle.witness_node_laws.proofs.Listed.{honest_from}
 use Rattle.witness_node_laws.proofs.Pairs.{of_place}
@@ -19,6 +20,8 @@ returns c =
         each = each_of_values n.entries
             (subst (λ (es : List Entry). AllByRecursion (Fits entry_item) (map entry_value es)) same
             c.entries_have_texts.ensures.each);
+        bytes = subst (λ (es : List Entry). AllByRecursion HasBytes es) same
+            c.entries_have_texts.ensures.bytes;
         few = subst (λ (es : List Entry). length es < 2 ^ 64) same c.entries_have_texts.ensures.few;
       };
       honest = λ plain m listed. honest_from n m listed (c.is_honest.ensures.honest plain);
