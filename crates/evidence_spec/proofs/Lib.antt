@@ -5,6 +5,7 @@ pub mod Chained
 pub mod Contents
 pub mod Parts
 pub mod Shown
+pub mod Reached
 pub mod Accepted
 pub mod Closed
 pub mod Nothing

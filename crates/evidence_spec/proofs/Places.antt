@@ -1,6 +1,6 @@
 -- Where a pair stands among the pairs of a chain whose links are numbered one after the other.
 -- Serves: one_hash_at_a_number, what_is_shown_is_of_the_log.
-use Rattle.std.proofs.Common.{◌≡◌, ℕ, suc, ◌+◌, List, [], ◌∷◌, ◌++◌, length, inl, inr, refl, sym, ap, ap₂}
+use Rattle.std.proofs.Common.{◌≡◌, ℕ, suc, ◌+◌, List, [], ◌∷◌, ◌++◌, length, inl, inr, refl, sym, ap}
 use Rattle.std.proofs.Common.{subst, ◌∙◌, arith}
 use Rattle.std.specs.List.{AllByRecursion}
 use Rattle.replay_spec.specs.secure_log.declared.log_entries.entry.Entry.{Entry}
@@ -76,6 +76,11 @@ behind before opening (l ∷ links) number hash n (inr i) =
       is = rest.is;
     }
 
+-- the first of some pairs is among them
+pub head_among : (n : ℕ) (h : List ℕ) (ls : List Link) → IsAmong (n, h) (pairs n h ls)
+head_among n h [] = inl refl
+head_among n h (l ∷ ls) = inl refl
+
 -- and the number and hash after some first links are a pair of the chain
 pub among : (before : ℕ) (opening : List ℕ) (front rest : List Link) (number : ℕ)
     → AreNumbered (before + 1) (front ++ rest) → number ≡ before + length front
@@ -91,16 +96,17 @@ among before opening (l ∷ front) rest number n h =
 
 -- ---- one hash at a number
 
--- lists that begin one list, and are of one length, are the same
-pub one_beginning : {A : Type 0} (xs ys us vs : List A) → xs ++ us ≡ ys ++ vs → length xs ≡ length ys
-    → xs ≡ ys
-one_beginning [] [] us vs e n = refl
-one_beginning [] (y ∷ ys) us vs e n = absurd (omega arith)
-one_beginning (x ∷ xs) [] us vs e n = absurd (omega arith)
-one_beginning (x ∷ xs) (y ∷ ys) us vs e n =
-    let heads : x ≡ y = cc in
-    let tails : xs ++ us ≡ ys ++ vs = cc in
-    ap₂ (λ z zs. z ∷ zs) heads (one_beginning xs ys us vs tails (omega arith))
+-- what stands at one place is one
+pub same_parts : {A : Type 0} (xs ys us vs : List A) → xs ++ us ≡ ys ++ vs → length xs ≡ length ys
+    → (xs ≡ ys) × (us ≡ vs)
+same_parts [] [] us vs e n = (refl, e)
+same_parts [] (y ∷ ys) us vs e n = absurd (omega arith)
+same_parts (x ∷ xs) [] us vs e n = absurd (omega arith)
+same_parts (x ∷ xs) (y ∷ ys) us vs e n =
+    let head : x ≡ y = cc in
+    let tail : xs ++ us ≡ ys ++ vs = cc in
+    let g = same_parts xs ys us vs tail (omega arith) in
+    ((cc), g.1)
 
 -- what holds of each of a list holds of each of its first
 pub all_front : {A : Type 0} (P : A → Type 0) (xs ys : List A) → AllByRecursion P (xs ++ ys)
@@ -115,6 +121,6 @@ pub one_hash : (before : ℕ) (opening : List ℕ) (links : List Link) (number :
 one_hash before opening links number one other n i j =
     let a = behind before opening links number one n i in
     let b = behind before opening links number other n j in
-    let same : a.front ≡ b.front =
-    one_beginning a.front b.front a.rest b.rest (sym a.whole ∙ b.whole) (omega (arith, a.count, b.count)) in
-    a.is ∙ ap (last_hash opening) same ∙ sym b.is
+    let same = same_parts a.front b.front a.rest b.rest (sym a.whole ∙ b.whole)
+    (omega (arith, a.count, b.count)) in
+    a.is ∙ ap (last_hash opening) same.0 ∙ sym b.is

@@ -17,6 +17,8 @@ use Rattle.replay_spec.specs.secure_log.Log.{log_hash, log_pairs}
 use Rattle.replay_spec.specs.secure_log.Segment.{SegmentParts, IsClosed, FitsWithin, segment_pairs}
 use Rattle.replay_spec.specs.secure_log.declared.segment.TheConstants.{MAX_ENTRIES}
 use Rattle.replay_spec.specs.state_spec.State.{State}
+use Rattle.replay_spec.specs.Placed.{placed}
+use Rattle.replay_spec.specs.Replay.{Honest, Sound, segment_verdict}
 use Rattle.replay_spec.specs.Opening.{opening_of}
 use Rattle.replay_spec.specs.HonestLogs.{IsHonestLog}
 use Rattle.evidence_spec.specs.Showing.{ShowingParts, IsClosedShowing, Shows}
@@ -58,6 +60,41 @@ SegmentIsOfTheLog =
     → NoCollision (log_texts log ++ segment_texts s)
     → IsPartOf log s × ((number : ℕ) (hash : List ℕ)
     → IsAmong (number, hash) (segment_pairs s) → IsAmong (number, hash) (log_pairs log))
+
+-- A log has reached a state at a number: after as many entries it is honest from this state on.
+pub record Reached (ms : List Member) (log : List Entry) (number : ℕ) (state : State) : Type 0 where
+  pub before : List Entry
+  pub rest : List Entry
+  pub whole : log ≡ before ++ rest
+  pub count : length before ≡ number
+  -- the state after each entry of the rest
+  pub states : List State
+  pub honest : Honest ms state (placed (length before + 1) (log_hash before) rest) states
+
+-- A segment is a log's, right after a number: its entries stand there, and its opening hash is that of the
+-- number.
+pub record IsNextIn (log : List Entry) (number : ℕ) (s : SegmentParts) : Type 0 where
+  pub first : s.first ≡ number + 1
+  -- it has an entry at each number up to its closing one
+  pub last : s.closing.number + 1 ≡ s.first + length s.entries
+  pub part : IsPartOf log s
+  pub opening : IsAmong (number, s.opening) (log_pairs log)
+
+-- A segment replays sound from a state, and the log has reached the state after it at its closing number.
+pub record IsSoundIn (ms : List Member) (log : List Entry) (state : State) (s : SegmentParts) : Type 0 where
+  pub after : State
+  -- what it shows of other nodes
+  pub found : List Authenticator
+  pub sound : segment_verdict ms state s ≡ Sound after found
+  pub reached : Reached ms log s.closing.number after
+
+-- A segment of a log, right after a number at which the log has reached a state, replays sound from that state,
+-- and the log has reached the state after it at the segment's closing number. No digest is spoken of: that the
+-- segment is the log's is a premise.
+abbrev pub SegmentsGoOnSound : Type 0
+SegmentsGoOnSound =
+    (ms : List Member) (log : List Entry) (number : ℕ) (state : State) (s : SegmentParts)
+    → Reached ms log number state → IsNextIn log number s → IsSoundIn ms log state s
 
 -- Two entries are of one kind, and their contents have one digest.
 pub record SameContent (e f : Entry) : Type 0 where

@@ -1,12 +1,13 @@
 //! What holds of evidence.
 
 ghost use Rattle.evidence_spec.specs.Laws.{OneHashAtANumber, ShownIsOfTheLog, SegmentIsOfTheLog};
+ghost use Rattle.evidence_spec.specs.Laws.{SegmentsGoOnSound};
 ghost use Rattle.evidence_spec.specs.Laws.{ContentsGiveEntriesBack, AcceptedEvidenceProves};
 ghost use Rattle.evidence_spec.specs.Laws.{AuthenticatorsShowOnePair, SegmentsShowTheirPairs};
 ghost use Rattle.evidence_spec.specs.Laws.{OwnTextsProveNothing, UnsignedProveNothing};
 ghost use Rattle.evidence_spec.specs.Laws.{OneReadingProvesNothing};
 
-use replay_spec::laws::{logs_grow, sound_exactly_if};
+use replay_spec::laws::logs_grow;
 
 /// A log has one hash at each number.
 pub fn one_hash_at_a_number()
@@ -20,6 +21,12 @@ pub fn what_is_shown_is_of_the_log()
     ensures segment { SegmentIsOfTheLog }
 {}
 
+/// A segment of a log, right after a number at which the log has reached a state, replays sound from that state,
+/// and the log has reached the state after it at its closing number.
+pub fn a_segment_after_a_reached_place_is_sound()
+    ensures { SegmentsGoOnSound }
+{}
+
 /// Entries of one kind whose contents have one digest are the same, where no two texts have one digest.
 pub fn contents_give_entries_back()
     ensures { ContentsGiveEntriesBack }
@@ -30,7 +37,7 @@ pub fn contents_give_entries_back()
 pub fn accepted_evidence_proves()
     ensures { AcceptedEvidenceProves }
 {
-    sound_exactly_if();
+    a_segment_after_a_reached_place_is_sound();
 }
 
 /// A signed authenticator alone, and the links of a closed segment, are closed showings, of that pair and of

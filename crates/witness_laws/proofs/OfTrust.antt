@@ -1,4 +1,3 @@
 -- Lemmas on what a node shows while its log is honest. Serves: `trust`.
 pub mod Pairs
-pub mod Parts
 pub mod Trust

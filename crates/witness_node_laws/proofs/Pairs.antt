@@ -7,7 +7,7 @@ use Rattle.secure_log.specs.declared.log_entries.entry.Entry.{Entry}
 use Rattle.secure_log.specs.LogEntries.Chain.{Link, StandsIn, hash_after, link_of, links_from, pairs, zeros}
 use Rattle.secure_log.specs.LogEntries.Chain.{IsAmong}
 use Rattle.secure_log.specs.Log.{LogParts, IsOfPlace, hash_at, log_pairs}
-use Rattle.witness_laws.proofs.OfTrust.Trust.{head_among}
+use Rattle.witness_laws.proofs.evidence_spec.Places.{head_among}
 
 in_middle : {A : Type 0} (x : A) (xs ys : List A) → IsAmong x (xs ++ x ∷ ys)
 in_middle x [] ys = inl refl

@@ -2,26 +2,25 @@
 -- lies in it, with the log's state there.
 -- Serves: honest_is_never_exposed.
 use Rattle.std.proofs.Common.{◌≡◌, inl, inr, ℕ, ◌+◌, ◌-◌, ◌<◌, ◌≤◌, Bool, true, false, ◌||◌, List, [], ◌∷◌}
-use Rattle.std.proofs.Common.{◌++◌, length, Option, Some, None, refl, sym, ap, ap₂, subst, ◌∙◌, append_assoc}
-use Rattle.std.proofs.Common.{length-append, arith}
+use Rattle.std.proofs.Common.{◌++◌, Option, Some, None, refl, sym, ap, ap₂, subst, ◌∙◌}
+use Rattle.std.proofs.Common.{arith}
 use Rattle.std.specs.List.{AllByRecursion, flat_map}
 use Rattle.std.proofs.lemmas.Bool.{and_parts, or_from, ltb-true}
 use Rattle.authenticator.specs.declared.authenticator.Authenticator.{Authenticator}
-use Rattle.secure_log.specs.LogEntries.Chain.{Link, hash_after, link_of, links_from, last_hash, pairs, zeros}
+use Rattle.secure_log.specs.LogEntries.Chain.{links_from, zeros}
 use Rattle.secure_log.specs.LogEntries.Chain.{NoCollision, IsAmong}
 use Rattle.secure_log.specs.declared.log_entries.entry.Entry.{Entry}
-use Rattle.secure_log.proofs.OfLogEntries.Pairs.{last_hash-parts}
-use Rattle.secure_log.specs.Log.{log_hash, log_pairs}
+use Rattle.secure_log.specs.Log.{log_pairs}
 use Rattle.secure_log.specs.Segment.{SegmentParts, ClosedParts, FitsWithin, HasText, segment_pairs}
-use Rattle.witness_spec.proofs.replay_spec.Runs.{sound}
-use Rattle.witness_spec.proofs.replay_spec.Places.{places_joined}
-use Rattle.witness_spec.specs.evidence_spec.Laws.{OneHashAtANumber, IsPartOf}
+use Rattle.witness_spec.specs.evidence_spec.Laws.{OneHashAtANumber, Reached, IsNextIn}
+use Rattle.witness_spec.proofs.evidence_spec.Places.{head_among}
 use Rattle.witness_spec.proofs.evidence_spec.Shown.{segment_in_log, segment_is_part}
+use Rattle.witness_spec.proofs.evidence_spec.Reached.{reached_first, goes_on}
 use Rattle.secure_log.proofs.OfLogEntries.FewerTexts.{Within, fewer, left, right, both}
 use Rattle.witness_spec.specs.state_spec.State.{State}
 use Rattle.witness_spec.specs.replay_spec.Opening.{opening_of}
-use Rattle.witness_spec.specs.replay_spec.Placed.{placed, placed_in}
-use Rattle.witness_spec.specs.replay_spec.Replay.{Honest, Sound, last_state, found, segment_verdict}
+use Rattle.witness_spec.specs.replay_spec.Placed.{placed}
+use Rattle.witness_spec.specs.replay_spec.Replay.{Honest}
 use Rattle.witness_spec.specs.evidence_spec.Evidence.{MAX_AUDITED}
 use Rattle.witness_spec.specs.evidence_spec.Proving.{IsLog, IsUnforged, log_texts, segment_texts}
 use Rattle.witness_spec.specs.Events.{JobParts}
@@ -40,29 +39,8 @@ use Rattle.witness_laws.proofs.Checked.{IsLearned, IsGiven, IsCheckedStep, AreCh
 use Rattle.witness_laws.proofs.Doing.{Did, Doing, Nothing, Notes, Accepts, Asks, Begins, Files, PutsBack}
 use Rattle.witness_laws.proofs.Doing.{doing}
 use Rattle.witness_laws.proofs.OfTrust.Pairs.{no_fork, among_parts}
-use Rattle.witness_laws.proofs.OfTrust.Parts.{split, same_parts}
 
--- ---- places of a log
-
--- the first of some pairs is among them
-pub head_among : (n : ℕ) (h : List ℕ) (ls : List Link) → IsAmong (n, h) (pairs n h ls)
-head_among n h [] = inl refl
-head_among n h (l ∷ ls) = inl refl
-
--- the hash after the first entries is the log's there
-at_place : (b : ℕ) (h : List ℕ) (xs ys : List Entry)
-    → IsAmong (b + length xs, last_hash h (links_from (b + 1) xs)) (pairs b h (links_from (b + 1) (xs ++ ys)))
-at_place b h [] ys =
-    let same : b ≡ b + 0 = omega arith in
-    subst (λ n. IsAmong (n, h) (pairs b h (links_from (b + 1) ys))) same
-    (head_among b h (links_from (b + 1) ys))
-at_place b h (x ∷ xs) ys =
-    let same : (b + 1) + length xs ≡ b + length (x ∷ xs) = omega arith in
-    let next : List ℕ = hash_after h (link_of (b + 1) x) in
-    inr (subst
-    (λ n. IsAmong (n, last_hash next (links_from (b + 1 + 1) xs))
-    (pairs (b + 1) next (links_from (b + 1 + 1) (xs ++ ys))))
-    same (at_place (b + 1) next xs ys))
+-- ---- segments that have texts
 
 -- a segment that has a text has one as audited entries too
 audited_fits : (s : SegmentParts) → HasText s → FitsWithin MAX_AUDITED s
@@ -82,38 +60,16 @@ module _ (w : Watched) (log : List Entry) (one : OneHashAtANumber) (is : IsLog l
   abbrev pub InLog : List Pair → Type 0
   InLog ps = (q : Pair) → IsAmong q ps → IsAmong q (log_pairs log)
 
-  -- the end lies in the log, after whose first entries its state is, and the rest is honest
-  pub record Reached (end : End) : Type 0 where
-    -- the entries up to the end
-    pub before : List Entry
-    -- the entries after it
-    pub rest : List Entry
-    -- these are the whole log
-    pub whole : log ≡ before ++ rest
-    -- there are as many before the end as its number
-    pub count : length before ≡ end.number
-    -- the states of the rest
-    pub states : List State
-    -- the rest is honest from the end's state
-    pub honest : Honest w.roster end.state (placed (length before + 1) (log_hash before) rest) states
-
-  -- a segment is the log's, right after the end
-  pub record IsNextIn (end : End) (c : ClosedParts) : Type 0 where
-    -- it begins after the end
-    pub first : c.segment.first ≡ end.number + 1
-    -- it has an entry at each number up to its closing one
-    pub last : c.segment.closing.number + 1 ≡ c.segment.first + length c.segment.entries
-    -- its entries stand in the log
-    pub part : IsPartOf log c.segment
-    -- its opening hash is that of the end
-    pub opening : IsAmong (end.number, c.segment.opening) (log_pairs log)
+  -- the log has reached the end's state at its number
+  abbrev pub IsReached : End → Type 0
+  IsReached end = Reached w.roster log end.number end.state
 
   -- an audit is of the part that follows the end, and what was given for it is of the log
   abbrev pub StageFits : End → Stage → Type 0
   StageFits end NoAudit = Unit {0}
   StageFits end (Wanted first last) = first ≡ end.number + 1
-  StageFits end (Given c) = IsNextIn end c
-  StageFits end (Out c) = IsNextIn end c
+  StageFits end (Given c) = IsNextIn log end.number c.segment
+  StageFits end (Out c) = IsNextIn log end.number c.segment
 
   -- what stands after own steps: all that was shown is of the log, and the audit is on it
   pub record Trusted (past : Past) : Type 0 where
@@ -122,7 +78,7 @@ module _ (w : Watched) (log : List Entry) (one : OneHashAtANumber) (is : IsLog l
     -- no segment had a fault
     pub no_fault : has_fault w past ≡ false
     -- the audit's end lies in the log
-    pub reached : Reached (end_of w past)
+    pub reached : IsReached (end_of w past)
     -- what is under way is the log's part after the end
     pub stage : StageFits (end_of w past) (stage_of past)
 
@@ -169,7 +125,7 @@ module _ (w : Watched) (log : List Entry) (one : OneHashAtANumber) (is : IsLog l
         shown_in = shown_on past p learned answer did.notes did.accepts h k g.shown_in;
         no_fault = ap (λ j. finds_fault w.roster (end_of w past).state j || has_fault w past) did.files
             ∙ g.no_fault;
-        reached = subst Reached same g.reached;
+        reached = subst IsReached same g.reached;
         stage = subst (λ e. StageFits e (stage_of (p ∷ past))) same
             (subst (StageFits (end_of w past)) (sym did.stage) fits);
       }
@@ -179,7 +135,7 @@ module _ (w : Watched) (log : List Entry) (one : OneHashAtANumber) (is : IsLog l
   next_in : (end : End) (c : ClosedParts) → IsGiven w c
       → IsAmong (pair_of c.segment.closing) (log_pairs log)
       → Within (segment_texts c.segment) all → c.segment.first ≡ end.number + 1
-      → IsNextIn end c × InLog (segment_pairs c.segment)
+      → IsNextIn log end.number c.segment × InLog (segment_pairs c.segment)
   next_in end c given i within first =
       let fits = audited_fits c.segment given.text in
       let some : 1 ≤ c.segment.first = omega (arith, first_is c.segment given.text) in
@@ -202,77 +158,20 @@ module _ (w : Watched) (log : List Entry) (one : OneHashAtANumber) (is : IsLog l
 
   -- ---- a segment is filed
 
-  -- it is honest after the end, and so the log is after it
-  pub record Filed (end : End) (c : ClosedParts) : Type 0 where
-    -- the state after it
-    pub state : State
-    -- what it shows of other nodes
-    pub found : List Authenticator
-    -- the verdict on it is sound
-    pub sound : segment_verdict w.roster end.state c.segment ≡ Sound state found
-    -- its closing number lies in the log, with that state
-    pub reached : Reached (record { number = c.segment.closing.number; state = state })
-
-  file_sound : (end : End) (c : ClosedParts) → IsNextIn end c → Reached end → Filed end c
-  file_sound end c next r =
-      let s : SegmentParts = c.segment in
-      let es : List Entry = s.entries in
-      let same = same_parts r.before next.part.before r.rest (es ++ next.part.rest)
-      (sym r.whole ∙ next.part.whole) (omega (arith, r.count, next.part.place, next.first)) in
-      let none_more : 0 + length r.before ≡ length r.before = omega arith in
-      let there : IsAmong (length r.before, log_hash r.before) (log_pairs log) =
-      subst (λ l. IsAmong (length r.before, log_hash r.before) (log_pairs l)) (sym r.whole)
-      (subst (λ n. IsAmong (n, log_hash r.before) (log_pairs (r.before ++ r.rest))) none_more
-      (at_place 0 zeros r.before r.rest)) in
-      let hash : log_hash r.before ≡ s.opening =
-      one log end.number (log_hash r.before) s.opening
-      (subst (λ n. IsAmong (n, log_hash r.before) (log_pairs log)) r.count there) next.opening in
-      let number : length r.before + 1 ≡ s.first = omega (arith, r.count, next.first) in
-      let last : length r.before + 1 + length es ≡ s.first + length es = omega (arith, number) in
-      let honest : Honest w.roster end.state (placed s.first s.opening (es ++ next.part.rest)) r.states =
-      subst (λ l. Honest w.roster end.state (placed s.first s.opening l) r.states) same.1
-      (subst (λ h. Honest w.roster end.state (placed s.first h r.rest) r.states) hash
-      (subst
-      (λ n. Honest w.roster end.state (placed n (log_hash r.before) r.rest) r.states) number r.honest)) in
-      let parts = split w.roster end.state (placed_in s)
-      (placed (s.first + length es) (last_hash s.opening (links_from s.first es)) next.part.rest) r.states
-      (subst (λ ps. Honest w.roster end.state ps r.states)
-      (places_joined s.first s.opening es next.part.rest) honest) in
-      let behind : log_hash (r.before ++ es) ≡ last_hash s.opening (links_from s.first es) =
-      last_hash-parts zeros 1 r.before es s.first (omega (arith, number))
-      ∙ ap (λ h. last_hash h (links_from s.first es)) hash in
-      let far : length (r.before ++ es) + 1 ≡ s.first + length es =
-      omega (arith, length-append r.before es, number) in
-      record {
-        state = last_state end.state parts.first;
-        found = found end.state (placed_in s) parts.first;
-        sound = sound w.roster end.state (placed_in s) parts.first parts.honest;
-        reached = record {
-          before = r.before ++ es;
-          rest = next.part.rest;
-          whole = r.whole ∙ (ap (λ l. r.before ++ l) same.1 ∙ sym (append_assoc r.before es next.part.rest));
-          count = omega (arith, far, next.last);
-          states = parts.more;
-          honest = subst (λ n. Honest w.roster (last_state end.state parts.first)
-              (placed n (log_hash (r.before ++ es)) next.part.rest) parts.more) (sym far)
-              (subst (λ h. Honest w.roster (last_state end.state parts.first)
-              (placed (s.first + length es) h next.part.rest) parts.more) (sym behind) parts.rest);
-        };
-      }
-
   files_on : (past : Past) (p : Step × Reply) (j : JobParts) → stage_of past ≡ Out j.segment
       → Did past p None None (Some j) NoAudit → Trusted past → Trusted (p ∷ past)
   files_on past p j out did g =
       let end : End = end_of w past in
-      let f = file_sound end j.segment (subst (StageFits end) out g.stage) g.reached in
+      let f = goes_on w.roster log end.number end.state j.segment.segment g.reached
+      (subst (StageFits end) out g.stage) in
       let moved : end_of w (p ∷ past)
-      ≡ record { number = j.segment.segment.closing.number; state = f.state } =
+      ≡ record { number = j.segment.segment.closing.number; state = f.after } =
       ap (end_after w.roster end) did.files ∙ ap (moved_by end j.segment.segment.closing.number) f.sound in
       record {
         shown_in = shown_on past p None None did.notes did.accepts nothing_in nothing_in g.shown_in;
         no_fault = ap (λ x. finds_fault w.roster end.state x || has_fault w past) did.files
             ∙ (ap (λ v. is_fault v || has_fault w past) f.sound ∙ g.no_fault);
-        reached = subst Reached (sym moved) f.reached;
+        reached = subst IsReached (sym moved) f.reached;
         stage = subst (StageFits (end_of w (p ∷ past))) (sym did.stage) tt;
       }
 
@@ -329,14 +228,7 @@ module _ (w : Watched) (log : List Entry) (one : OneHashAtANumber) (is : IsLog l
       | inr j ↦ absurd j
     ];
     no_fault = refl;
-    reached = record {
-      before = [];
-      rest = log;
-      whole = refl;
-      count = refl;
-      states = states;
-      honest = honest;
-    };
+    reached = reached_first w.roster log (opening_of w.member) states honest;
     stage = tt;
   }
   trusted (p ∷ past) states honest owed checked unforged within =
