@@ -6,7 +6,7 @@ ghost use Rattle.witness_node_laws.specs.Laws.{AskedCanBeAnswered, AnswersOfNode
 ghost use Rattle.witness_node_laws.specs.Laws.{ReceivedCallsAreLogged, TakenRepliesAreLogged};
 ghost use Rattle.witness_node_laws.specs.Laws.{ReceivedCallsClose, TakenRepliesClose};
 
-use crate::texts::{bodies_are_bytes, entries_have_texts};
+use crate::texts::entries_have_texts;
 use commitment::laws::{
     each_received_message_is_acknowledged, each_send_and_recv_is_signed,
     what_a_sender_shows_is_of_its_log,
@@ -26,9 +26,7 @@ pub fn a_node_keeps_a_log(alloc: Global, node: &NodeLog)
     ensures { KeepsALog node.now }
 {
     node.is_honest();
-    let entries = node.log().entries();
-    entries_have_texts(alloc, entries);
-    bodies_are_bytes(entries);
+    entries_have_texts(alloc, node.log().entries());
     what_a_sender_shows_is_of_its_log();
     a_log_has_one_pair_for_each_place();
 }

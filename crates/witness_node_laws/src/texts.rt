@@ -12,13 +12,15 @@ use secure_log::are_bytes;
 use secure_log::log_entries::{Body, Entry, SignatureText};
 use std::alloc::Global;
 
-/// Entries each have a text, and are fewer than 2^64. Takes memory once for each signature, and tells a
-/// caller's proof.
+/// Entries each have a text and a body of bytes, if any, and are fewer than 2^64. Takes memory once for each
+/// signature, and tells a caller's proof.
 pub(crate) fn entries_have_texts(alloc: Global, entries: &[Entry])
     ensures each { AllByRecursion (Fits entry_item) (map entry_value entries.now) }
+    ensures bytes { AllByRecursion HasBytes entries.now }
     ensures few { length entries.now < 2 ^ 64 }
 {
     let _count = entries.len();
+    bodies_are_bytes(entries);
     for entry in entries {
         has_text(alloc, entry);
     }
@@ -111,8 +113,8 @@ fn signature_has_text(alloc: Global, signature: &SignatureText)
     let _written = signature.signature().write(&mut text);
 }
 
-/// The body of each SEND and each RECV is bytes. Does nothing, and tells a caller's proof.
-pub(crate) fn bodies_are_bytes(entries: &[Entry])
+/// The body of each SEND and each RECV is bytes.
+fn bodies_are_bytes(entries: &[Entry])
     ensures { AllByRecursion HasBytes entries.now }
 {
     for entry in entries {

@@ -20,7 +20,8 @@ returns c =
         each = each_of_values n.entries
             (subst (λ (es : List Entry). AllByRecursion (Fits entry_item) (map entry_value es)) same
             c.entries_have_texts.ensures.each);
-        bytes = subst (λ (es : List Entry). AllByRecursion HasBytes es) same c.bodies_are_bytes.ensures;
+        bytes = subst (λ (es : List Entry). AllByRecursion HasBytes es) same
+            c.entries_have_texts.ensures.bytes;
         few = subst (λ (es : List Entry). length es < 2 ^ 64) same c.entries_have_texts.ensures.few;
       };
       honest = λ plain m listed. honest_from n m listed (c.is_honest.ensures.honest plain);
