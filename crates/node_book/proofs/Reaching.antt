@@ -1,7 +1,8 @@
 -- The greatest number that an audit can reach, where one more authenticator is looked at.
 -- Serves: audits.
 use Rattle.std.proofs.Common.{◌≡◌, ℕ, ◌+◌, Bool, true, false, cond, max, nat_le, List, [], ◌∷◌, ◌++◌, fold, map}
-use Rattle.std.proofs.Common.{filter, refl, ap, ◌∙◌}
+use Rattle.std.proofs.Common.{◌-◌, filter, refl, ap, ◌∙◌, sym, arith}
+use Rattle.std.proofs.lemmas.Bool.{le-leb, leb-true, leb-false, lt-leb}
 use Rattle.std.proofs.lemmas.List.{map-append}
 use Rattle.std.proofs.lemmas.List.Elements.{filter-append}
 use Rattle.std.proofs.lemmas.List.Sums.{fold-append}
@@ -15,10 +16,15 @@ one_more : (most greatest n : ℕ) (b : Bool) → nat_le n most ≡ b
 one_more most greatest n true e = ap (λ b. fold max greatest (cond b (n ∷ []) [])) e
 one_more most greatest n false e = ap (λ b. fold max greatest (cond b (n ∷ []) [])) e
 
+-- a number is in reach exactly if it lies no further past the end
+in_reach : (end n : ℕ) (b : Bool) → nat_le n (end + MAX_ASKED) ≡ b → nat_le (n - end) MAX_ASKED ≡ b
+in_reach end n true e = le-leb (n - end) MAX_ASKED (omega (arith, leb-true n (end + MAX_ASKED) e))
+in_reach end n false e = lt-leb (n - end) MAX_ASKED (omega (arith, leb-false n (end + MAX_ASKED) e))
+
 -- with one authenticator more it is that one's number, where this is in reach and greater
 pub reach_more : (end : ℕ) (xs : List Authenticator) (a : Authenticator)
     → last_in_reach end (xs ++ a ∷ [])
-    ≡ cond (nat_le a.number (end + MAX_ASKED)) (max (last_in_reach end xs) a.number) (last_in_reach end xs)
+    ≡ cond (nat_le (a.number - end) MAX_ASKED) (max (last_in_reach end xs) a.number) (last_in_reach end xs)
 reach_more end xs a =
     let most = end + MAX_ASKED in
     let kept = λ (ns : List ℕ). filter (λ k. nat_le k most) ns in
@@ -26,4 +32,6 @@ reach_more end xs a =
     ∙ (ap (λ (ns : List ℕ). fold max 0 ns)
     (filter-append (λ k. nat_le k most) (map (λ (x : Authenticator). x.number) xs) (a.number ∷ []))
     ∙ (fold-append max 0 (kept (map (λ (x : Authenticator). x.number) xs)) (kept (a.number ∷ []))
-    ∙ one_more most (last_in_reach end xs) a.number (nat_le a.number most) refl))
+    ∙ (one_more most (last_in_reach end xs) a.number (nat_le a.number most) refl
+    ∙ ap (λ b. cond b (max (last_in_reach end xs) a.number) (last_in_reach end xs))
+    (sym (in_reach end a.number (nat_le a.number most) refl)))))

@@ -167,10 +167,19 @@ impl Rows {
         if u64::from(MAX_AUDITED) < last {
             return AuditDecision::Refused(Refusal::BookFull);
         }
-        if MAX_OUTBOX < self.outbox.len() as u64 + last.saturating_sub(self.end) {
+        if self.has_no_room_for(last.saturating_sub(self.end)) {
             return AuditDecision::Refused(Refusal::OutboxFull);
         }
         AuditDecision::Asked(Number::new(self.end + 1), Number::new(last))
+    }
+
+    /// Whether the outbox has no room for as many authenticators more.
+    fn has_no_room_for(&self, more: u64) -> bool
+        requires { length (book_in self.now).outbox ≤ limits.MAX_OUTBOX }
+        ensures { result ≡ nat_lt limits.MAX_OUTBOX (length (book_in self.now).outbox + more) }
+    {
+        let waiting = self.outbox.len() as u64;
+        MAX_OUTBOX - waiting < more
     }
 
     /// Of a job that is to begin. `AllocError` comes only where owners can't be counted further, or after as
@@ -328,14 +337,12 @@ fn shared(alloc: Global, evidence: Option<Evidence>) -> Result<Option<Arc<Eviden
 /// The greatest number among those that an audit after the end can reach; 0 if there is none.
 #[tactic(auto, using(crate::proofs::Reaching::reach_more))]
 fn last_in_reach(end: u64, learned: &[Authenticator]) -> u64
-    requires { end ≤ limits.MAX_AUDITED }
     ensures { result ≡ owing.last_in_reach end learned.now }
 {
-    let reach = end + u64::from(MAX_ENTRIES);
     let mut last = 0;
     for authenticator in learned {
         let number = authenticator.number.get();
-        if number <= reach {
+        if number.saturating_sub(end) <= u64::from(MAX_ENTRIES) {
             last = max(last, number);
         }
     }
