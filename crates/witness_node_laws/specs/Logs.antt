@@ -26,8 +26,8 @@ pub record IsListedAs (n : NodeParts) (m : Member) : Type 0 where
   pub key : IsMemberOf n m
 
 -- The laws on witnesses speak of a node's log: its entries have texts and bodies of bytes and are fewer than
--- 2^64, unless the node strayed it is honest from the state that a member like this node begins with, and each
--- authenticator that the node makes has its number and hash in it.
+-- 2^64, unless the node strayed it is honest from the state that a member like this node begins with, and
+-- each authenticator that the node makes has its number and hash in it.
 pub record KeepsALog (n : NodeParts) : Type 0 where
   pub is_log : IsLog n.entries
   pub honest : n.strayed ≡ false → (m : Member) → IsListedAs n m

@@ -18,8 +18,8 @@ use std::alloc::Global;
 use witness_laws::answers::laws::{acknowledgements_close, answers_are_accepted};
 use witness_laws::trust::laws::honest_is_never_exposed;
 
-/// A node's log is one that the laws on witnesses speak of: its entries have texts and bodies of bytes, unless
-/// the node strayed it is honest from the state that a member like this node begins with, and each
+/// A node's log is one that the laws on witnesses speak of: its entries have texts and bodies of bytes,
+/// unless the node strayed it is honest from the state that a member like this node begins with, and each
 /// authenticator that the node makes is of it. Takes memory once for each signature in it, and tells a
 /// caller's proof.
 pub fn a_node_keeps_a_log(alloc: Global, node: &NodeLog)
