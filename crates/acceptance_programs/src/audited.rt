@@ -178,8 +178,8 @@ fn lie_is_shown<R: Threads + Wait + Sync>(rt: &R, alloc: Global, both: &mut Part
         }
 }
 
-/// Whether a client is exposed whose second message under one number stands in the server's log alone: so that
-/// it shows only by what is forwarded of that log.
+/// Whether a client is exposed whose second message under one number stands in the server's log alone: so
+/// that it shows only by what is forwarded of that log.
 fn fork_is_shown<R: Threads + Wait + Sync>(rt: &R, alloc: Global, both: &mut Parties) -> bool {
     let lines = b"1 trusted 0\n2 exposed 0\n";
     let name = "cases/node-2.evidence";

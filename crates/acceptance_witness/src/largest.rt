@@ -1,5 +1,6 @@
-//! The largest answer that the formats allow is admitted: 4,096 messages received, with the longest bodies and
-//! signatures. Whoever admits it looks at its chain and at its closing's signature, so all are one message.
+//! The largest answer that the formats allow is admitted: 4,096 messages received, with the longest bodies
+//! and signatures. Whoever admits it looks at its chain and at its closing's signature, so all are one
+//! message.
 //! Its tree of keys has the greatest height: one of two leaves, under siblings of zeros.
 
 use crate::admitted::{Admission, admitted_as};

@@ -1,6 +1,7 @@
 -- What was put on a shelf, before and after one more file was put there.
 -- Serves: AuditOutput's put, put_file and put_evidence.
-use Rattle.std.proofs.Common.{◌≡◌, ℕ, ◌<◌, List, [], ◌∷◌, length, Option, Some, None, Result, Ok, Err, sym, subst}
+use Rattle.std.proofs.Common.{◌≡◌, ℕ, ◌<◌, List, [], ◌∷◌, length, Option, Some, None, Result, Ok, Err, sym}
+use Rattle.std.proofs.Common.{subst}
 use Rattle.std.proofs.Common.{◌∙◌, ◌+◌, ◌≤◌, arith, get_or, refl, suc, take}
 use Rattle.std.proofs.lemmas.List.{take_all}
 use Rattle.std.proofs.lemmas.List.Elements.{All-more, All-weaker}
@@ -10,7 +11,8 @@ use Rattle.authenticator.specs.declared.member.Member.{Member}
 use Rattle.challenge.specs.evidence_showings.evidence_spec.Evidence.{EvidenceParts}
 use Rattle.witness_calls.specs.Shelves.{Files, KeepsPut, Puts, WasPut}
 use Rattle.witness_reports.specs.declared.report.NodeReport.{NodeReport}
-use Rattle.auditing.specs.AuditOutputs.{AuditOutputParts, Goes, IsShown, WasEvidencePut, evidence_name, evidence_text}
+use Rattle.auditing.specs.AuditOutputs.{AuditOutputParts, Goes, IsShown, WasEvidencePut, evidence_name}
+use Rattle.auditing.specs.AuditOutputs.{evidence_text}
 
 -- an element is one of a list with one more at its front
 contains-more : {X : Type 0} (y : X) (xs : List X) (x : X) → Contains xs x → Contains (y ∷ xs) x

@@ -10,8 +10,8 @@ use nodes::NodeLog;
 use witness_reports::{NodeReport, was_filed_to, was_refused};
 use witness_service::{Indication, Note};
 
-/// Whether there is a report of a node, and its log is accounted for: a node that is called trusted was audited
-/// to its last signed entry, or its audit was refused.
+/// Whether there is a report of a node, and its log is accounted for: a node that is called trusted was
+/// audited to its last signed entry, or its audit was refused.
 pub fn has_account(reports: &[NodeReport], places: &[Note], log: &NodeLog) -> bool
     ensures { IsTrue result → HasAccount reports.now places.now log.now }
 {

@@ -98,8 +98,9 @@ impl<'a, R: Threads + Wait + Sync, E: Write, S: Shelf> Auditor<'a, R, E, S> {
         Ok(())
     }
 
-    /// Asks what the witness says of each node in the end: its failure indication, its open challenges and the
-    /// evidence against it, one node after the other. So these answers are the last places of its journal.
+    /// Asks what the witness says of each node in the end: its failure indication, its open challenges and
+    /// the evidence against it, one node after the other. So these answers are the last places of its
+    /// journal.
     pub fn ask_all(&mut self, nodes: &[LogToAudit<'_>]) -> Result<(), AllocError> {
         for node in nodes {
             self.ask(node.number)?;

@@ -1,5 +1,5 @@
-//! Audits by a pass at a witness: a node's log is asked for segment by segment, replayed and filed, what it shows
-//! of others is handed on, and in the end the witness is asked what it says of everybody.
+//! Audits by a pass at a witness: a node's log is asked for segment by segment, replayed and filed, what it
+//! shows of others is handed on, and in the end the witness is asked what it says of everybody.
 #![tactic(auto)]
 
 mod accounts;

@@ -1,6 +1,7 @@
 -- What the first words of bytes tell of all bytes that begin so.
 -- Serves: may_accuse, may_hold.
-use Rattle.std.proofs.Common.{◌≡◌, ◌∙◌, ℕ, zero, suc, ◌+◌, ◌*◌, ◌<◌, ◌≤◌, Bool, true, false, cond, eqb, ◌||◌, ltb, List}
+use Rattle.std.proofs.Common.{◌≡◌, ◌∙◌, ℕ, zero, suc, ◌+◌, ◌*◌, ◌<◌, ◌≤◌, Bool, true, false, cond, eqb, ◌||◌}
+use Rattle.std.proofs.Common.{ltb, List}
 use Rattle.std.proofs.Common.{[], ◌∷◌, ◌++◌, length, drop, Ok, Err, Some, None, refl, sym, ap, arith}
 use Rattle.std.specs.Prelude.{Option}
 use Rattle.std.proofs.lemmas.Bool.{ltb-false, le-ltb}

@@ -1,7 +1,9 @@
 -- How many bytes the parts of a file of evidence take at most.
 -- Serves: may_accuse and may_hold by way of Fronts.
-use Rattle.std.proofs.Common.{◌≡◌, ◌∙◌, ℕ, zero, suc, ◌+◌, ◌-◌, ◌*◌, ◌/◌, ◌%◌, ◌≤◌, Bool, true, false, cond, ltb}
-use Rattle.std.proofs.Common.{eqb, List, [], ◌∷◌, length, take, drop, Ok, Err, Some, None, sym, ap, arith, lit≤}
+use Rattle.std.proofs.Common.{◌≡◌, ◌∙◌, ℕ, zero, suc, ◌+◌, ◌-◌, ◌*◌, ◌/◌, ◌%◌, ◌≤◌, Bool, true, false, cond}
+use Rattle.std.proofs.Common.{ltb}
+use Rattle.std.proofs.Common.{eqb, List, [], ◌∷◌, length, take, drop, Ok, Err, Some, None, sym, ap, arith}
+use Rattle.std.proofs.Common.{lit≤}
 use Rattle.std.specs.Prelude.{Option}
 use Rattle.std.specs.List.{list_all}
 use Rattle.std.proofs.lemmas.Bool.{ltb-false}

@@ -1,6 +1,7 @@
 //! Whether a file is evidence.
 
-ghost use Rattle.std.specs.Prelude.{◌≡◌, ◌↔◌, ℕ, List, option_map, IfErr, IfOk, IfSome, IsErrOf, IsTrue, OnOk};
+ghost use Rattle.std.specs.Prelude.{◌≡◌, ◌↔◌, ℕ, List, option_map, IfErr, IfOk, IfSome, IsErrOf, IsTrue};
+ghost use Rattle.std.specs.Prelude.{OnOk};
 ghost use Rattle.std.specs.Prelude.{string_bytes};
 ghost use Rattle.rpc.specs.Records.Count.{Rises};
 ghost use Rattle.console.specs.Checking.{IsRead, IsTold, IsTrusted, Judges, JudgesCase, TellsPart};

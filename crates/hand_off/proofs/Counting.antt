@@ -1,6 +1,7 @@
 -- A worker comes to a slot, or is retired.
 -- Serves: Slot::recruit, Slot::retire.
-use Rattle.std.proofs.Common.{◌≡◌, ℕ, zero, suc, ◌+◌, List, [], ◌∷◌, ◌++◌, Bool, true, false, length, set, Option}
+use Rattle.std.proofs.Common.{◌≡◌, ℕ, zero, suc, ◌+◌, List, [], ◌∷◌, ◌++◌, Bool, true, false, length, set}
+use Rattle.std.proofs.Common.{Option}
 use Rattle.std.proofs.Common.{Some, None, ◌⊎◌, inl, inr, refl, sym, ap, ◌∙◌, subst, arith}
 use mathlib.Core.Option.{some, none, some-injective, some-ne-none}
 use lib.ListN.{get_elem?}
@@ -12,7 +13,8 @@ use Rattle.hand_off.specs.declared.view.Workers.{Workers}
 use Rattle.hand_off.specs.declared.view.View.{View}
 use Rattle.hand_off.specs.declared.view.View.TheVariants.{Poster, Idle, Holds, Retired}
 use Rattle.hand_off.specs.Slots.{Content, SlotState, Kept, Phase, Sees, word_of, number, is_poster, workers}
-use Rattle.hand_off.proofs.Keeping.{there_at, none_some, one_view, same_job, same_workers, not_a_holder, live_set}
+use Rattle.hand_off.proofs.Keeping.{there_at, none_some, one_view, same_job, same_workers, not_a_holder}
+use Rattle.hand_off.proofs.Keeping.{live_set}
 use Rattle.hand_off.proofs.Keeping.{live_less, live_more}
 
 -- what stands in a list with one value more is an old one, or that value

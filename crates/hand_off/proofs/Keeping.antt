@@ -1,14 +1,17 @@
 -- Each step keeps the rule of a slot.
 -- Serves: Slot.
-use Rattle.std.proofs.Common.{◌≡◌, ◌≢◌, ℕ, zero, suc, ◌+◌, ◌<◌, eqb, cond, ◌==◌, eqb-true, eq-eqb, count_by, List, []}
-use Rattle.std.proofs.Common.{◌∷◌, ◌++◌, Bool, true, false, length, set, Option, Some, None, inl, inr, refl, sym, ap}
+use Rattle.std.proofs.Common.{◌≡◌, ◌≢◌, ℕ, zero, suc, ◌+◌, ◌<◌, eqb, cond, ◌==◌, eqb-true, eq-eqb, count_by}
+use Rattle.std.proofs.Common.{List, []}
+use Rattle.std.proofs.Common.{◌∷◌, ◌++◌, Bool, true, false, length, set, Option, Some, None, inl, inr, refl}
+use Rattle.std.proofs.Common.{sym, ap}
 use Rattle.std.proofs.Common.{◌∙◌, subst, arith, length-set, get_or-set_same}
 use Rattle.std.proofs.lemmas.List.{set-get_or}
 use Rattle.std.proofs.lemmas.List.Sums.{sum_by-cons, sum_by-append}
 use mathlib.Core.Option.{some, none, some-injective, some-ne-none}
 use lib.ListN.{get_elem?}
 use prog.Atomic.{either}
-use Rattle.atomic_table.specs.Table.{keeps, takes as takes_slot, gives, Valid, carried_after, Allows, Final, Seen}
+use Rattle.atomic_table.specs.Table.{keeps, takes as takes_slot, gives, Valid, carried_after, Allows, Final}
+use Rattle.atomic_table.specs.Table.{Seen}
 use Rattle.atomic_table.specs.Table.{opening, stepped}
 use Rattle.atomic_table.proofs.Lists.{set_here, set_else, set_again, at_set, exchanged}
 use Rattle.witness_spec.specs.Events.{JobParts}
@@ -18,8 +21,10 @@ use Rattle.replay_jobs.specs.declared.job.Back.TheVariants.{Job}
 use Rattle.hand_off.specs.declared.view.Workers.{Workers}
 use Rattle.hand_off.specs.declared.view.View.{View}
 use Rattle.hand_off.specs.declared.view.View.TheVariants.{Poster, Idle, Holds, Retired}
-use Rattle.hand_off.specs.Slots.{Content, SlotState, Kept, Phase, IsEmpty, IsReady, Lies, Sees, word_of, number}
-use Rattle.hand_off.specs.Slots.{is_worker, is_poster, Seated, workers, unnoted, noted_by, takes_out, brings_back}
+use Rattle.hand_off.specs.Slots.{Content, SlotState, Kept, Phase, IsEmpty, IsReady, Lies, Sees, word_of}
+use Rattle.hand_off.specs.Slots.{number}
+use Rattle.hand_off.specs.Slots.{is_worker, is_poster, Seated, workers, unnoted, noted_by, takes_out}
+use Rattle.hand_off.specs.Slots.{brings_back}
 use Rattle.hand_off.specs.Slots.{posts, takes, dones, notes, collects}
 
 -- what is found at a place stands within the list

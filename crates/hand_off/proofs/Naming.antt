@@ -5,7 +5,8 @@ use Rattle.atomic_table.specs.Seated.{TableId}
 use Rattle.witness_spec.specs.Events.{JobParts}
 use Rattle.hand_off.specs.Seats.{AreRetired, Count, count}
 use Rattle.hand_off.specs.Slots.{Seated, holds, poster, recruiter, retirer, workers}
-use Rattle.hand_off.specs.Places.{IsPosterPlace, PostedPlace, WorkedPlace, job_named, workers_counted, naming, holding}
+use Rattle.hand_off.specs.Places.{IsPosterPlace, PostedPlace, WorkedPlace, job_named, workers_counted, naming}
+use Rattle.hand_off.specs.Places.{holding}
 use Rattle.hand_off.specs.declared.view.View.{View}
 use Rattle.hand_off.specs.declared.view.Workers.{Workers}
 use Rattle.hand_off.proofs.Taken.{both_parts, first_is}

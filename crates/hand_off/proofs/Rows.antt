@@ -1,6 +1,7 @@
 -- Rows of slots, and of a seat's places at them.
 -- Serves: HandOff, open_slots, recruit_all, recruit_row, retire_places.
-use Rattle.std.proofs.Common.{◌≡◌, ℕ, zero, suc, ◌+◌, ◌<◌, List, [], ◌∷◌, ◌++◌, map, take, drop, set, length, get_or}
+use Rattle.std.proofs.Common.{◌≡◌, ℕ, zero, suc, ◌+◌, ◌<◌, List, [], ◌∷◌, ◌++◌, map, take, drop, set, length}
+use Rattle.std.proofs.Common.{get_or}
 use Rattle.std.proofs.Common.{All, IfNone, Option, Some, None, refl, sym, ap, ap₂, ◌∙◌, subst, arith, add-one}
 use Rattle.std.proofs.Math.Seq.{map-set_same, take-suc}
 use Rattle.std.proofs.lemmas.List.{get_or-map, length-map, map-append, map-set, same_from_push}
@@ -9,7 +10,8 @@ use Rattle.atomic_table.specs.Seated.{TableId}
 use Rattle.witness_spec.specs.Events.{JobParts}
 use Rattle.hand_off.specs.Seats.{AreRetired, Posting, Working, idle_at, job_at, none_at, one_retired, opened}
 use Rattle.hand_off.specs.Seats.{posting, retiring, working}
-use Rattle.hand_off.specs.Places.{PostedPlace, WorkedPlace, holding, idle_place, naming, posting_of, slot_id, slot_ids}
+use Rattle.hand_off.specs.Places.{PostedPlace, WorkedPlace, holding, idle_place, naming, posting_of, slot_id}
+use Rattle.hand_off.specs.Places.{slot_ids}
 use Rattle.hand_off.specs.Places.{vacant, with_one_retired, working_of}
 use Rattle.hand_off.specs.declared.slot.Slot.{Slot}
 

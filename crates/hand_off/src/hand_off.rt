@@ -1,10 +1,12 @@
 //! The hand-off: its slots, and each step on them.
 
-ghost use Rattle.std.specs.Prelude.{◌≡◌, ◌<◌, ◌≤◌, All, IfErr, IfNone, IfOk, IfSome, IsSome, None, OnErr, OnOk, Some};
+ghost use Rattle.std.specs.Prelude.{◌≡◌, ◌<◌, ◌≤◌, All, IfErr, IfNone, IfOk, IfSome, IsSome, None, OnErr};
+ghost use Rattle.std.specs.Prelude.{OnOk, Some};
 ghost use Rattle.std.specs.Prelude.{length, vec_len};
 ghost use Rattle.replay_jobs.specs.Backs.{job_in};
 ghost use Rattle.witness_spec.specs.Events.{JobParts};
-ghost use Rattle.hand_off.specs.Seats.{AreRetired, idle_at, job_at, none_at, opened, posting, retiring, working};
+ghost use Rattle.hand_off.specs.Seats.{AreRetired, idle_at, job_at, none_at, opened, posting, retiring};
+ghost use Rattle.hand_off.specs.Seats.{working};
 
 use crate::opening::{close_slots, open_slots, recruit_all, retire_places};
 use crate::seats::{PosterSeat, WorkerSeat};

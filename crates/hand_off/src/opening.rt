@@ -1,6 +1,7 @@
 //! How slots are opened, get their workers, and are closed.
 
-ghost use Rattle.std.specs.Prelude.{◌≡◌, ◌+◌, ◌<◌, ◌≤◌, [], All, IfErr, IfOk, None, length, map, vec_capacity, vec_len};
+ghost use Rattle.std.specs.Prelude.{◌≡◌, ◌+◌, ◌<◌, ◌≤◌, [], All, IfErr, IfOk, None, length, map};
+ghost use Rattle.std.specs.Prelude.{vec_capacity, vec_len};
 ghost use Rattle.hand_off.specs.Seats.{idle_at};
 ghost use Rattle.hand_off.specs.Places.{idle_place, slot_id, slot_ids, vacant, with_one_retired};
 

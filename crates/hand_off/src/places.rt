@@ -1,11 +1,13 @@
 //! Seats at one slot, which know at run time what they name.
 
-ghost use Rattle.std.specs.Prelude.{◌≡◌, ℕ, ◌<◌, [], ◌∷◌, false, None, Some, IfErr, IfNone, IfSome, IsSome, OnOk};
+ghost use Rattle.std.specs.Prelude.{◌≡◌, ℕ, ◌<◌, [], ◌∷◌, false, None, Some, IfErr, IfNone, IfSome, IsSome};
+ghost use Rattle.std.specs.Prelude.{OnOk};
 ghost use Rattle.replay_jobs.specs.Backs.{job_in};
 ghost use Rattle.witness_spec.specs.Events.{JobParts};
 ghost use Rattle.hand_off.specs.Slots.{poster, workers};
 ghost use Rattle.hand_off.specs.Seats.{AreRetired};
-ghost use Rattle.hand_off.specs.Places.{holding, idle_place, naming, slot_id, vacant, with_one_more, with_one_retired};
+ghost use Rattle.hand_off.specs.Places.{holding, idle_place, naming, slot_id, vacant, with_one_more};
+ghost use Rattle.hand_off.specs.Places.{with_one_retired};
 ghost use Rattle.hand_off.specs.declared.view.Workers.{Workers};
 
 use crate::slot::{Slot, SlotSeat};

@@ -1,6 +1,7 @@
 //! One slot: a word, and a place for a job or for what came back of it.
 
-ghost use Rattle.std.specs.Prelude.{◌≡◌, ℕ, ◌<◌, [], ◌∷◌, Bool, false, Option, None, Some, IfNone, IfOk, IfSome};
+ghost use Rattle.std.specs.Prelude.{◌≡◌, ℕ, ◌<◌, [], ◌∷◌, Bool, false, Option, None, Some, IfNone, IfOk};
+ghost use Rattle.std.specs.Prelude.{IfSome};
 ghost use Rattle.replay_jobs.specs.Backs.{job_in};
 ghost use Rattle.witness_spec.specs.Events.{JobParts};
 ghost use Rattle.hand_off.specs.Slots.{holds, idle, poster, recruit, recruiter, retirer, unnoted, workers};

@@ -31,8 +31,8 @@ pub struct Control {
 }
 
 impl Control {
-    /// Makes the socket `control` in a folder that nobody but its owner may use. One that a run has left there
-    /// which was ended by a signal makes room.
+    /// Makes the socket `control` in a folder that nobody but its owner may use. One that a run has left
+    /// there which was ended by a signal makes room.
     pub fn open<R: Files + Net>(
         rt: &R,
         alloc: Global,

@@ -107,8 +107,8 @@ fn is_system(name: &str) -> bool {
 }
 
 impl<R: Files + RandomSource> Shelf for FileShelf<'_, R> {
-    /// A file takes the place of one that is there, or of a link to one, whole or not at all. What is there and
-    /// is no file, as a device, is written to, also where a link leads there.
+    /// A file takes the place of one that is there, or of a link to one, whole or not at all. What is there
+    /// and is no file, as a device, is written to, also where a link leads there.
     fn put(&mut self, name: &str, bytes: &[u8]) -> io::Result<()> {
         match fs::metadata(self.runtime, name) {
             Ok(there) if !there.is_file() => self.write_to(name, bytes),

@@ -1,6 +1,7 @@
 -- The greatest number that an audit can reach, where one more authenticator is looked at.
 -- Serves: audits.
-use Rattle.std.proofs.Common.{◌≡◌, ℕ, ◌+◌, Bool, true, false, cond, max, nat_le, List, [], ◌∷◌, ◌++◌, fold, map}
+use Rattle.std.proofs.Common.{◌≡◌, ℕ, ◌+◌, Bool, true, false, cond, max, nat_le, List, [], ◌∷◌, ◌++◌, fold}
+use Rattle.std.proofs.Common.{map}
 use Rattle.std.proofs.Common.{◌-◌, filter, refl, ap, ◌∙◌, sym, arith}
 use Rattle.std.proofs.lemmas.Bool.{le-leb, leb-true, leb-false, lt-leb}
 use Rattle.std.proofs.lemmas.List.{map-append}

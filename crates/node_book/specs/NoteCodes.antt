@@ -12,7 +12,8 @@ use Rattle.evidence_spec.specs.Evidence.{EvidenceParts}
 use Rattle.challenge.specs.contracts.evidence.Evidence as evidences
 use Rattle.witness_spec.specs.state_spec.State.{State}
 use Rattle.witness_spec.specs.state_spec.Codes.{state_code}
-use Rattle.challenge.specs.replay.replay_spec.Stepping.{ReplayFault, BadForm, BadReceive, Repeated, WrongReply, ClockBack}
+use Rattle.challenge.specs.replay.replay_spec.Stepping.{ReplayFault, BadForm, BadReceive, Repeated}
+use Rattle.challenge.specs.replay.replay_spec.Stepping.{WrongReply, ClockBack}
 use Rattle.challenge.specs.replay.replay_spec.Stepping.{WrongCheckpoint, BadAck, fault_number}
 use Rattle.challenge.specs.replay.replay_spec.Replay.{Verdict, Sound, Fault}
 use Rattle.witness_spec.specs.Refusals.{Refusal, UnknownNode, Garbage, BadSignature, LearnedFull}

@@ -1,6 +1,7 @@
 //! What a step is to do is decided: nothing changes here.
 
-ghost use Rattle.std.specs.Prelude.{◌≡◌, ◌↔◌, ◌+◌, ◌≤◌, ◌&&◌, false, nat_le, nat_lt, IfErr, IfOk, IsTrue, length, option_map};
+ghost use Rattle.std.specs.Prelude.{◌≡◌, ◌↔◌, ◌+◌, ◌≤◌, ◌&&◌, false, nat_le, nat_lt, IfErr, IfOk, IsTrue};
+ghost use Rattle.std.specs.Prelude.{length, option_map};
 ghost use Rattle.std.specs.Arc.{arc_value};
 ghost use Rattle.witness_spec.specs.Limits as limits;
 ghost use Rattle.witness_spec.specs.Owing as owing;
@@ -9,7 +10,8 @@ ghost use Rattle.witness_spec.specs.Steps as steps;
 ghost use Rattle.witness_book_laws.specs.Books.{book_indication, exposed, job_of};
 ghost use Rattle.witness_book_laws.specs.Ready.{IsReady};
 ghost use Rattle.witness_spec.specs.Replies as spec;
-ghost use Rattle.witness_book_laws.specs.Replying.{BookOwes, reply_to_answer, reply_to_begin, reply_to_forward};
+ghost use Rattle.witness_book_laws.specs.Replying.{BookOwes, reply_to_answer, reply_to_begin};
+ghost use Rattle.witness_book_laws.specs.Replying.{reply_to_forward};
 ghost use Rattle.witness_book_laws.specs.Replying.{reply_to_learn};
 ghost use Rattle.node_book.specs.Deciding.{DecidesLearn, DecidesChallenge, DecidesAnswer, DecidesAck};
 ghost use Rattle.node_book.specs.Deciding.{DecidesAudit, DecidesBegin, DecidesReturn, DecidesForward};

@@ -1,7 +1,8 @@
 //! The reply that follows from what was decided of a step. It is the same for a reply and for a note of it.
 
 ghost use Rattle.std.specs.Prelude.{◌≡◌};
-ghost use Rattle.node_book.specs.Deciding.{ack_reply, answer_reply, audit_reply, challenge_reply, learn_reply};
+ghost use Rattle.node_book.specs.Deciding.{ack_reply, answer_reply, audit_reply, challenge_reply};
+ghost use Rattle.node_book.specs.Deciding.{learn_reply};
 
 use crate::decision::{AnswerDecision, AuditDecision, ChallengeDecision, LearnDecision};
 use crate::refusal::Refusal;

@@ -36,9 +36,9 @@ impl Model for KeyedNode {
 }
 
 impl KeyedNode {
-    /// A node of this number and kind, with new keys of its master secret: so many as 2 to the height. Threads
-    /// make them, as many as there are processors, up to four. Takes memory for the hashes of the keys and what
-    /// threads take.
+    /// A node of this number and kind, with new keys of its master secret: so many as 2 to the height.
+    /// Threads make them, as many as there are processors, up to four. Takes memory for the hashes of the
+    /// keys and what threads take.
     pub fn make<R: Threads + Sync>(
         rt: &R,
         alloc: Global,
@@ -97,8 +97,8 @@ impl KeyedNode {
         }
     }
 
-    /// The node, made with a roster in the role that its type says. Its log is empty. A server's opening files
-    /// take memory.
+    /// The node, made with a roster in the role that its type says. Its log is empty. A server's opening
+    /// files take memory.
     pub fn make_node<R: Role>(self, alloc: Global, roster: Roster) -> Result<Node<R>, AllocError>
         ensures { IfOk result (λ n. n ≡ record {
           node = self.number;

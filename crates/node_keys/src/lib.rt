@@ -1,4 +1,5 @@
-//! The keys of the nodes that a program runs: their master secrets, and nodes that have keys and aren't made yet.
+//! The keys of the nodes that a program runs: their master secrets, and nodes that have keys and aren't made
+//! yet.
 #![tactic(auto)]
 
 mod keyed;

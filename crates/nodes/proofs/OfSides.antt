@@ -1,6 +1,7 @@
 -- What the client and the server each do of an exchange alone.
 -- Serves: send_text, write_answer, answer, receive_reply.
-use Rattle.std.proofs.Common.{◌≡◌, inl, inr, ℕ, ◌+◌, false, List, [], length, Result, Ok, Err, Option, Some, None}
+use Rattle.std.proofs.Common.{◌≡◌, inl, inr, ℕ, ◌+◌, false, List, [], length, Result, Ok, Err, Option, Some}
+use Rattle.std.proofs.Common.{None}
 use Rattle.std.proofs.Common.{refl, sym, ap, subst, ◌∙◌}
 use Rattle.std.specs.Prelude.{IfErr, IfOk, OnOk}
 use Rattle.std.specs.Option.{option_map}
@@ -23,7 +24,8 @@ use Rattle.node_logs.specs.declared.outcome.Receipt.{Receipt}
 use Rattle.nodes.specs.Delivery.{MayReceive, MayTake, ReceivesNew, SendsBody, TakesNew, WritesText}
 use Rattle.nodes.specs.Exchanges.Exchanges.{IsServed}
 use Rattle.nodes.specs.Faults.{Because}
-use Rattle.nodes.specs.Sides.{HasReceived, IsAnswered, IsEnvelopeText, IsReceivedAs, IsReplyAt, IsReplyText, IsSentAs}
+use Rattle.nodes.specs.Sides.{HasReceived, IsAnswered, IsEnvelopeText, IsReceivedAs, IsReplyAt, IsReplyText}
+use Rattle.nodes.specs.Sides.{IsSentAs}
 use Rattle.nodes.specs.Sides.{IsShownOf, IsWrittenOf, StopsAnswering, StopsReceiving, StopsSending}
 use Rattle.nodes.proofs.OfExchanges.Answered.{none_owed}
 use Rattle.nodes.proofs.OfExchanges.Shown.{envelope_shown}

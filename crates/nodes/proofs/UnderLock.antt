@@ -1,6 +1,7 @@
 -- An exchange with a server under a lock.
 -- Serves: ask, bring_back, call, Shared::carry.
-use Rattle.std.proofs.Common.{◌≡◌, inl, inr, ℕ, ◌+◌, Bool, true, false, List, length, Result, Ok, Err, Option, Some}
+use Rattle.std.proofs.Common.{◌≡◌, inl, inr, ℕ, ◌+◌, Bool, true, false, List, length, Result, Ok, Err, Option}
+use Rattle.std.proofs.Common.{Some}
 use Rattle.std.proofs.Common.{None, refl, sym, ap, subst, ◌∙◌}
 use Rattle.std.proofs.lemmas.Option.{same_Some}
 use Rattle.std.specs.Prelude.{IfErr, OnOk}
@@ -24,8 +25,10 @@ use Rattle.nodes.specs.Exchanges.Laws.{IsAccepted}
 use Rattle.nodes.specs.Faults.{Because}
 use Rattle.nodes.specs.Shareds.{HasNotStrayed, IsAckRefused, IsCalled, IsExchanged, IsUnderLock, SharedParts}
 use Rattle.nodes.specs.Shareds.{StopsCalling, StopsExchange, asked, heard, received, sent, unheard, unsent}
-use Rattle.nodes.specs.Sides.{HasReceived, IsAnswered, IsAskedOf, IsEnvelopeText, IsReceivedAs, IsReplyAt, IsReplyText}
-use Rattle.nodes.specs.Sides.{IsReturnedAs, IsSentAs, IsTextOfAck, StopsAnswering, StopsReceiving, StopsReturning}
+use Rattle.nodes.specs.Sides.{HasReceived, IsAnswered, IsAskedOf, IsEnvelopeText, IsReceivedAs, IsReplyAt}
+use Rattle.nodes.specs.Sides.{IsReplyText}
+use Rattle.nodes.specs.Sides.{IsReturnedAs, IsSentAs, IsTextOfAck, StopsAnswering, StopsReceiving}
+use Rattle.nodes.specs.Sides.{StopsReturning}
 use Rattle.nodes.specs.Sides.{StopsSending}
 use Rattle.nodes.proofs.OfExchanges.Answered.{reply_due}
 use Rattle.nodes.proofs.OfExchanges.Called.{call_acknowledged, call_reaches}

@@ -1,7 +1,8 @@
 -- An exchange between any two nodes, whatever either received of others before.
 -- Serves: exchange, ask, bring_back, answer, receive_reply.
 use Rattle.std.proofs.Common.{◌≡◌, inr, ℕ, ◌+◌, Bool, true, false, List, [], ◌∷◌, ◌++◌, length, Ok, Err}
-use Rattle.std.proofs.Common.{Option, Some, None, refl, sym, ap, subst, ◌∙◌, arith, append_assoc, length-append}
+use Rattle.std.proofs.Common.{Option, Some, None, refl, sym, ap, subst, ◌∙◌, arith, append_assoc}
+use Rattle.std.proofs.Common.{length-append}
 use Rattle.std.proofs.lemmas.Option.{same_Some}
 use Rattle.envelopes.specs.declared.envelope.Envelope.{Envelope}
 use Rattle.envelopes.specs.declared.acknowledgement.Ack.{Ack}
@@ -21,7 +22,8 @@ use Rattle.node_logs.specs.Nodes.{LacksKeys}
 use Rattle.node_logs.specs.Receiving.{ReceivesEnvelope, receipt_from}
 use Rattle.node_logs.specs.AckTaking.{with_ack}
 use Rattle.node_logs.specs.declared.outcome.Receipt.{Receipt}
-use Rattle.nodes.specs.Exchanges.Exchanges.{IsAsked, IsCall, IsHeard, IsReceived, IsReplied, IsServed, having_called}
+use Rattle.nodes.specs.Exchanges.Exchanges.{IsAsked, IsCall, IsHeard, IsReceived, IsReplied, IsServed}
+use Rattle.nodes.specs.Exchanges.Exchanges.{having_called}
 use Rattle.nodes.specs.Delivery.{MayReceive, MayTake, MayTakeAck}
 use Rattle.nodes.specs.Exchanges.Laws.{IsAccepted}
 use Rattle.nodes.specs.Faults.{MayAsk, MayStopAtReply, ack_refused, call_refused, heard, received}

@@ -14,7 +14,8 @@ use Rattle.node_logs.specs.Steps.Logging.{with_send}
 use Rattle.node_logs.specs.Nodes.{LacksKeys, node_code}
 use Rattle.node_logs.specs.AckTaking.{with_ack}
 use Rattle.node_logs.specs.declared.outcome.Receipt.{Receipt}
-use Rattle.nodes.specs.Exchanges.Exchanges.{IsAsked, IsHeard, IsJoined, IsOwed, IsReceived, IsServed, having_called}
+use Rattle.nodes.specs.Exchanges.Exchanges.{IsAsked, IsHeard, IsJoined, IsOwed, IsReceived, IsServed}
+use Rattle.nodes.specs.Exchanges.Exchanges.{having_called}
 use Rattle.nodes.specs.Exchanges.Laws.{IsAccepted}
 use Rattle.nodes.specs.Faults.{Because}
 

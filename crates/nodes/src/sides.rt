@@ -7,7 +7,8 @@ ghost use Rattle.envelopes.specs.declared.envelope.Envelope.{Envelope};
 ghost use Rattle.envelopes.specs.declared.acknowledgement.Ack.{Ack};
 ghost use Rattle.gateway.specs.declared.links.fault.LinkFault.TheVariants.{NoMemory};
 ghost use Rattle.nodes.specs.Exchanges.Exchanges.{IsServed};
-ghost use Rattle.nodes.specs.Sides.{IsAnswered, IsEnvelopeText, IsReceivedAs, IsSentAs, IsShownOf, IsWrittenOf};
+ghost use Rattle.nodes.specs.Sides.{IsAnswered, IsEnvelopeText, IsReceivedAs, IsSentAs, IsShownOf};
+ghost use Rattle.nodes.specs.Sides.{IsWrittenOf};
 ghost use Rattle.nodes.specs.Sides.{StopsAnswering, StopsReceiving, StopsSending};
 
 use crate::client::ClientNode;

@@ -1,4 +1,5 @@
-//! Replays that are to be done and replays that were done: a witness's book hands out the one and takes the other.
+//! Replays that are to be done and replays that were done: a witness's book hands out the one and takes the
+//! other.
 #![tactic(auto)]
 
 mod done;

@@ -1,6 +1,7 @@
 -- What the poster's seat and a worker's name while a round goes on.
 -- Serves: try_slot, post_all, retire_all, collect_all, replay_round.
-use Rattle.std.proofs.Common.{◌≡◌, ℕ, zero, suc, ◌+◌, ◌<◌, List, [], ◌∷◌, ◌++◌, map, take, drop, set, length, get_or}
+use Rattle.std.proofs.Common.{◌≡◌, ℕ, zero, suc, ◌+◌, ◌<◌, List, [], ◌∷◌, ◌++◌, map, take, drop, set, length}
+use Rattle.std.proofs.Common.{get_or}
 use Rattle.std.proofs.Common.{All, IsSome, Option, Some, None, refl, sym, ap, ◌∙◌, arith, add-one}
 use Rattle.std.proofs.Math.Seq.{take-suc}
 use Rattle.std.proofs.lemmas.List.{same_from_push}
@@ -9,7 +10,8 @@ use Rattle.std.specs.List.{AllZip}
 use Rattle.hand_off.specs.replay_jobs.witness_spec.Events.{JobParts}
 use Rattle.hand_off.specs.replay_jobs.Backs.{job_in}
 use Rattle.hand_off.specs.replay_jobs.declared.job.Back.{Back}
-use Rattle.hand_off.specs.Seats.{AreRetired, Count, TableId, Working, count, idle_at, none_at, one_retired, working}
+use Rattle.hand_off.specs.Seats.{AreRetired, Count, TableId, Working, count, idle_at, none_at, one_retired}
+use Rattle.hand_off.specs.Seats.{working}
 use Rattle.replay_pool.specs.Rounds.{IsBackAt, IsBackOf, some_jobs}
 
 -- ---- a worker

@@ -18,8 +18,10 @@ use Rattle.witness_calls.specs.declared.said.Said.{Said}
 use Rattle.witness_calls.specs.declared.said.Said.TheVariants as s
 use Rattle.witness_calls.specs.declared.told.Told.{Told}
 use Rattle.scripts.specs.Said.{IsLineOf, said_line}
-use Rattle.scripts.specs.Turns.{Does, IsAfter, IsAnswered, IsAsked, IsEvidence, IsFlood, IsForwarded, IsHanded}
-use Rattle.scripts.specs.Turns.{IsHeard, IsLastHeard, IsNone, IsPassed, IsRefusal, IsRound, IsSilent, claim, evidence_line}
+use Rattle.scripts.specs.Turns.{Does, IsAfter, IsAnswered, IsAsked, IsEvidence, IsFlood, IsForwarded}
+use Rattle.scripts.specs.Turns.{IsHanded}
+use Rattle.scripts.specs.Turns.{IsHeard, IsLastHeard, IsNone, IsPassed, IsRefusal, IsRound, IsSilent, claim}
+use Rattle.scripts.specs.Turns.{evidence_line}
 use Rattle.scripts.specs.Turns.{flooded_line, forwarded_words, none_line, reply_line, told_line}
 
 -- ---- replies

@@ -1,6 +1,7 @@
 -- Turns, one after the other.
 -- Serves: the lines of a script, and how it ends.
-use Rattle.std.proofs.Common.{◌≡◌, ◌∙◌, sym, ap, subst, refl, ℕ, List, [], ◌∷◌, ◌++◌, append_assoc, append-nil}
+use Rattle.std.proofs.Common.{◌≡◌, ◌∙◌, sym, ap, subst, refl, ℕ, List, [], ◌∷◌, ◌++◌, append_assoc}
+use Rattle.std.proofs.Common.{append-nil}
 use Rattle.std.proofs.Common.{Option, Some, None, Result, Ok, Err}
 use Rattle.std.specs.Prelude.{IfErr}
 use Rattle.std.proofs.KnownBytes.{Appends-nil, Appends-trans}
@@ -9,7 +10,8 @@ use Rattle.std.specs.Io.KnownBytes.{Appends}
 use Rattle.std.specs.List.{AllByRecursion}
 use Rattle.witness_service.specs.Claims.{Claim, Held, claims_of}
 use Rattle.scripts.specs.Ends.{Closes, Plays, Writes, last_line}
-use Rattle.scripts.specs.Turns.{Does, IsDone, IsTurn, Leaves, Runs, TakesTurn, Turn, WritesTurns, added_by, texts_of}
+use Rattle.scripts.specs.Turns.{Does, IsDone, IsTurn, Leaves, Runs, TakesTurn, Turn, WritesTurns, added_by}
+use Rattle.scripts.specs.Turns.{texts_of}
 use Rattle.scripts.specs.declared.line.Act.{Act}
 use Rattle.scripts.specs.declared.script.ScriptEnd.{ScriptEnd}
 use Rattle.scripts.specs.declared.script.ScriptEnd.TheVariants as ends

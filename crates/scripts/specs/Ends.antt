@@ -35,8 +35,8 @@ pub record Plays (before after : Option (List ℕ)) (end : ScriptEnd) : Type 0 w
   pub wrote : Appends before after (texts_of turns ++ last_line end)
   pub pass : Closes (added_by turns) end
 
--- What was written at an end: the texts of all turns, and then how the witness closed; or, where a line is bad,
--- the texts of the turns before it.
+-- What was written at an end: the texts of all turns, and then how the witness closed; or, where a line is
+-- bad, the texts of the turns before it.
 abbrev pub Writes : (before after : Option (List ℕ)) → ScriptEnd → Type 0
 Writes before after (Closed c) = Plays before after (Closed c)
 Writes before after (NotInJournal fault) = Plays before after (NotInJournal fault)

@@ -164,7 +164,8 @@ pub record IsShown (node : ℕ) (text : List ℕ) (claims : List Claim) : Type 0
 abbrev pub IsEvidence : (node : ℕ) → List ℕ → List Claim → Type 0
 IsEvidence node text claims = IsShown node text claims ⊎ IsAnswered (Ask node ItsEvidence) text claims
 
--- A packet was handed in several times, and the last time something else than before was said, which is printed.
+-- A packet was handed in several times, and the last time something else than before was said, which is
+-- printed.
 pub record IsLastHeard (text : List ℕ) (claims : List Claim) : Type 0 where
   pub before : List Claim
   pub last : List Claim

@@ -36,8 +36,8 @@ impl Cursor {
         Time::new(seconds, 0).unwrap()
     }
 
-    /// Reads the next line that isn't passed over: empty lines are, and those that begin with `#`, however long
-    /// they are. Tells whether there is one.
+    /// Reads the next line that isn't passed over: empty lines are, and those that begin with `#`, however
+    /// long they are. Tells whether there is one.
     pub(crate) fn next<I: Read>(&mut self, reader: &mut I) -> Result<bool, Stop>
         ensures { IfOk result (λ there. there ≡ false → IsAtEnd (I.remaining reader.new)) }
     {

@@ -29,7 +29,8 @@ pub record IsReported (c : Closed) (server : NodeParts) (clients : List NodePart
 abbrev pub listening_line : (port : ℕ) → List ℕ
 listening_line port = codes "listening " ++ (decimal port ++ codes "\n")
 
--- The line that a run listens is written, and after it one for each report, where it is known what is written.
+-- The line that a run listens is written, and after it one for each report, where it is known what is
+-- written.
 pub record WritesLines (old : Option (List ℕ)) (rs : List NodeReport) (new : Option (List ℕ)) : Type 0 where
   pub port : ℕ
   pub wrote : Appends old new (listening_line port ++ flat_map report_line rs)

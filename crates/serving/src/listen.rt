@@ -115,10 +115,10 @@ where
     audit.output.lock(audit.rt).say_trouble(line);
 }
 
-/// Serves a connection for each waiting client, in their order, each by a thread of its own. If a thread can't
-/// be spawned, the connection is served before the next one is accepted. Once each client has a connection, or
-/// none is accepted any more, the listener is closed, so that later connections are refused. A client for which
-/// none was accepted ends without one.
+/// Serves a connection for each waiting client, in their order, each by a thread of its own. If a thread
+/// can't be spawned, the connection is served before the next one is accepted. Once each client has a
+/// connection, or none is accepted any more, the listener is closed, so that later connections are refused. A
+/// client for which none was accepted ends without one.
 pub(crate) fn serve_all<'a, R, T, L, E, S>(
     context: ConnectionContext<'a, R, T, E, S>,
     listener: L,

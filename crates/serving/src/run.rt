@@ -60,7 +60,8 @@ pub enum ServeFault {
     Roster(io::Error),
     /// The witness's journal doesn't show that everybody was audited. Either a node that is called trusted
     /// wasn't audited to its last signed entry, though nothing was refused, or what a log showed of others
-    /// wasn't handed on: then the lines were written. Or the journal's last places don't answer for each node:
+    /// wasn't handed on: then the lines were written. Or the journal's last places don't answer for each
+    /// node:
     /// then no line was written.
     Unaudited,
 }
@@ -128,8 +129,8 @@ struct AuditedRun {
 
 /// Serves COUNT connections, then audits the server and every client. The listener is closed once all
 /// connections were accepted, or none is accepted any more. The lines go to `writer`: at the end one for each
-/// node, as the last places of the closed witness's journal answer for it. Other messages go to `errors`. Files
-/// are put on `shelf`: at the end the evidence of each report, if the order names a folder for it.
+/// node, as the last places of the closed witness's journal answer for it. Other messages go to `errors`.
+/// Files are put on `shelf`: at the end the evidence of each report, if the order names a folder for it.
 pub fn serve<R, T, L, O, E, S>(
     rt: &R,
     alloc: Global,

@@ -25,7 +25,8 @@ pub(crate) struct Timeouts {
 }
 
 impl Timeouts {
-    /// The timeouts of a run whose connections may be silent for `idle` seconds, or for ever if none is given.
+    /// The timeouts of a run whose connections may be silent for `idle` seconds, or for ever if none is
+    /// given.
     /// Where the run can be told to stop, the stream looks for that four times a second.
     pub(crate) fn new(idle: Option<u32>, has_control: bool) -> Timeouts {
         let seconds = idle.map(u64::from);

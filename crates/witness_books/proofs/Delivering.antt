@@ -19,7 +19,8 @@ use Rattle.node_book.specs.witness_spec.Replies.{Reply, refused, is_want_of_memo
 use Rattle.node_book.specs.witness_spec.Steps.{Step, OwnStep}
 use Rattle.node_book.specs.witness_spec.Steps as steps
 use Rattle.node_book.specs.witness_spec.Watched.{watched}
-use Rattle.node_book.specs.witness_spec.Whose.{is_key_of, same_roster, step_of, signed_step, sent_step, closed_step}
+use Rattle.node_book.specs.witness_spec.Whose.{is_key_of, same_roster, step_of, signed_step, sent_step}
+use Rattle.node_book.specs.witness_spec.Whose.{closed_step}
 use Rattle.node_book.specs.witness_spec.Whose.{judged_step, whose}
 use Rattle.node_book.specs.witness_spec.Histories.{History, own_step, own, OwesTo, IsOwed, MayWant, IsWanting}
 use Rattle.node_book.specs.witness_spec.Histories.{BookParts, StandsFor, StandEach}

@@ -6,7 +6,8 @@ use Rattle.authenticator.specs.Roster.{IsRoster}
 use Rattle.authenticator.specs.declared.member.Member.{Member}
 use Rattle.node_book.specs.witness_spec.Refusals.{Refusal, UnknownNode, Garbage, BadSignature, LearnedFull}
 use Rattle.node_book.specs.witness_spec.Refusals.{ChallengesFull, OutboxFull, TooFar, NothingToAudit, Busy}
-use Rattle.node_book.specs.witness_spec.Refusals.{NotAsked, NoJob, WrongJob, BookFull, NoMemory, refusal_number}
+use Rattle.node_book.specs.witness_spec.Refusals.{NotAsked, NoJob, WrongJob, BookFull, NoMemory}
+use Rattle.node_book.specs.witness_spec.Refusals.{refusal_number}
 use Rattle.node_book.specs.witness_spec.Events.{Event, IsEvent}
 use Rattle.node_book.specs.witness_spec.Events as events
 use Rattle.node_book.specs.witness_spec.Replies.{Reply, refused, is_want, is_want_of_memory}

@@ -12,7 +12,8 @@ use Rattle.node_book.specs.witness_spec.Steps as steps
 use Rattle.node_book.specs.witness_spec.Watched.{Watched, watched}
 use Rattle.node_book.specs.witness_spec.Histories.{own_of, IsWanting, BookParts}
 use Rattle.node_book.specs.witness_spec.Contract.{StepsTo, IsNotedStep}
-use Rattle.node_book.specs.witness_spec.ContractLaws.{LeftOutLeavesBooks, WantLeavesBooks, OutOfMemoryLeavesBooks}
+use Rattle.node_book.specs.witness_spec.ContractLaws.{LeftOutLeavesBooks, WantLeavesBooks}
+use Rattle.node_book.specs.witness_spec.ContractLaws.{OutOfMemoryLeavesBooks}
 use Rattle.node_book.specs.witness_spec.ContractLaws.{StepsAreNoted}
 use Rattle.node_book.proofs.witness_laws.Replied.{owed_good, good_want, want_refused}
 use Rattle.node_book.specs.witness_book_laws.Books.{Book, parts_of}

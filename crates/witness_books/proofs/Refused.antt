@@ -4,7 +4,8 @@ use Rattle.std.proofs.Common.{◌≡◌, inl, inr, ℕ, true, true≢false, List
 use Rattle.std.proofs.Common.{Option, Some, None, refl, sym, ap, ◌∙◌}
 use Rattle.authenticator.specs.declared.member.Member.{Member}
 use Rattle.node_book.specs.witness_spec.Contract.{opening_book, opening_books}
-use Rattle.node_book.specs.witness_spec.Replies.{Reply, Noted, Already, Opened, Accepted, Closed, Asked, Job, Filed}
+use Rattle.node_book.specs.witness_spec.Replies.{Reply, Noted, Already, Opened, Accepted, Closed, Asked, Job}
+use Rattle.node_book.specs.witness_spec.Replies.{Filed}
 use Rattle.node_book.specs.witness_spec.Replies.{Returned, Forwarded, Empty, Told, OpenList, EvidenceIs}
 use Rattle.node_book.specs.witness_spec.Replies.{Refused, FileRefused, PutBackRefused}
 use Rattle.node_book.specs.witness_spec.Steps as steps

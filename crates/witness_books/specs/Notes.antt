@@ -2,7 +2,8 @@
 use Rattle.std.specs.Prelude.{◌≡◌, true, false, Option, Some, None}
 use Rattle.node_book.specs.witness_spec.Events.{JobParts, Event}
 use Rattle.node_book.specs.witness_spec.Refusals.{NoMemory}
-use Rattle.node_book.specs.witness_spec.Replies.{Reply, Refused, FileRefused, PutBackRefused, is_want_of_memory}
+use Rattle.node_book.specs.witness_spec.Replies.{Reply, Refused, FileRefused, PutBackRefused}
+use Rattle.node_book.specs.witness_spec.Replies.{is_want_of_memory}
 use Rattle.node_book.specs.Replies.{reply_in}
 use Rattle.node_book.specs.declared.reply.ReplyOf.{ReplyOf}
 

@@ -123,9 +123,9 @@ impl Books {
 
     /// One event, with its reply and two notes of both: one to keep, one to hand on. All notes are made
     /// before anything changes: where a growth was refused for them, or owners can't be counted further, the
-    /// event is refused with `NoMemory`, whatever it is and whatever is owed to it. There are no notes exactly
-    /// where the reply is `NoMemory`; any other reply is one that `step` owes, refused as there, and keeps the
-    /// headline. What is refused changes nothing.
+    /// event is refused with `NoMemory`, whatever it is and whatever is owed to it. There are no notes
+    /// exactly where the reply is `NoMemory`; any other reply is one that `step` owes, refused as there, and
+    /// keeps the headline. What is refused changes nothing.
     pub fn noted_step(&mut self, alloc: Global, event: Event) -> (Reply, Option<(Note, Note)>)
         ensures roster { self.new.roster ≡ self.old.roster }
         ensures noted { IsNotedStep self.old.roster (parts_in self.old) (event_in event) (reply_in result.0)

@@ -46,8 +46,8 @@ pub fn steps_keep_the_headline()
 
 /// Where one reply alone is owed to an event, a step of books that stand for the history gives it, or memory
 /// ran out. So the answer of a node to the audit that is open is accepted, and its acknowledgement of a
-/// message that it is challenged with closes the challenge: the laws of `witness_node_laws` say that a node's own
-/// calls give such answers.
+/// message that it is challenged with closes the challenge: the laws of `witness_node_laws` say that a node's
+/// own calls give such answers.
 pub fn what_is_owed_is_given()
     ensures given { WhatIsOwedIsGiven }
     ensures answers { AnswersAreTaken }

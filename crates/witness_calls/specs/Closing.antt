@@ -19,7 +19,7 @@ abbrev pub passes_in : ReceiptFault → List Held
 passes_in (NotInJournal passes journal roster) = passes.items
 passes_in (AnotherRoster passes journal roster) = passes.items
 
--- It is the fault of some service that was closed with some passes: they don't fit its journal, or the journal's
--- books are of another roster than the service's.
+-- It is the fault of some service that was closed with some passes: they don't fit its journal, or the
+-- journal's books are of another roster than the service's.
 abbrev pub IsFaulty : ReceiptFault → Type 0
 IsFaulty fault = (service : ServiceParts) × (handed : List Held) × IsFault service handed fault

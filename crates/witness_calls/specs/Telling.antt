@@ -47,8 +47,8 @@ pub record Says (old : List Claim) (event : Event) (said : Said) (new : List Cla
   pub keeps : Keeps old event reply new
   pub is_said : IsSaid reply said
 
--- A packet was handed in, and this was said: the event that it spells was, or the packet was refused before any
--- step, and the claims are the same.
+-- A packet was handed in, and this was said: the event that it spells was, or the packet was refused before
+-- any step, and the claims are the same.
 abbrev pub Hears : (old : List Claim) → Said → (new : List Claim) → Type 0
 Hears old said new =
     ((event : Event) × Says old event said new) ⊎ ((f : Refusal) × (said ≡ s.Refused f) × (new ≡ old))

@@ -3,7 +3,8 @@
 ghost use Rattle.std.specs.Prelude.{◌≡◌};
 ghost use Rattle.node_book.specs.Events.{event_in, question_in};
 ghost use Rattle.node_book.specs.Replies.{reply_in};
-ghost use Rattle.node_book.specs.witness_spec.Events.{Ask, Audit, Forward, ItsChallenges, ItsEvidence, ItsIndication};
+ghost use Rattle.node_book.specs.witness_spec.Events.{Ask, Audit, Forward, ItsChallenges, ItsEvidence};
+ghost use Rattle.node_book.specs.witness_spec.Events.{ItsIndication};
 ghost use Rattle.witness_service.specs.Claims.{Keeps};
 ghost use Rattle.witness_calls.specs.Telling.{Hears, Says};
 

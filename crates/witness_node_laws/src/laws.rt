@@ -2,7 +2,8 @@
 
 ghost use Rattle.witness_node_laws.specs.Logs.{KeepsALog};
 ghost use Rattle.witness_node_laws.specs.Laws.{IsNeverExposed, OwnWordsNeverExpose, OwnWordsCanBeAnswered};
-ghost use Rattle.witness_node_laws.specs.Laws.{AskedCanBeAnswered, AnswersOfNodesAreAccepted, AcksOfNodesClose};
+ghost use Rattle.witness_node_laws.specs.Laws.{AskedCanBeAnswered, AnswersOfNodesAreAccepted};
+ghost use Rattle.witness_node_laws.specs.Laws.{AcksOfNodesClose};
 ghost use Rattle.witness_node_laws.specs.Laws.{ReceivedCallsAreLogged, TakenRepliesAreLogged};
 ghost use Rattle.witness_node_laws.specs.Laws.{ReceivedCallsClose, TakenRepliesClose};
 

@@ -20,8 +20,8 @@ pub fn was_filed_to(places: &[Note], node: u32, last: u64) -> bool
     places.iter().any(|place| is_filed_to(place.event(), place.reply(), node, last))
 }
 
-/// Whether an audit of the node was refused for good: what it signed is too far from what is filed, its book or
-/// its outbox is full, or an audit before isn't filed yet.
+/// Whether an audit of the node was refused for good: what it signed is too far from what is filed, its book
+/// or its outbox is full, or an audit before isn't filed yet.
 pub fn was_refused(places: &[Note], node: u32) -> bool
     ensures { result ≡ was_refused node places.now }
 {

@@ -1,6 +1,7 @@
 -- Inodes of a tree written after their count are its files.
 -- Serves: `add_tree`, `add_tree_digests`.
-use Rattle.std.proofs.Common.{◌≡◌, ℕ, ◌≤◌, List, [], ◌∷◌, ◌++◌, map, length, Result, refl, ap, subst, ◌∙◌, arith}
+use Rattle.std.proofs.Common.{◌≡◌, ℕ, ◌≤◌, List, [], ◌∷◌, ◌++◌, map, length, Result, refl, ap, subst, ◌∙◌}
+use Rattle.std.proofs.Common.{arith}
 use Rattle.std.specs.Prelude.{OnOk}
 use Rattle.xdr.specs.Item.{Item, Value, Fits, array, spelling, number_spelling}
 use Rattle.xdr.specs.Writing.{Adds}

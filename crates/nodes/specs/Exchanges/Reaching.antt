@@ -1,5 +1,6 @@
 -- What one node shows reaches another that hasn't had it yet.
-use Rattle.std.specs.Prelude.{◌≡◌, ◌⊎◌, ◌≤◌, ◌==◌, if◌then◌else◌, ℕ, List, length, Result, Ok, Err, Some, None, IsSome}
+use Rattle.std.specs.Prelude.{◌≡◌, ◌⊎◌, ◌≤◌, ◌==◌, if◌then◌else◌, ℕ, List, length, Result, Ok, Err, Some}
+use Rattle.std.specs.Prelude.{None, IsSome}
 use Rattle.std.specs.List.{AllByRecursion}
 use Rattle.std.specs.FinMap.{get}
 use Rattle.authenticator.specs.declared.member.Kind.{Kind}

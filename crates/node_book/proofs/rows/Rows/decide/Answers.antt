@@ -1,5 +1,5 @@
--- What is decided of a job that comes back is of the step's own. Where memory ran out the book owes more than a
--- refusal or Already.
+-- What is decided of a job that comes back is of the step's own. Where memory ran out the book owes more than
+-- a refusal or Already.
 use Rattle.std.proofs.Common.{ap, subst, sym, ◌∙◌}
 use Rattle.witness_spec.specs.Steps as steps
 use Rattle.node_book.specs.Deciding.{Decides, DecidesReturn}
