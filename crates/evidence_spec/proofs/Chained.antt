@@ -4,8 +4,7 @@ use Rattle.std.proofs.Common.{◌≡◌, ℕ, ◌+◌, ◌-◌, ◌<◌, List, [
 use Rattle.std.proofs.Common.{arith, append_assoc, length-append}
 use Rattle.std.proofs.lemmas.List.{length-replicate}
 use Rattle.std.specs.List.{AllByRecursion}
-use Rattle.replay_spec.specs.secure_log.LogEntries.Chain.{Link, IsLink, IsChain, IsEndOf, zeros, hash_after}
-use Rattle.replay_spec.specs.secure_log.LogEntries.Chain.{last_hash}
+use Rattle.replay_spec.specs.secure_log.LogEntries.Chain.{Link, IsLink, IsChain, IsEndOf, zeros, hash_after, last_hash}
 use Rattle.replay_spec.specs.secure_log.LogEntries.Chain.{pairs, chain_texts, NoCollision, IsAmong}
 use Rattle.replay_spec.proofs.secure_log.OfLogEntries.Chains.{chain_end}
 use Rattle.replay_spec.proofs.secure_log.OfLogEntries.FewerTexts.{Within, fewer, left, right, both, beginning}

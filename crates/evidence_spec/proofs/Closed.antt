@@ -10,8 +10,7 @@ use Rattle.replay_spec.specs.authenticator.declared.authenticator.Authenticator.
 use Rattle.replay_spec.specs.authenticator.declared.member.Member.{Member}
 use Rattle.replay_spec.specs.authenticator.Signed.{IsSignedIn, authenticator_item, authenticator_value}
 use Rattle.replay_spec.specs.secure_log.declared.log_entries.entry.Entry.{Entry}
-use Rattle.replay_spec.specs.secure_log.declared.log_entries.entry.Entry.TheVariants.{Send, Recv, Ack, Clock}
-use Rattle.replay_spec.specs.secure_log.declared.log_entries.entry.Entry.TheVariants.{Check}
+use Rattle.replay_spec.specs.secure_log.declared.log_entries.entry.Entry.TheVariants.{Send, Recv, Ack, Clock, Check}
 use Rattle.replay_spec.specs.secure_log.LogEntries.Entry.{is_kind, kind_number, entry_value, content}
 use Rattle.replay_spec.specs.secure_log.LogEntries.Chain.{last_hash, links_from, link_of, pairs}
 use Rattle.replay_spec.specs.secure_log.declared.segment.TheConstants.{MAX_ENTRIES}

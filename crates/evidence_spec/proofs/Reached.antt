@@ -4,8 +4,8 @@ use Rattle.std.proofs.Common.{◌≡◌, ℕ, ◌+◌, List, [], ◌∷◌, ◌+
 use Rattle.std.proofs.Common.{append_assoc, length-append, inr, arith}
 use Rattle.replay_spec.specs.authenticator.declared.member.Member.{Member}
 use Rattle.replay_spec.specs.secure_log.declared.log_entries.entry.Entry.{Entry}
-use Rattle.replay_spec.specs.secure_log.LogEntries.Chain.{zeros, hash_after, link_of, links_from}
-use Rattle.replay_spec.specs.secure_log.LogEntries.Chain.{last_hash, pairs, IsAmong}
+use Rattle.replay_spec.specs.secure_log.LogEntries.Chain.{zeros, hash_after, link_of, links_from, last_hash, pairs}
+use Rattle.replay_spec.specs.secure_log.LogEntries.Chain.{IsAmong}
 use Rattle.replay_spec.proofs.secure_log.OfLogEntries.Pairs.{last_hash-parts}
 use Rattle.replay_spec.specs.secure_log.Log.{log_hash, log_pairs}
 use Rattle.replay_spec.specs.secure_log.Segment.{SegmentParts}
@@ -92,8 +92,7 @@ module _ (ms : List Member) (log : List Entry) where
       (subst (λ n. Honest ms state (placed n (log_hash r.before) r.rest) r.states) first r.honest)) in
       let parts = split ms state (placed_in s)
       (placed (s.first + length es) (last_hash s.opening (links_from s.first es)) next.part.rest) r.states
-      (subst (λ ps. Honest ms state ps r.states)
-      (places_joined s.first s.opening es next.part.rest) honest) in
+      (subst (λ ps. Honest ms state ps r.states) (places_joined s.first s.opening es next.part.rest) honest) in
       let behind : log_hash (r.before ++ es) ≡ last_hash s.opening (links_from s.first es) =
       last_hash-parts zeros 1 r.before es s.first (omega (arith, first))
       ∙ ap (λ h. last_hash h (links_from s.first es)) hash in

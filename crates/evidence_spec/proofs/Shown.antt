@@ -8,8 +8,7 @@ use Rattle.xdr.specs.Item.{Fits}
 use Rattle.replay_spec.specs.authenticator.Numbers.{is_number}
 use Rattle.replay_spec.specs.authenticator.declared.member.Member.{Member}
 use Rattle.replay_spec.specs.secure_log.declared.log_entries.entry.Entry.{Entry}
-use Rattle.replay_spec.specs.secure_log.LogEntries.Chain.{IsLink, IsChain, zeros, links_from, chain_texts}
-use Rattle.replay_spec.specs.secure_log.LogEntries.Chain.{NoCollision}
+use Rattle.replay_spec.specs.secure_log.LogEntries.Chain.{IsLink, IsChain, zeros, links_from, chain_texts, NoCollision}
 use Rattle.replay_spec.specs.secure_log.LogEntries.Chain.{IsAmong}
 use Rattle.replay_spec.proofs.secure_log.OfLogEntries.Chains.{links-are-links}
 use Rattle.replay_spec.specs.secure_log.Log.{log_pairs}

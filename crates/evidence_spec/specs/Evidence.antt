@@ -7,8 +7,7 @@ use Rattle.replay_spec.specs.authenticator.declared.member.Member.{Member}
 use Rattle.replay_spec.specs.authenticator.Roster.{member_of}
 use Rattle.replay_spec.specs.authenticator.Numbers.{number_item}
 use Rattle.replay_spec.specs.secure_log.LogEntries.Chain.{zeros}
-use Rattle.replay_spec.specs.secure_log.Segment.{SegmentParts, IsClosed, bounded_item, segment_value}
-use Rattle.replay_spec.specs.secure_log.Segment.{is_whole}
+use Rattle.replay_spec.specs.secure_log.Segment.{SegmentParts, IsClosed, bounded_item, segment_value, is_whole}
 use Rattle.replay_spec.specs.Placed.{placed_in}
 use Rattle.replay_spec.specs.Stepping.{ReplayFault}
 use Rattle.replay_spec.specs.Replay.{Fault, verdict_of}

@@ -88,9 +88,9 @@ pub record IsSoundIn (ms : List Member) (log : List Entry) (state : State) (s : 
   pub sound : segment_verdict ms state s ≡ Sound after found
   pub reached : Reached ms log s.closing.number after
 
--- A segment of a log, right after a number at which the log has reached a state, replays sound from that
--- state, and the log has reached the state after it at the segment's closing number. No digest is spoken of:
--- that the segment is the log's is a premise.
+-- A segment of a log, right after a number at which the log has reached a state, replays sound from that state,
+-- and the log has reached the state after it at the segment's closing number. No digest is spoken of: that the
+-- segment is the log's is a premise.
 abbrev pub SegmentsGoOnSound : Type 0
 SegmentsGoOnSound =
     (ms : List Member) (log : List Entry) (number : ℕ) (state : State) (s : SegmentParts)

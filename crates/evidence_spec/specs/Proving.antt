@@ -9,11 +9,9 @@ use Rattle.replay_spec.specs.authenticator.declared.authenticator.Authenticator.
 use Rattle.replay_spec.specs.authenticator.Roster.{member_of}
 use Rattle.replay_spec.specs.authenticator.Signed.{IsSignedIn}
 use Rattle.replay_spec.specs.secure_log.declared.log_entries.entry.Entry.{Entry}
-use Rattle.replay_spec.specs.secure_log.declared.log_entries.entry.Entry.TheVariants.{Send, Recv, Ack, Clock}
-use Rattle.replay_spec.specs.secure_log.declared.log_entries.entry.Entry.TheVariants.{Check}
+use Rattle.replay_spec.specs.secure_log.declared.log_entries.entry.Entry.TheVariants.{Send, Recv, Ack, Clock, Check}
 use Rattle.replay_spec.specs.secure_log.LogEntries.Entry.{entry_item, entry_value, content}
-use Rattle.replay_spec.specs.secure_log.LogEntries.Chain.{zeros, links_from, chain_texts, NoCollision}
-use Rattle.replay_spec.specs.secure_log.LogEntries.Chain.{IsAmong}
+use Rattle.replay_spec.specs.secure_log.LogEntries.Chain.{zeros, links_from, chain_texts, NoCollision, IsAmong}
 use Rattle.replay_spec.specs.secure_log.Log.{log_pairs}
 use Rattle.replay_spec.specs.secure_log.Segment.{SegmentParts}
 use Rattle.replay_spec.specs.state_spec.State.{State}

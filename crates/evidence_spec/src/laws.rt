@@ -21,8 +21,8 @@ pub fn what_is_shown_is_of_the_log()
     ensures segment { SegmentIsOfTheLog }
 {}
 
-/// A segment of a log, right after a number at which the log has reached a state, replays sound from that
-/// state, and the log has reached the state after it at its closing number.
+/// A segment of a log, right after a number at which the log has reached a state, replays sound from that state,
+/// and the log has reached the state after it at its closing number.
 pub fn a_segment_after_a_reached_place_is_sound()
     ensures { SegmentsGoOnSound }
 {}

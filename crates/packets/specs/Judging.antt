@@ -4,9 +4,7 @@ use Rattle.std.specs.Prelude.{Some, None, if◌then◌else◌, is_some}
 use Rattle.envelopes.specs.secure_log.authenticator.Roster.{member_of}
 use Rattle.envelopes.specs.secure_log.authenticator.declared.member.Member.{Member}
 use Rattle.envelopes.specs.secure_log.authenticator.declared.refusal.Refusal.{Refusal}
-use Rattle.envelopes.specs.secure_log.authenticator.declared.refusal.Refusal.TheVariants.{UnknownNode}
-use Rattle.envelopes.specs.secure_log.authenticator.declared.refusal.Refusal.TheVariants.{Garbage}
-use Rattle.envelopes.specs.secure_log.authenticator.declared.refusal.Refusal.TheVariants.{BadSignature}
+use Rattle.envelopes.specs.secure_log.authenticator.declared.refusal.Refusal.TheVariants.{UnknownNode, Garbage, BadSignature}
 use Rattle.envelopes.specs.secure_log.authenticator.declared.refusal.Refusal.TheVariants.{NoMemory}
 use Rattle.envelopes.specs.secure_log.LogEntries.Chain.{last_hash, links_from}
 use Rattle.envelopes.specs.secure_log.Segment.{SegmentParts}

@@ -1,7 +1,6 @@
 -- Each name is shown by printed characters alone.
 -- Serves: names_are_printed.
-use Rattle.std.proofs.Common.{◌≡◌, ◌<◌, ◌%◌, ◌/◌, ◌++◌, ◌==◌, ℕ, List, [], ◌∷◌, Bool, true, false, arith}
-use Rattle.std.proofs.Common.{rules, refl, codes, All, IsTrue, flat_map, if◌then◌else◌}
+use Rattle.std.proofs.Common.{◌≡◌, ◌<◌, ◌%◌, ◌/◌, ◌++◌, ◌==◌, ℕ, List, [], ◌∷◌, Bool, true, false, arith, rules, refl, codes, All, IsTrue, flat_map, if◌then◌else◌}
 use Rattle.std.proofs.lemmas.Grind.{common_steps}
 use Rattle.std.proofs.lemmas.List.Elements.{All-append, All-cons, All-nil}
 use Rattle.std.specs.Char.{digit_char}
