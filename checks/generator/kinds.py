@@ -24,10 +24,13 @@ Kind = int | None
 
 @dataclass(frozen=True)
 class Case:
-    """A file, the node that it is meant to expose, and of a replay the fault and its entry's number."""
+    """A file, the node that it is meant to expose, and of a replay the fault and its entry's number. Where they are given,
+    the reason why it is no evidence, and the byte at which the first item begins that doesn't decode."""
     data: bytes
     exposed: int | None = None
     fault: tuple[int, int] | None = None
+    reason: str | None = None
+    byte: int | None = None
 
 
 def file_of(cast: Cast, node: int, charge: Fork | Replay, members: list[Member] | None = None) -> bytes:
