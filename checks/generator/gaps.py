@@ -36,7 +36,7 @@ class Three(Cast):
 
     def __init__(self, kind: int = SERVER, log: int = LOG_2):
         self.random = Random('gaps')
-        self.members = [Signer(1, kind, 'signer 0', 3, log), Signer(2, CLIENT, 'signer 1', 3),
+        self.members = [Signer(1, kind, 'signer 0', 4, log), Signer(2, CLIENT, 'signer 1', 3),
                         Signer(3, CLIENT, 'signer 2', 3, LOG_2)]
         self.stranger = Signer(4, CLIENT, 'stranger', 3)
         self.kept = 0
