@@ -167,8 +167,8 @@ def is_refused_otherwise(packet: Packet) -> bool:
 def wrong_words() -> list[str]:
     """What is explained otherwise than docs/CHECKING.md says, of a log of 6, 7 and 8 and of a hidden entry 3."""
     def told(name: str, **detail) -> dict:
-        case = next(case for each, place, case in all_made() if (each, place) == (name, 0))
-        return explain(case.data, '', Detail(**detail))
+        make = next(make for each, _, make in GAPS if each == name)
+        return explain(make(Random(f'{name} 0'), 0).data, '', Detail(**detail))
 
     log, fork = told('lie', entries=True), told('hidden_entry')
     link, closing = fork['showings'][1]['links'][1], fork['showings'][1]['closing']
