@@ -173,6 +173,8 @@ def wrong_words() -> list[str]:
     log, fork = told('lie', entries=True), told('hidden_entry')
     link, closing = fork['showings'][1]['links'][1], fork['showings'][1]['closing']
     before = {number: told('lie', state=number)['state'] for number in (1, 3, 6, 7, 9)}
+    with open(os.path.join(os.path.dirname(__file__), '../docs/CHECKING.md')) as page:
+        worked = page.read()
     said = [
         ('the accused', log['accused'], 'node 1, a server, log version 2'),
         ('members', [each.get('log_version') for each in log['roster']['members']], [2, None, 2]),
@@ -181,6 +183,7 @@ def wrong_words() -> list[str]:
         ('first', (log['log']['first'], fork['showings'][0]['first']), ('1', '4')),
         ('a link', (link['number'], link['skipped']), ('4', 1)),
         ('a closing', (closing['number'], closing['skipped']), ('4', 1)),
+        ('worked bytes', [each['closing']['hash'] in worked for each in fork['showings']], [True, True]),
         ('marks', (fork['two_marks']['number'], fork['two_marks']['second_showing']), ('3', 'no entry')),
         ('opening states', {before[number]['digest'] for number in (1, 3, 6)}, {OPENING_STATE}),
         ('messages before 7', len(before[7]['received']), 1),
