@@ -1,11 +1,12 @@
 """Files of evidence of logs of version 2, whose numbers have gaps, each with the verdict that is owed."""
 
+import os
 from dataclasses import replace
 from random import Random
 
 from verifier.evidence import MAX_ENTRIES, MAX_LINKS, Fork, Link, Replay, Showing, chain, words_from
 from verifier.keys import CLIENT, MAX_MEMBERS, SECOND_FORM, SERVER, ZEROS, Member, digest
-from verifier.log import CHECK, Check, Clock, Send, hash_after
+from verifier.log import CHECK, SEND, Check, Clock, Recv, Send, hash_after, send_content
 from verifier.nfs import ROOT
 from verifier.replay import Fault
 from verifier.words import LOG_1, LOG_2, MAX_SKIPPED, NO_PLACE, NUMBERS, number_in, word_of
@@ -13,7 +14,7 @@ from verifier.xdr import array, hyper, opaque, word
 
 from .kinds import Case, file_of, honest_log, links_of, nfs_as_user_0, replay_case, showing_of, two_logs, with_fault
 from .logs import Cast, Log
-from .signer import Signer
+from .signer import KeyTree, Signer
 from .texts import evidence_text, roster_text
 
 NO_TEXT = 'the file is not a roster with evidence after it'
@@ -357,6 +358,37 @@ def lie(random: Random, place: int) -> Case:
     return replace(replay_case(log), reason=NO_FAULT)
 
 
+SCRIPTS = os.path.join(os.path.dirname(__file__), '..', 'scripts')
+
+
+class Scripted(Cast):
+    """Server 1 and client 2 of a script, whose keys anybody knows."""
+
+    def __init__(self, log: int):
+        self.random = Random('scripts')
+        self.members = [Signer(1, SERVER, 'signer 0', 3, log), Signer(2, CLIENT, 'signer 1', 3)]
+        for member in self.members:
+            member.tree = KeyTree(bytes(28) + word(member.node), 3)
+        self.kept = 0
+
+
+def story(random: Random, place: int) -> Case:
+    """What is to be put as evidence in two stories of a lie, of a server with a log of version 1 and of one that skips five
+    numbers: the call runs at as many seconds as its line has, and the first of the server's keys signed its RECV."""
+    script, version, skipped, fault_at = [('lie.script', LOG_1, 0, 3), ('gaps/lie.script', LOG_2, 5, 8)][place]
+    with open(os.path.join(SCRIPTS, script)) as file:
+        line, call = next((at, each) for at, each in enumerate(file, start=1) if each.startswith('call '))
+    log, body = Log(Scripted(version)), bytes.fromhex(call.split()[3])
+    client = log.cast.members[1]
+    sent = client.sign(1, hash_after(ZEROS, 1, SEND, digest(send_content(1, digest(body)))))
+    log.append(Recv(2, 1, ZEROS, body, sent.signature), skipped=skipped)
+    log.signer.leaf = 1
+    log.append(Clock(line, 0), skipped=0)
+    owed = log.state.owed
+    log.append(replace(owed, body=owed.body[:-1] + bytes([owed.body[-1] ^ 1])), honest=False, skipped=0)
+    return replay_case(log, (Fault.WRONG_REPLY, fault_at))
+
+
 def other_start(random: Random, place: int) -> Case:
     """A replay that doesn't begin at 0 with zeros, though all that it says is signed."""
     log = lying()
@@ -477,6 +509,7 @@ GAPS = [
     ('with_each_fault', 4 * len(Fault), with_each_fault),
     ('honest', 6, honest),
     ('lie', 2, lie),
+    ('story', 2, story),
     ('other_start', 3, other_start),
     ('closing_of_replay', 5, closing_of_replay),
     ('counts_in_acks', 4, counts_in_acks),
