@@ -173,6 +173,7 @@ def wrong_words() -> list[str]:
     log, fork = told('lie', entries=True), told('hidden_entry')
     link, closing = fork['showings'][1]['links'][1], fork['showings'][1]['closing']
     before = {number: told('lie', state=number)['state'] for number in (1, 3, 6, 7, 9)}
+    there, ack = told('words_of_messages', entries=True)['all_entries'], told('counts_in_acks', entries=True)['all_entries'][1]
     with open(os.path.join(os.path.dirname(__file__), '../docs/CHECKING.md')) as page:
         worked = page.read()
     said = [
@@ -183,6 +184,9 @@ def wrong_words() -> list[str]:
         ('first', (log['log']['first'], fork['showings'][0]['first']), ('1', '4')),
         ('a link', (link['number'], link['skipped']), ('4', 1)),
         ('a closing', (closing['number'], closing['skipped']), ('4', 1)),
+        ('numbers there', [(each['number_there'], each.get('skipped_there')) for each in there[:3]],
+         [('5', None), ('5', 2), ('5', 2**31)]),
+        ('the number of an acknowledged message', (ack['its_number'], ack['its_skipped']), ('4', 3)),
         ('worked bytes', [each['closing']['hash'] in worked for each in fork['showings']], [True, True]),
         ('marks', (fork['two_marks']['number'], fork['two_marks']['second_showing']), ('3', 'no entry')),
         ('opening states', {before[number]['digest'] for number in (1, 3, 6)}, {OPENING_STATE}),
