@@ -6,7 +6,11 @@ book after a step) are written out here a second time, over plain values: a hash
 entry is marked as bad. Random steps are made, and after each the reply and all parts are compared. The limits are small,
 so that every refusal of a node's own step is reached; then errors are planted in the equations, and each must be seen.
 
-    checks/books.py [HISTORIES]     prints how many steps were compared, which replies came, and what was planted
+All of it is done with a log of version 1, and then with one of version 2, whose numbers have gaps: the crates have version 1
+alone today.
+
+    checks/books.py [HISTORIES]     prints how many steps were compared, which replies came, and what was planted; of
+                                    version 2 half as many histories are tried
 """
 import random
 import sys
@@ -14,46 +18,64 @@ import zlib
 from collections import Counter, namedtuple
 from functools import lru_cache
 
-LEARNED, CHALLENGES, ASKED, AUDITED, OUTBOX = 3, 2, 3, 8, 4
+LEARNED, CHALLENGES = 3, 2
+# The limits that are of numbers: how many are asked for, audited, and wait in the outbox. Numbers with gaps need more.
+Reach = namedtuple('Reach', 'asked audited outbox')
+REACH = {1: Reach(3, 8, 4), 2: Reach(6, 10, 7)}
+SKIPS = [0, 0, 0, 0, 1, 1, 2]
 NODE = 1
 ZEROS = 0
+NO_ENTRY = None
 
-Authenticator = namedtuple('Authenticator', 'number hash')
+# `skipped` is how many numbers are skipped just before an entry; a log of version 1 skips none.
+Authenticator = namedtuple('Authenticator', 'number hash skipped', defaults=(0,))
 Segment = namedtuple('Segment', 'first opening entries closing')
 Job = namedtuple('Job', 'node number state segment')
 Done = namedtuple('Done', 'job verdict')
-Entry = namedtuple('Entry', 'kind word')
+Entry = namedtuple('Entry', 'kind word skipped', defaults=(0,))
 State = namedtuple('State', 'number hash')
 Book = namedtuple('Book', 'end state stage begun learned segments challenges outbox evidence')
 START = State(0, ZEROS)
 OPENING = Book(0, START, ('none',), 0, (), (), (), (), None)
+version = 1
 
 
 def refused(number):
     return ('refused', number)
 
 
-def link(before, entry):
-    return zlib.crc32(repr((before, entry)).encode()) & 0xffff | 1
+def link(before, number, entry):
+    return zlib.crc32(repr((before, number, entry)).encode()) & 0xffff | 1
 
 
 def pair_of(a):
     return (a.number, a.hash)
 
 
-def segment_pairs(s):
-    pairs, hash_ = [(s.first - 1, s.opening)], s.opening
-    for place, entry in enumerate(s.entries):
-        hash_ = link(hash_, entry)
-        pairs.append((s.first + place, hash_))
-    return pairs
+def numbered(s):
+    """The entries of a segment, each after its number."""
+    number, found = s.first - 1, []
+    for entry in s.entries:
+        number += entry.skipped + 1
+        found.append((number, entry))
+    return found
+
+
+def segment_marks(s):
+    """What a segment shows at each number: a hash, or no entry."""
+    marks, hash_ = [(s.first - 1, s.opening)], s.opening
+    for number, entry in numbered(s):
+        hash_ = link(hash_, number, entry)
+        marks += [(skipped, NO_ENTRY) for skipped in range(number - entry.skipped, number)]
+        marks.append((number, hash_))
+    return marks
 
 
 def verdict_on(state, s):
     """Sound, with the state after it and what it shows of others, or a fault."""
     if s.first != state.number + 1 or s.opening != state.hash or any(e.kind == 'bad' for e in s.entries):
         return ('fault',)
-    found = tuple(('other', e.word, s.first + place) for place, e in enumerate(s.entries) if e.kind == 'recv')
+    found = tuple(('other', e.word, number) for number, e in numbered(s) if e.kind == 'recv')
     return ('sound', State(s.closing.number, s.closing.hash), found)
 
 
@@ -138,7 +160,7 @@ def shown(past):
     step, reply, rest = past
     a, c = noted(step, reply), accepted(step, reply)
     new = () if a is None or is_exposed(rest) else (pair_of(a),)
-    return new + (tuple(segment_pairs(c)) if c else ()) + shown(rest)
+    return new + (tuple(segment_marks(c)) if c else ()) + shown(rest)
 
 
 @memo
@@ -247,7 +269,7 @@ def evidence(past):
         return evidence(rest)
     a, c, job = noted(step, reply), accepted(step, reply), filed(step, reply)
     if a or c:
-        new = [pair_of(a)] if a else segment_pairs(c)
+        new = [pair_of(a)] if a else segment_marks(c)
         return fork_of(kept(rest), all_accepted(rest), a or c, first_fork(new, shown(rest)))
     if job and verdict_filed(past)[0] == 'fault':
         return ('replay', Segment(1, ZEROS, audited(rest) + job.segment.entries, job.segment.closing))
@@ -259,15 +281,15 @@ def indication(past):
 
 
 def last_in_reach(end, learned):
-    return max((a.number for a in learned if a.number <= end + ASKED), default=0)
+    return max((a.number for a in learned if a.number <= end + REACH[version].asked), default=0)
 
 
 def ask_up_to(end, waiting, last):
     if last == 0:
         return refused(7)
-    if AUDITED < last:
+    if REACH[version].audited < last:
         return refused(13)
-    return refused(6) if OUTBOX < waiting + last - end else ('asked', end + 1, last)
+    return refused(6) if REACH[version].outbox < waiting + last - end else ('asked', end + 1, last)
 
 
 def learn_reply(past, a):
@@ -345,6 +367,12 @@ ERRORS = [
     'the last evidence stays', 'an exposed book keeps', 'an answer closes the audit alone', 'jobs are not counted',
     'what lies below the end stays',
 ]
+# Errors that a log without gaps doesn't show.
+GAP_ERRORS = [
+    'skipped numbers are not shown', 'no segment has a number that it skips', 'hashes come before skipped numbers',
+    'a joined log loses its counts', 'the end counts entries', 'an authenticator with another count is another',
+    'an authenticator shows what it skips',
+]
 planted = None
 
 
@@ -361,11 +389,13 @@ def exposing_pairs(found):
 
 def book_shown(b):
     pairs = [(0, ZEROS)] + exposing_pairs(b.evidence) + [pair_of(a) for a in b.learned]
+    if has('an authenticator shows what it skips'):
+        pairs += [(number, NO_ENTRY) for a in b.learned for number in range(a.number - a.skipped, a.number)]
     if has('forks are sought among learned alone'):
         return pairs
     for s in b.segments:
-        pairs += segment_pairs(s)[1:] if has('openings are not shown') else segment_pairs(s)
-    return pairs
+        pairs += segment_marks(s)[1:] if has('openings are not shown') else segment_marks(s)
+    return [pair for pair in pairs if pair[1] is not NO_ENTRY] if has('skipped numbers are not shown') else pairs
 
 
 def book_job(b):
@@ -388,7 +418,8 @@ def reply_to_learn(b, a):
     pairs = book_shown(b)
     if b.evidence is not None and not has('an exposed book says Already'):
         return 'noted'
-    if pair_of(a) in pairs:
+    others = [each for each in b.learned if has('an authenticator with another count is another') and each != a]
+    if pair_of(a) in pairs and pair_of(a) not in [pair_of(each) for each in others]:
         return 'already'
     full = b.end < a.number and LEARNED <= len(b.learned)
     return refused(4) if full and (has('a fork is refused where it is full') or not is_fork(pair_of(a), pairs)) else 'noted'
@@ -451,7 +482,12 @@ def first_evidence(old, new):
 
 
 def fork_evidence(b, showing, pairs):
-    return first_evidence(b.evidence, fork_of(b.learned, b.segments, showing, first_fork(pairs, book_shown(b))))
+    if has('hashes come before skipped numbers'):
+        pairs = sorted(pairs, key=lambda pair: pair[1] is NO_ENTRY)
+    number, segments = first_fork(pairs, book_shown(b)), b.segments
+    if has('no segment has a number that it skips'):
+        segments = [s for s in segments if number in dict(numbered(s))]
+    return first_evidence(b.evidence, fork_of(b.learned, segments, showing, number))
 
 
 def after_learn(b, a):
@@ -463,16 +499,20 @@ def after_learn(b, a):
 def after_answer(b, s):
     audits = has('an answer closes the audit alone')
     left = tuple(x for x in b.challenges if not (x[0] == 'audit' if audits else is_answered(s, x)))
-    found = fork_evidence(b, s, segment_pairs(s))
+    found = fork_evidence(b, s, segment_marks(s))
     return b._replace(stage=('given', s), segments=b.segments + (s,), challenges=left, evidence=found)
 
 
 def having_filed(b, s, verdict):
     if verdict[0] == 'fault':
-        charge = ('replay', Segment(1, ZEROS, book_audited(b) + s.entries, s.closing))
+        joined = book_audited(b) + s.entries
+        if has('a joined log loses its counts'):
+            joined = tuple(entry._replace(skipped=0) for entry in joined)
+        charge = ('replay', Segment(1, ZEROS, joined, s.closing))
         return b._replace(stage=('none',), evidence=first_evidence(b.evidence, charge))
     above = tuple(a for a in b.learned if s.closing.number < a.number or has('what lies below the end stays'))
-    moved = b._replace(end=s.closing.number, state=verdict[1], stage=('none',))
+    end = b.end + len(s.entries) if has('the end counts entries') else s.closing.number
+    moved = b._replace(end=end, state=verdict[1], stage=('none',))
     return moved._replace(learned=above, outbox=b.outbox + verdict[2], evidence=first_evidence(b.evidence, None))
 
 
@@ -502,24 +542,66 @@ def book_after(b, step, reply):
 
 # ---- random steps
 
-def grown(rng, start, length, bad):
-    """A log: its first hash, then entries with the hash after each."""
-    log = [(None, start)]
+def grown(rng, start, length, bad, before=0):
+    """A log: its first hash, then entries, each with its number and the hash after it."""
+    log = [(None, before, start)]
     for _ in range(length):
-        entry = Entry(rng.choices(['send', 'recv', 'clock', 'bad'], [3, 4, 3, bad])[0], rng.randrange(4))
-        log.append((entry, link(log[-1][1], entry)))
+        kind, word = rng.choices(['send', 'recv', 'clock', 'bad'], [3, 4, 3, bad])[0], rng.randrange(4)
+        entry = Entry(kind, word, rng.choice(SKIPS) if version == 2 else 0)
+        number = log[-1][1] + entry.skipped + 1
+        log.append((entry, number, link(log[-1][2], number, entry)))
     return log
 
 
 def made_logs(rng):
     """The log of a history, one that forks from it, and one that begins with another hash."""
     log, cut = grown(rng, ZEROS, 14, .1), rng.randrange(1, 10)
-    return [log, log[:cut] + grown(rng, log[cut - 1][1], 15 - cut, 1)[1:], grown(rng, 1, 14, 1)]
+    _, number, hash_ = log[cut - 1]
+    return [log, log[:cut] + grown(rng, hash_, 15 - cut, 1, number)[1:], grown(rng, 1, 14, 1)]
+
+
+def closed(s):
+    """A segment with the closing that it ends in."""
+    number, hash_ = segment_marks(s)[-1]
+    return s._replace(closing=Authenticator(number, hash_, s.entries[-1].skipped))
 
 
 def segment_of(log, first, last):
-    entries = tuple(entry for entry, _ in log[first:last + 1])
-    return Segment(first, log[first - 1][1], entries, Authenticator(last, log[last][1]))
+    """The entries from one number to another, with another one at the last number where the log has none there."""
+    opening, number, entries = ZEROS, first - 1, []
+    for entry, at, hash_ in log:
+        if at < first:
+            opening = hash_
+        elif at <= last:
+            entries.append(entry._replace(skipped=at - number - 1))
+            number = at
+    if number < last:
+        entries.append(Entry('clock', 0, last - number - 1))
+    return closed(Segment(first, opening, tuple(entries), None))
+
+
+def without_one(rng, s):
+    """A segment that hides an entry: its number is skipped."""
+    entries = list(s.entries)
+    if len(entries) > 1:
+        at = rng.randrange(len(entries) - 1)
+        gone = entries.pop(at)
+        entries[at] = entries[at]._replace(skipped=entries[at].skipped + gone.skipped + 1)
+    return closed(s._replace(entries=tuple(entries)))
+
+
+def learned_one(rng, log, end):
+    """An authenticator of a log, near the end that was audited, or one with another hash; in a log with gaps sometimes with
+    another count, or of a number that may be skipped."""
+    at = sum(number <= end for _, number, _ in log[1:])
+    place = rng.randrange(min(at + 6, len(log))) if rng.random() < .5 else min(len(log) - 1, at + 1 + rng.randrange(5))
+    entry, number, hash_ = log[place]
+    a = Authenticator(number, hash_ if rng.random() < .985 else 7, entry.skipped if entry else 0)
+    if version == 2 and rng.random() < .05:
+        return a._replace(skipped=a.skipped + 1)
+    if version == 2 and rng.random() < .02:
+        return a._replace(number=max(a.number - 1, 0), hash=7)
+    return a
 
 
 def some_job(rng, past, log, old):
@@ -542,14 +624,14 @@ def next_step(rng, past, logs, old):
     kind = rng.choices(list(KINDS), list(KINDS.values()))[0]
     end, stage = end_of(past)[0], stage_of(past)
     if kind == 'learn':
-        number = rng.randrange(min(end + 6, len(log))) if rng.random() < .5 else min(len(log) - 1, end + 1 + rng.randrange(5))
-        return kind, Authenticator(number, log[number][1] if rng.random() < .985 else 7)
+        return kind, learned_one(rng, log, end)
     if kind in ('send', 'ack'):
         return kind, rng.randrange(4)
     if kind == 'answer':
         some = sorted((1 + rng.randrange(8), 1 + rng.randrange(8)))
         first, last = stage[1:] if stage[0] == 'wanted' and rng.random() < .9 else some
-        return kind, segment_of(log, first, last)
+        segment = segment_of(log, first, last)
+        return kind, without_one(rng, segment) if version == 2 and rng.random() < .05 else segment
     if kind == 'putback':
         return kind, some_job(rng, past, log, old)
     if kind == 'file':
@@ -615,22 +697,56 @@ def compare(seed, histories, seen):
     return steps, None
 
 
-def main(histories):
-    global planted
-    seen = Counter()
+def replies_to(steps):
+    """What is owed to steps of a node, where the book replies the same."""
+    past, book, replies = None, OPENING, []
+    for step in steps:
+        reply = owed(past, step)
+        if book_reply(book, step) != reply:
+            return None
+        book, past = book_after(book, step, reply), (step, reply, past)
+        replies.append(reply)
+    return replies
+
+
+def is_hidden_entry_shown():
+    """A node signs 3 and 4 and gives entries 2 and 4 alone. It is exposed at 3, whether 3 is learned before or after that."""
+    s = closed(Segment(1, ZEROS, (Entry('clock', 0, 1), Entry('clock', 1, 1)), None))
+    hidden, last = Authenticator(3, 5), s.closing
+    before = replies_to([('learn', hidden), ('learn', last), ('audit',), ('answer', s), ('ask', 'evidence')])
+    after = replies_to([('learn', last), ('audit',), ('answer', s), ('learn', hidden), ('ask', 'evidence')])
+    return (before == ['noted', 'noted', ('asked', 1, 4), 'accepted', ('fork', 3, hidden, s)]
+            and after == ['noted', ('asked', 1, 4), 'accepted', 'noted', ('fork', 3, s, hidden)])
+
+
+def try_version(log, histories, errors):
+    """Compares with a log of this version, and plants these errors: whether all is as it should be."""
+    global planted, version
+    seen, planted, version = Counter(), None, log
     steps, wrong = compare(1, histories, seen)
     print(f'{steps} steps:', 'none differs' if wrong is None else f'this one differs: {wrong}')
     for name in sorted(seen):
         print(f'{seen[name]:8} {name}')
     good = wrong is None
-    for planted in ERRORS:
+    for planted in errors:
         steps, wrong = compare(2, 1000, Counter())
         print(f'planted: {planted}:', 'NOT SEEN' if wrong is None else f'seen after {steps} steps')
         good = good and wrong is not None
     missing = [n for n in range(4, 14) if not any(name.endswith(f'refused {n}') for name in seen)]
     if missing:
         print('not reached: refusals', *missing)
-    return 0 if good and not missing else 1
+    return good and not missing
+
+
+def main(histories):
+    global planted
+    good = try_version(1, histories, ERRORS)
+    print('a log of version 2, whose numbers have gaps:')
+    good, planted = try_version(2, histories // 2, GAP_ERRORS) and good, None
+    if not is_hidden_entry_shown():
+        print('an entry that is hidden, but was signed, is not shown')
+        good = False
+    return 0 if good else 1
 
 
 if __name__ == '__main__':

@@ -75,13 +75,12 @@ def told_otherwise(programs: list[str], path: str, data: bytes, index: int) -> l
     return differences(data, *texts[0], detail) + ['programs that differ'] * (texts.count(texts[0]) != len(texts))
 
 
-def compare(programs: list[str], count: int, seed: str, names: list[str]) -> tuple[int, int]:
-    """Judges so many files and those of which each is made once: how many they are, and how many verdicts or explanations
-    aren't as they are meant to be."""
+def compare(programs: list[str], cases: Iterator[tuple[str, int, Case]]) -> tuple[int, int]:
+    """Judges files of kinds: how many they are, and how many verdicts or explanations aren't as they are meant to be."""
     kinds, wrong = Counter(), 0
     with tempfile.TemporaryDirectory() as folder:
         path = os.path.join(folder, 'case')
-        for name, index, case in all_made(count, seed, names):
+        for name, index, case in cases:
             with open(path, 'wb') as file:
                 file.write(case.data)
             texts = [(said(program, path, '--json'), said(program, path, '--explain')) for program in programs]
@@ -118,7 +117,7 @@ def main() -> int:
     if programs == '--show':
         sys.stdout.buffer.write(made(int(number), seed, names or list(KINDS))[1].data)
         return 0
-    judged, wrong = compare(programs.split(','), int(number), seed, names)
+    judged, wrong = compare(programs.split(','), all_made(int(number), seed, names))
     print(f'{judged} files were judged, {wrong} otherwise than they are meant to be')
     return 1 if wrong else 0
 

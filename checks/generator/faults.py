@@ -33,12 +33,12 @@ def owe(log: Log):
 
 
 def send_somewhere(log: Log) -> int:
-    """Has a message sent to another member; gives its number."""
+    """Has a message sent to another member; gives its word."""
     if log.signer.kind == SERVER:
         log.exchange(answered_call(log))
     else:
         log.append(Send(log.random.choice(log.cast.others()).node, b'body'))
-    return len(log.entries)
+    return log.words[-1]
 
 
 def any_entry(log: Log) -> Entry:

@@ -36,7 +36,7 @@ class Log:
 
     def segment(self, closing: Authenticator) -> bytes:
         """The text of the entries from the first one to the closing's."""
-        entries = array([entry_text(entry) for entry in self.entries[:closing.number]])
+        entries = array([entry_text(entry) for entry in self.entries[:closing.word]])
         return word(self.signer.node) + hyper(1) + ZEROS + entries + authenticator_text(closing)
 
 

@@ -3,13 +3,14 @@
 from dataclasses import dataclass, replace
 from random import Random
 
-from verifier.evidence import MAX_ENTRIES, MAX_LINKS, Fork, Replay, Showing, chain
+from verifier.evidence import MAX_ENTRIES, MAX_LINKS, Fork, Link, Replay, Showing, chain
 from verifier.keys import CLIENT, MAX_MEMBERS, SERVER, ZEROS, Member, digest
 from verifier.log import ACK, CHECK, CLOCK, RECV, SEND, Clock, Send
 from verifier.mount import World
 from verifier.nfs import ROOT, Files
 from verifier.replay import Fault
 from verifier.rpc import AUTH_SYS, MOUNT, NFS
+from verifier.words import LOG_1
 from verifier.xdr import opaque, word
 
 from .calls import Caller
@@ -23,10 +24,13 @@ Kind = int | None
 
 @dataclass(frozen=True)
 class Case:
-    """A file, the node that it is meant to expose, and of a replay the fault and its entry's number."""
+    """A file, the node that it is meant to expose, and of a replay the fault and its entry's number. Where they are given,
+    the reason why it is no evidence, and the byte at which the first item begins that doesn't decode."""
     data: bytes
     exposed: int | None = None
     fault: tuple[int, int] | None = None
+    reason: str | None = None
+    byte: int | None = None
 
 
 def file_of(cast: Cast, node: int, charge: Fork | Replay, members: list[Member] | None = None) -> bytes:
@@ -39,8 +43,8 @@ def replay_case(log: Log, fault: tuple[int, int] | None = None) -> Case:
     return Case(file_of(log.cast, node, log.replay()), None if fault is None else node, fault)
 
 
-def honest_log(random: Random, kind: Kind = None, most: int = 12, kept: int = 0) -> Log:
-    cast = Cast(random, kind, least_height=3 if kept else 1)
+def honest_log(random: Random, kind: Kind = None, most: int = 12, kept: int = 0, version: int = LOG_1) -> Log:
+    cast = Cast(random, kind, 3 if kept else 1, version)
     cast.kept = kept
     log = Log(cast)
     log.run(random.randint(0, most))
@@ -58,11 +62,11 @@ def honest_client(random: Random) -> Case:
     return replay_case(honest_log(random, CLIENT, 20))
 
 
-def with_fault(random: Random, fault: Fault, kind: Kind = None) -> tuple[Log, tuple[int, int]]:
+def with_fault(random: Random, fault: Fault, kind: Kind = None, version: int = LOG_1) -> tuple[Log, tuple[int, int]]:
     """An honest log, an entry with the fault, and perhaps some after it."""
-    log = honest_log(random, SERVER if fault == Fault.WRONG_REPLY else kind, 6, kept=6)
+    log = honest_log(random, SERVER if fault == Fault.WRONG_REPLY else kind, 6, 6, version)
     log.append(FAULTS[fault](log), honest=False)
-    number = len(log.entries)
+    number = log.numbers[-1]
     for _ in range(random.choice([0, 0, 1, 3])):
         log.append(any_entry(log), honest=False)
     return log, (fault, number)
@@ -76,7 +80,7 @@ def other_start(random: Random) -> Case:
     """A replay that doesn't begin at 1 with zeros, though all that it says is signed."""
     log, _ = with_fault(random, Fault.BAD_RECEIVE)
     first, opening = random.choice([(0, ZEROS), (2, ZEROS), (1, random.randbytes(32)), (2**63, ZEROS)])
-    hashes = chain(opening, first, [(entry.kind, digest(entry.content())) for entry in log.entries])
+    hashes = chain(opening, first, links_of(log))
     closing = log.signer.sign(first + len(log.entries) - 1, hashes[-1])
     charge = Replay(log.signer.node, first, opening, log.entries, closing)
     return Case(file_of(log.cast, log.signer.node, charge))
@@ -86,9 +90,9 @@ def wrong_closing(random: Random) -> Case:
     log, _ = with_fault(random, Fault.BAD_RECEIVE)
     charge = log.replay()
     closing, member = charge.closing, log.cast.members[1]
-    number, last = closing.number, closing.hash
+    number, last = closing.word, closing.hash
     closing = random.choice([
-        replace(closing, number=number + 1), replace(closing, node=member.node),
+        replace(closing, word=number + 1), replace(closing, node=member.node),
         replace(closing, hash=flipped(log, last)),
         replace(closing, signature=changed_signature(log, closing.signature)),
         log.cast.stranger.sign(number, last, node=log.signer.node), log.cast.stranger.sign(number, last),
@@ -290,25 +294,25 @@ CALLS = len(Caller(Random(0), World(Files(1))).each_call())
 
 # Forks.
 
-def links_of(log: Log) -> list[tuple[int, bytes]]:
-    return [(entry.kind, digest(entry.content())) for entry in log.entries]
+def links_of(log: Log) -> list[Link]:
+    return [Link(entry.kind, digest(entry.content()), skipped) for entry, skipped in zip(log.entries, log.skips)]
 
 
 def showing_of(log: Log, first: int, last: int) -> Showing:
-    """A showing of the entries from one number to another; of none where they are out of order by one."""
-    return Showing(log.signer.node, first, log.hashes[first - 1], links_of(log)[first - 1:last],
-                   log.signer.sign(last, log.hashes[last]))
+    """A showing of the entries from one place to another; of none where they are out of order by one."""
+    return Showing(log.signer.node, log.numbers[first - 1] + 1, log.hashes[first - 1], links_of(log)[first - 1:last],
+                   log.signer.sign(log.words[last], log.hashes[last]), log.signer.log)
 
 
-def two_logs(random: Random) -> tuple[Log, Log, int]:
+def two_logs(random: Random, version: int = LOG_1) -> tuple[Log, Log, int]:
     """Two logs of one node that part after so many entries."""
-    first = honest_log(random, kept=6, most=5)
+    first = honest_log(random, kept=6, most=5, version=version)
     while len(first.entries) < 3:
         first.append(Send(1, b'filled'), honest=False)
     common = random.randrange(len(first.entries))
     second = Log(first.cast)
-    for entry in first.entries[:common]:
-        second.append(entry, honest=False)
+    for entry, skipped in zip(first.entries[:common], first.skips):
+        second.append(entry, honest=False, skipped=skipped)
     for _ in range(random.randint(1, 4)):
         second.append(Send(2, random.randbytes(8)), honest=False)
     return first, second, common
@@ -351,7 +355,7 @@ def fork_from_opening(random: Random) -> Case:
     log = Log(Cast(random))
     opening = random.choice([ZEROS, random.randbytes(32), bytes(31) + b'\1'])
     first = random.choice([1, 1, 1, 2, 2**63])
-    links = [(random.randint(SEND, CHECK), random.randbytes(32)) for _ in range(random.choice([0, 0, 1, 3]))]
+    links = [Link(random.randint(SEND, CHECK), random.randbytes(32)) for _ in range(random.choice([0, 0, 1, 3]))]
     closing = log.signer.sign(first + len(links) - 1, chain(opening, first, links)[-1])
     showing = Showing(log.signer.node, first, opening, links, closing)
     return fork_case(log, random.choice([0, 1, GREATEST_PLACE]), [showing], first == 1 and opening != ZEROS)
@@ -361,7 +365,7 @@ def open_showing(random: Random) -> Case:
     """A fork of which one showing isn't closed: by its first, its node, its closing or the signature."""
     log = Log(Cast(random))
     signer, node, opening = log.signer, log.signer.node, random.randbytes(32)
-    links = [(SEND, random.randbytes(32)), (CLOCK, random.randbytes(32))]
+    links = [Link(SEND, random.randbytes(32)), Link(CLOCK, random.randbytes(32))]
     hashes = chain(opening, 1, links)
     good = Showing(node, 1, opening, links, signer.sign(2, hashes[-1]))
     other, stranger = log.cast.members[1].node, log.cast.stranger
@@ -370,7 +374,7 @@ def open_showing(random: Random) -> Case:
         replace(good, first=0, closing=log.cast.members[1].sign(1, zero[-1], node=node)),
         replace(good, first=2), replace(good, first=2**64 - 1), replace(good, node=other),
         replace(good, closing=replace(good.closing, node=other)), replace(good, links=links[:1]),
-        replace(good, links=links[::-1]), replace(good, links=[(CHECK, links[0][1]), links[1]]),
+        replace(good, links=links[::-1]), replace(good, links=[links[0]._replace(kind=CHECK), links[1]]),
         replace(good, opening=flipped(log, opening)),
         replace(good, closing=stranger.sign(2, hashes[-1], node=node)),
         replace(good, closing=replace(good.closing, signature=changed_one))])
@@ -381,7 +385,7 @@ def open_showing(random: Random) -> Case:
 def first_0(random: Random) -> Case:
     """Showings with first 0, signed by the node over all that they say: they show nothing."""
     log = Log(Cast(random))
-    link = (SEND, random.randbytes(32))
+    link = Link(SEND, random.randbytes(32))
     opening = random.randbytes(32)
     closing = log.signer.sign(0, chain(opening, 0, [link])[-1])
     showing = Showing(log.signer.node, 0, opening, [link], closing)
@@ -405,7 +409,7 @@ def many_links(random: Random) -> Case:
     """A showing with as many links as it has at most, or with one more."""
     log = Log(Cast(random))
     count = random.choice([MAX_LINKS, MAX_LINKS + 1])
-    links = [(CLOCK, digest(word(at))) for at in range(count)]
+    links = [Link(CLOCK, digest(word(at))) for at in range(count)]
     opening = random.randbytes(32)
     closing = log.signer.sign(count, chain(opening, 1, links)[-1])
     return fork_case(log, 0, [Showing(log.signer.node, 1, opening, links, closing)], count == MAX_LINKS)
@@ -435,13 +439,14 @@ def cut(random: Random) -> Case:
 
 
 def changed(random: Random) -> Case:
-    """A bit changed anywhere behind the roster but in a fork's `at`, or in the root of the accused."""
+    """A bit changed anywhere behind the roster but in the charge's last byte and a fork's `at`, or in the root of the
+    accused."""
     log, charge = any_evidence(random)
     members = list(log.cast.roster().values())
     data = file_of(log.cast, log.signer.node, charge)
     start = len(roster_text(members))
     root = 4 + 44 * [member.node for member in members].index(log.signer.node) + 8
-    skipped = range(start + 8, start + 16) if isinstance(charge, Fork) else range(0)
+    skipped = range(start + 7, start + 16 if isinstance(charge, Fork) else start + 8)
     places = [random.randrange(start, len(data)), random.randrange(start, start + 200),
               random.randrange(root, root + 32), random.randrange(len(data) - 300, len(data))]
     at = random.choice([place for place in places if place not in skipped])
@@ -496,14 +501,14 @@ def no_text(random: Random, place: int | None = None) -> Case:
     begun = word(node) + bytes(7) + b'\1' + opening
     link = word(1, random.choice([0, 6, 2**32 - 1])) + bytes(32) + authenticator_text(claim)
     choices = [
-        good[:start + 4] + word(random.choice([0, 3])) + good[start + 8:],
+        good[:start + 4] + word(random.choice([0, 5])) + good[start + 8:],
         good[:start + 12] + ones + good[start + 20:],
         good[:entries_at] + word(MAX_ENTRIES + 1) + good[entries_at + 4:],
         good[:entries_at + 4] + word(random.choice([0, 6, 2**32 - 1])) + good[entries_at + 8:],
         fork + bytes(8) + word(node) + bytes(8) + ZEROS + signed + word(2),
         fork + ones + begun + signed + word(0), fork + bytes(8) + begun + link + word(0),
-        file_of(log.cast, node, replace(charge, closing=replace(charge.closing, number=2**64 - 1))),
-        file_of(log.cast, node, Fork(0, [Showing(node, 1, opening, [], replace(claim, number=2**64 - 1))])),
+        file_of(log.cast, node, replace(charge, closing=replace(charge.closing, word=2**64 - 1))),
+        file_of(log.cast, node, Fork(0, [Showing(node, 1, opening, [], replace(claim, word=2**64 - 1))])),
     ]
     return Case(random.choice(choices) if place is None else choices[place])
 

@@ -4,6 +4,7 @@ from dataclasses import dataclass
 from functools import cache
 
 from verifier.keys import DIGEST_BITS, Authenticator, Member, Signature, digest
+from verifier.words import LOG_1
 from verifier.xdr import array, hyper, word
 
 BIT_PLACES = range(DIGEST_BITS)
@@ -54,25 +55,26 @@ def signature(leaf: int, shown: bytes, other: bytes, path: list[bytes]) -> Signa
 class Signer:
     """Signs for a node, by each leaf once."""
 
-    def __init__(self, node: int, kind: int, name: str, height: int):
+    def __init__(self, node: int, kind: int, name: str, height: int, log: int = LOG_1):
         self.node = node
         self.kind = kind
+        self.log = log
         self.tree = key_tree(name, height)
         self.leaf = 0
 
     def member(self) -> Member:
-        return Member(self.node, self.kind, self.tree.root(), self.tree.height)
+        return Member(self.node, self.kind, self.tree.root(), self.tree.height, self.log)
 
     def left(self) -> int:
         return 2**self.tree.height - self.leaf
 
-    def sign(self, number: int, at: bytes, node: int | None = None) -> Authenticator:
-        """An authenticator over a number and a hash, of this node or, falsely, of another."""
+    def sign(self, entry_word: int, at: bytes, node: int | None = None) -> Authenticator:
+        """An authenticator over an entry's word and a hash, of this node or, falsely, of another."""
         node = self.node if node is None else node
-        signed = digest(word(node) + hyper(number) + at)
+        signed = digest(word(node) + hyper(entry_word) + at)
         key, leaf = self.tree.keys[self.leaf], self.leaf
         self.leaf += 1
         bits = [signed[place // 8] >> (7 - place % 8) & 1 for place in BIT_PLACES]
         shown = b''.join(key.secrets[2 * place + bit] for place, bit in enumerate(bits))
         other = b''.join(key.publics[2 * place + 1 - bit] for place, bit in enumerate(bits))
-        return Authenticator(node, number, at, signature(leaf, shown, other, self.tree.path(leaf)))
+        return Authenticator(node, entry_word, at, signature(leaf, shown, other, self.tree.path(leaf)))

@@ -3,7 +3,7 @@
 from dataclasses import replace
 from random import Random
 
-from verifier.evidence import Fork, Showing, chain
+from verifier.evidence import Fork, Link, Showing, chain
 from verifier.keys import CLIENT, SERVER
 from verifier.log import SEND, Check, Clock, Send
 from verifier.nfs import ROOT
@@ -85,7 +85,7 @@ def second_ack() -> bytes:
 def first_0() -> bytes:
     """A showing whose first is 0, signed over all that it says."""
     cast = Pair(SERVER)
-    signer, opening, link = cast.accused(), bytes(31) + b'\1', (SEND, bytes(32))
+    signer, opening, link = cast.accused(), bytes(31) + b'\1', Link(SEND, bytes(32))
     closing = signer.sign(0, chain(opening, 0, [link])[-1])
     return file_of(cast, 1, Fork(0, [Showing(1, 0, opening, [link], closing)]))
 

@@ -1,14 +1,18 @@
 """What `nfsacc check --json` says of a file, worked out a second time from the file: a dictionary in its order."""
 
 import json
+from bisect import bisect_left
 from dataclasses import dataclass
 
-from .evidence import Fork, Replay, Showing, chain, fault_shown, hashes_shown, is_fork, read_file
-from .keys import SERVER, ZEROS, Authenticator, Roster, Signature, digest, is_signed, roster_text
+from .evidence import (Fork, Mark, Replay, Showing, chain, ends_in_closing, fault_shown, is_fork, marks_shown,
+                       numbers_from, read_file, words_from)
+from .keys import (MAX_MEMBERS, SECOND_FORM, SERVER, ZEROS, Authenticator, Member, Roster, Signature, digest, is_signed,
+                   roster_text)
 from .log import ACK, CHECK, CLOCK, RECV, SEND, Entry, Recv, hash_after, message_hash, recv_content
 from .nfs import DIRECTORY, REGULAR, Time
 from .replay import Fault, State, fault_of, is_acknowledged, opening_state, step
 from .rpc import AUTH_SYS, MAX_AUTH, MOUNT, NFS
+from .words import LOG_1, LOG_2, number_in, skipped_in
 from .xdr import Reader, Undecodable, hyper, word
 
 KINDS = {SEND: 'SEND', RECV: 'RECV', ACK: 'ACK', CLOCK: 'CLOCK', CHECK: 'CHECK'}
@@ -305,20 +309,31 @@ def joined(*parts: bytes | str) -> str:
     return f'SHA-256({" | ".join(part if isinstance(part, str) else part.hex() for part in parts)})'
 
 
-def signed_digest(node: int, number: int, at: bytes, name: str) -> dict:
-    return {'signed_digest': digest(word(node) + hyper(number) + at).hex(),
-            'signed_digest_is': joined(word(node), hyper(number), name)}
+def numbered(log: int, entry_word: int, name: str, skipped: str) -> dict:
+    """The number in an entry's word, and how many numbers it skips, where it skips any."""
+    said = {name: str(number_in(log, entry_word))}
+    return said | ({skipped: skipped_in(log, entry_word)} if skipped_in(log, entry_word) else {})
 
 
-def verdict_on(roster: Roster, node: int, number: int, at: bytes, signature: Signature) -> dict:
-    return {'verifies': 'yes' if is_signed(roster, Authenticator(node, number, at, signature)) else 'no'}
+def place_of(number: int, skipped: int) -> dict:
+    """The number of an entry or a link of what is shown."""
+    return {'number': place(number)} | ({'skipped': skipped} if skipped else {})
 
 
-def closing_of(roster: Roster, closing: Authenticator) -> dict:
-    said = {'node': closing.node, 'number': str(closing.number), 'hash': closing.hash.hex()}
-    said |= signed_digest(closing.node, closing.number, closing.hash, 'hash')
+def signed_digest(node: int, entry_word: int, at: bytes, name: str) -> dict:
+    return {'signed_digest': digest(word(node) + hyper(entry_word) + at).hex(),
+            'signed_digest_is': joined(word(node), hyper(entry_word), name)}
+
+
+def verdict_on(roster: Roster, node: int, entry_word: int, at: bytes, signature: Signature) -> dict:
+    return {'verifies': 'yes' if is_signed(roster, Authenticator(node, entry_word, at, signature)) else 'no'}
+
+
+def closing_of(roster: Roster, log: int, closing: Authenticator) -> dict:
+    said = {'node': closing.node} | numbered(log, closing.word, 'number', 'skipped') | {'hash': closing.hash.hex()}
+    said |= signed_digest(closing.node, closing.word, closing.hash, 'hash')
     return said | {'leaf': closing.signature.leaf, 'key_of': node_words(roster, closing.node)} | verdict_on(
-        roster, closing.node, closing.number, closing.hash, closing.signature)
+        roster, closing.node, closing.word, closing.hash, closing.signature)
 
 
 # ---- entries
@@ -326,18 +341,20 @@ def closing_of(roster: Roster, closing: Authenticator) -> dict:
 class Log:
     """A log under what a roster says of its node."""
 
-    def __init__(self, roster: Roster, node: int, entries: list[Entry]):
-        self.roster, self.node, self.entries = roster, node, entries
-        self.kind = roster[node].kind if node in roster else None
+    def __init__(self, roster: Roster, replay: Replay):
+        self.roster, self.node, self.entries, self.log = roster, replay.node, replay.entries, replay.log
+        self.links = replay.links()
+        self.numbers, self.words = numbers_from(replay.first, self.links), words_from(replay.first, self.links)
+        self.kind = roster[self.node].kind if self.node in roster else None
 
     def state_before(self, at: int) -> State | None:
         """The state before an entry, where those before it have no fault."""
         state, before = opening_state(self.node, self.kind), ZEROS
-        for place, entry in enumerate(self.entries[:at], start=1):
+        for entry, entry_word in zip(self.entries[:at], self.words):
             if fault_of(state, self.roster, entry) is not None:
                 return None
-            step(state, place, before, entry)
-            before = hash_after(before, place, entry.kind, digest(entry.content()))
+            step(state, entry_word, before, entry)
+            before = hash_after(before, entry_word, entry.kind, digest(entry.content()))
         return state
 
     def node_words(self, node: int) -> str:
@@ -348,13 +365,17 @@ class Log:
         return bodies[-1] if bodies else b''
 
     def all_entries(self, first: int, opening: bytes) -> list[dict]:
-        links = [(entry.kind, digest(entry.content())) for entry in self.entries]
-        return [self.entry(at) | {'number': place(first + at), 'hash_after_it': after.hex()}
-                for at, after in enumerate(chain(opening, first, links)[1:])]
+        return [self.entry(at) | {'hash_after_it': after.hex()}
+                for at, after in enumerate(chain(opening, first, self.links)[1:])]
+
+    def place_there(self, node: int, entry_word: int, prev: bytes) -> dict:
+        """A place in the log of another node: of a stranger nobody knows the version."""
+        log = self.roster[node].log if node in self.roster else LOG_1
+        return numbered(log, entry_word, 'number_there', 'skipped_there') | {'hash_before_it_there': prev.hex()}
 
     def entry(self, at: int) -> dict:
         entry = self.entries[at]
-        said = {'number': str(at + 1), 'kind': KINDS[entry.kind]}
+        said = place_of(self.numbers[at], self.links[at].skipped) | {'kind': KINDS[entry.kind]}
         if entry.kind == SEND:
             said['to'] = self.node_words(entry.to)
             if self.kind == SERVER:
@@ -363,9 +384,10 @@ class Log:
         if entry.kind == RECV:
             return said | self.received(entry)
         if entry.kind == ACK:
-            return said | {'of_message_to': self.node_words(entry.to), 'its_number': str(entry.seq),
-                           'digest_of_its_signature': entry.mine.hex()} | place_there(entry.number, entry.prev) | {
-                               'leaf': entry.signature.leaf, "signature's_sha256": digest(entry.signature.text).hex()}
+            said |= {'of_message_to': self.node_words(entry.to)}
+            said |= numbered(self.log, entry.seq, 'its_number', 'its_skipped')
+            said |= {'digest_of_its_signature': entry.mine.hex()} | self.place_there(entry.to, entry.number, entry.prev)
+            return said | {'leaf': entry.signature.leaf, "signature's_sha256": digest(entry.signature.text).hex()}
         if entry.kind == CLOCK:
             return said | {'time': f'{entry.seconds} s {entry.microseconds} us'}
         return said | {'digest': entry.digest.hex()}
@@ -373,7 +395,7 @@ class Log:
     def received(self, entry: Recv) -> dict:
         at, is_server = message_hash(self.node, entry), self.kind == SERVER
         body = joined('bytes' if is_server else 'body')
-        said = {'from': self.node_words(entry.sender)} | place_there(entry.seq, entry.prev)
+        said = {'from': self.node_words(entry.sender)} | self.place_there(entry.sender, entry.seq, entry.prev)
         said |= {'hash_there': at.hex(), 'hash_there_is': joined('hash before it there', hyper(entry.seq), word(SEND),
                                                                 joined(word(self.node), body))}
         said |= signed_digest(entry.sender, entry.seq, at, 'hash there')
@@ -385,9 +407,9 @@ class Log:
 class Faulty(Log):
     """A log with a fault, and the state before the entry that has it."""
 
-    def __init__(self, roster: Roster, node: int, entries: list[Entry], number: int):
-        super().__init__(roster, node, entries)
-        self.at = number - 1
+    def __init__(self, roster: Roster, replay: Replay, number: int):
+        super().__init__(roster, replay)
+        self.at = self.numbers.index(number)
         self.state: State = self.state_before(self.at)
 
     def concerned(self, fault: Fault) -> list[int]:
@@ -402,8 +424,8 @@ class Faulty(Log):
             return [same[0], self.at]
         if fault == Fault.CLOCK_BACK:
             return [at for at, entry in enumerate(earlier) if entry.kind == CLOCK][-1:] + [self.at]
-        if fault == Fault.BAD_ACK and 0 < own.seq <= self.at:
-            return [own.seq - 1, self.at]
+        if fault == Fault.BAD_ACK and number_in(self.log, own.seq) in self.numbers[:self.at]:
+            return [self.numbers.index(number_in(self.log, own.seq)), self.at]
         return [self.at]
 
     def comparison(self, fault: Fault) -> dict:
@@ -474,10 +496,6 @@ def place(number: int) -> str:
     return str(number) if number < 2**64 else f'above {2**64 - 1}'
 
 
-def place_there(number: int, prev: bytes) -> dict:
-    return {'number_there': str(number), 'hash_before_it_there': prev.hex()}
-
-
 def difference(owed: bytes, given: bytes) -> dict:
     if owed == given:
         return {}
@@ -496,22 +514,31 @@ def node_words(roster: Roster, node: int) -> str:
     return f'node {node}, a ' + kind_word(roster[node].kind)
 
 
+def accused_words(roster: Roster, node: int) -> str:
+    has_gaps = node in roster and roster[node].log == LOG_2
+    return node_words(roster, node) + (', log version 2' if has_gaps else '')
+
+
 def kind_word(kind: int) -> str:
     return 'server' if kind == SERVER else 'client'
 
 
 def roster_facts(data: bytes, roster: Roster) -> dict:
-    members = [{'node': member.node, 'kind': kind_word(member.kind), 'key': member.root.hex(), 'height': member.height}
-               for member in roster.values()]
+    members = [member_facts(member) for member in roster.values()]
     return {'sha256': digest(data).hex(), 'count': len(members), 'members': members}
 
 
+def member_facts(member: Member) -> dict:
+    said = {'node': member.node, 'kind': kind_word(member.kind), 'key': member.root.hex(), 'height': member.height}
+    return said | ({'log_version': member.log} if member.log == LOG_2 else {})
+
+
 HEAD = 65_536
-LONGEST = 1_916_554_608
-MEMBER_LENGTH = 44
+LONGEST = 1_917_079_156
 ADVICE = ("to be compared as a whole with the service's own roster: by its sha256, or by the count of its members and "
           "each one's number, kind, height and key")
 ANOTHER_NODE = 'what is shown is of another node'
+OTHER_VERSION = "the evidence is of another log version than the node's"
 BEGINS_AT_ZERO = "a showing begins at number 0, and a log's first entry is number 1"
 NOT_CLOSED = 'what is shown does not end in what closes it'
 NO_KEY = 'the roster has no key of the node, so nobody can tell who signed'
@@ -531,10 +558,11 @@ def no_evidence(reason: str) -> dict:
 
 def fork_facts(roster: Roster, fork: Fork, detail: Detail) -> dict:
     def showing(each) -> dict:
-        links = [{'number': place(number), 'kind': KINDS[kind], 'digest_of_its_content': content.hex()}
-                 for number, (kind, content) in enumerate(each.links, start=each.first)]
+        links = [place_of(number, link.skipped) | {'kind': KINDS[link.kind],
+                                                   'digest_of_its_content': link.content_hash.hex()}
+                 for number, link in zip(numbers_from(each.first, each.links), each.links)]
         return {'node': each.node, 'first': str(each.first), 'hash_before_it': each.opening.hex(), 'links': links,
-                'closing': closing_of(roster, each.closing)}
+                'closing': closing_of(roster, each.log, each.closing)}
     said = {'charge': 'it keeps two logs', 'at': str(fork.at)} if len(fork.showings) == 2 else {
         'charge': 'its log begins after another hash than 32 zero bytes'}
     return said | {'contents': 'not in the file: of the entries between it has the kinds and the digests of the contents '
@@ -543,27 +571,28 @@ def fork_facts(roster: Roster, fork: Fork, detail: Detail) -> dict:
 
 
 def log_facts(roster: Roster, replay: Replay, detail: Detail) -> dict:
-    log, count = Log(roster, replay.node, replay.entries), len(replay.entries)
-    contents = (f'all entries from 1 to {count}, which --entries lists; what is owed at an entry follows from those '
+    log = Log(roster, replay)
+    contents = (f'all entries from 1 to {log.numbers[-1]}, which --entries lists; what is owed at an entry follows from those '
                 'before it, and --state K shows the state before entry K' if replay.first == 1
                 else 'its entries, which --entries lists, without those before them')
     said = {'charge': 'its log has a fault', 'log': {
-        'node': replay.node, 'first': str(replay.first), 'hash_before_it': replay.opening.hex(), 'count': count,
-        'contents': contents, 'closing': closing_of(roster, replay.closing)}}
+        'node': replay.node, 'first': str(replay.first), 'hash_before_it': replay.opening.hex(),
+        'count': len(replay.entries), 'contents': contents, 'closing': closing_of(roster, replay.log, replay.closing)}}
     if detail.entries:
         said['all_entries'] = log.all_entries(replay.first, replay.opening)
     return said | state_facts(log if replay.first == 1 else None, detail)
 
 
 def state_facts(log: Log | None, detail: Detail) -> dict:
-    """The state before an entry, where it is asked for."""
+    """The state after all entries below a number, where it is asked for."""
     if detail.state is None:
         return {}
-    said, at = {'before_entry': str(detail.state)}, detail.state - 1
-    if log is None or at > len(log.entries):
+    said = {'before_entry': str(detail.state)}
+    if log is None or detail.state > log.numbers[-1] + 1:
         return {'state': said | {'none': 'the file does not have all entries before it'}}
     if log.kind is None:
         return {'state': said | {'none': 'the roster does not say what the node is'}}
+    at = bisect_left(log.numbers, detail.state)
     state = log.state_before(at)
     if state is None:
         return {'state': said | {'none': 'an entry before it has a fault'}}
@@ -586,11 +615,11 @@ def state_words(log: Log, at: int, state: State) -> dict:
         return said | {'target': quoted(file.data)}
 
     said = {'digest': state.digest().hex(), 'length_of_its_text': len(state.text()), 'clock': time(state.clock)}
-    said['received'] = [{'from': log.node_words(sender), 'number_there': str(seq), 'hash_there': there.hex()}
-                        for sender, seq, there in sorted(state.received)]
+    said['received'] = [received_words(log, *each) for each in sorted(state.received)]
     said['sent_without_acknowledgement'] = [
-        {'number': str(number), 'to': log.node_words(sent.to), 'hash_before_its_SEND': sent.prev.hex(),
-         'digest_of_its_body': sent.body_hash.hex()} for number, sent in sorted(state.sent.items())]
+        numbered(log.log, seq, 'number', 'skipped') | {
+            'to': log.node_words(sent.to), 'hash_before_its_SEND': sent.prev.hex(),
+            'digest_of_its_body': sent.body_hash.hex()} for seq, sent in sorted(state.sent.items())]
     if state.kind != SERVER:
         return said
     if state.heard is not None:
@@ -606,18 +635,30 @@ def state_words(log: Log, at: int, state: State) -> dict:
     return said | {'files': [file_words(number, file) for number, file in sorted(state.world.files.files.items())]}
 
 
+def received_words(log: Log, sender: int, seq: int, there: bytes) -> dict:
+    of_sender = log.roster[sender].log if sender in log.roster else LOG_1
+    return {'from': log.node_words(sender)} | numbered(of_sender, seq, 'number_there', 'skipped_there') | {
+        'hash_there': there.hex()}
+
+
+def mark_words(mark: Mark) -> str:
+    return 'no entry' if mark is None else mark.hex()
+
+
 def fork_finding(roster: Roster, node: int, fork: Fork) -> dict:
-    shown = [hashes_shown(roster, node, showing) for showing in fork.showings]
+    shown = [marks_shown(roster, node, showing) for showing in fork.showings]
     if len(shown) == 1:
         return {'hash_before_entry_1': {'owed': ZEROS.hex(), 'given': shown[0][0].hex()}} | rests_on(
             ': a log begins after 32 zero bytes')
-    hashes = {'number': str(fork.at), 'first_showing': shown[0][fork.at].hex(),
-              'second_showing': shown[1][fork.at].hex()}
-    return {'two_hashes': hashes} | rests_on(': a log has one hash at each number')
+    marks = {'number': str(fork.at), 'first_showing': mark_words(shown[0][fork.at]),
+             'second_showing': mark_words(shown[1][fork.at])}
+    if fork.log == LOG_2:
+        return {'two_marks': marks} | rests_on(': a log has one entry at each number, or none')
+    return {'two_hashes': marks} | rests_on(': a log has one hash at each number')
 
 
-def fault_finding(roster: Roster, node: int, replay: Replay, fault: Fault, number: int) -> dict:
-    log = Faulty(roster, node, replay.entries, number)
+def fault_finding(roster: Roster, replay: Replay, fault: Fault, number: int) -> dict:
+    log = Faulty(roster, replay, number)
     name, meaning = FAULTS[fault]
     said = {'fault': {'fault': int(fault), 'name': name, 'meaning': meaning, 'entry': str(number)},
             'entries': [log.entry(at) for at in log.concerned(fault)]}
@@ -630,12 +671,14 @@ def not_signed(roster: Roster, node: int) -> str:
 
 def showing_lack(roster: Roster, node: int, showing: Showing) -> str | None:
     """What a showing lacks first."""
-    closing, last = showing.closing, showing.first + len(showing.links) - 1
+    closing = showing.closing
     if showing.node != node:
         return ANOTHER_NODE
+    if node in roster and roster[node].log != showing.log:
+        return OTHER_VERSION
     if showing.first == 0:
         return BEGINS_AT_ZERO
-    if closing.node != node or closing.number != last:
+    if closing.node != node or not ends_in_closing(showing):
         return NOT_CLOSED
     if closing.hash != chain(showing.opening, showing.first, showing.links)[-1]:
         return NOT_CLOSED
@@ -644,12 +687,14 @@ def showing_lack(roster: Roster, node: int, showing: Showing) -> str | None:
 
 def log_lack(roster: Roster, node: int, replay: Replay) -> str:
     """What the log of a replay lacks first in which no fault is shown."""
-    closing, links = replay.closing, [(entry.kind, digest(entry.content())) for entry in replay.entries]
+    closing, links = replay.closing, replay.links()
     if replay.node != node:
         return ANOTHER_NODE
+    if node in roster and roster[node].log != replay.log:
+        return OTHER_VERSION
     if replay.first != 1 or replay.opening != ZEROS:
         return 'the log is not shown from its first entry on'
-    if closing.node != node or closing.number != len(links) or closing.hash != chain(ZEROS, 1, links)[-1]:
+    if closing.node != node or closing.word != words_from(1, links)[-1] or closing.hash != chain(ZEROS, 1, links)[-1]:
         return NOT_CLOSED
     return 'the log has no fault' if is_signed(roster, closing) else not_signed(roster, node)
 
@@ -660,11 +705,12 @@ def finding(roster: Roster, node: int, charge: Fork | Replay) -> dict:
         if is_fork(roster, node, charge):
             return fork_finding(roster, node, charge)
         lacks = [showing_lack(roster, node, showing) for showing in charge.showings]
-        return no_evidence(next(filter(None, lacks), 'no two hashes are shown at the number'))
+        shown = 'marks' if charge.log == LOG_2 else 'hashes'
+        return no_evidence(next(filter(None, lacks), f'no two {shown} are shown at the number'))
     fault = fault_shown(roster, node, charge)
     if fault is None:
         return no_evidence(log_lack(roster, node, charge))
-    return fault_finding(roster, node, charge, *fault)
+    return fault_finding(roster, charge, *fault)
 
 
 def is_read_in_part(data: bytes) -> bool:
@@ -672,9 +718,11 @@ def is_read_in_part(data: bytes) -> bool:
     those of no evidence."""
     if len(data) < HEAD:
         return False
-    count = int.from_bytes(data[:4], 'big')
-    charge = int.from_bytes(data[MEMBER_LENGTH * count + 8:MEMBER_LENGTH * count + 12], 'big')
-    return len(data) > LONGEST or count > 64 or charge not in (1, 2)
+    second = data[:4] == word(SECOND_FORM)
+    members = data[4:] if second else data
+    count, length = int.from_bytes(members[:4], 'big'), 48 if second else 44
+    charge = int.from_bytes(members[length * count + 8:length * count + 12], 'big')
+    return len(data) > LONGEST or count > MAX_MEMBERS or charge not in (1, 2, 3, 4)
 
 
 def explain(data: bytes, program: str, detail: Detail = Detail(), trusted: Roster | None = None) -> dict:
@@ -687,11 +735,10 @@ def explain(data: bytes, program: str, detail: Detail = Detail(), trusted: Roste
     except Undecodable:
         return said | {'reason': 'the file is not a roster with evidence after it',
                        'first_byte_that_does_not_decode': reader.at, 'note': CLEARS_NOBODY}
-    text = data[:4 + MEMBER_LENGTH * len(roster)]
-    said['roster'] = {'advice': ADVICE} | roster_facts(text, roster)
+    said['roster'] = {'advice': ADVICE} | roster_facts(roster_text(roster), roster)
     if trusted is not None:
         said["trusted_roster's_sha256"] = digest(roster_text(trusted)).hex()
-    said['accused'] = node_words(roster, node)
+    said['accused'] = accused_words(roster, node)
     said |= fork_facts(roster, charge, detail) if isinstance(charge, Fork) else log_facts(roster, charge, detail)
     if trusted not in (None, roster):
         return said | no_evidence('its roster is not the one that is trusted')

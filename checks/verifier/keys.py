@@ -3,13 +3,14 @@
 from dataclasses import dataclass
 from hashlib import sha256
 
+from .words import LOG_1, LOG_2, read_place
 from .xdr import Reader, Undecodable, array, hyper, word
 
 SERVER, CLIENT = 1, 2
 MAX_MEMBERS = 64
 MAX_HEIGHT = 16
+SECOND_FORM = 0x80000002
 DIGEST_BITS = 256
-NO_PLACE = 2**64 - 1
 ZEROS = bytes(32)
 
 
@@ -23,6 +24,7 @@ class Member:
     kind: int
     root: bytes
     height: int
+    log: int = LOG_1
 
 
 @dataclass(frozen=True)
@@ -37,7 +39,7 @@ class Signature:
 @dataclass(frozen=True)
 class Authenticator:
     node: int
-    number: int
+    word: int
     hash: bytes
     signature: Signature
 
@@ -45,31 +47,37 @@ class Authenticator:
 Roster = dict[int, Member]
 
 
-def read_member(reader: Reader, least: int) -> Member:
+def read_member(reader: Reader, least: int, second: bool) -> Member:
     node = reader.word_among(least, MAX_MEMBERS)
     kind = reader.word_among(SERVER, CLIENT)
-    return Member(node, kind, reader.fixed(32), reader.word_among(1, MAX_HEIGHT))
+    root, height = reader.fixed(32), reader.word_among(1, MAX_HEIGHT)
+    return Member(node, kind, root, height, reader.word_among(LOG_1, LOG_2) if second else LOG_1)
 
 
 def read_roster(reader: Reader) -> Roster:
+    """A roster in either form. The second form has a log of version 2."""
     roster, least = {}, 1
+    second = reader.data[reader.at:reader.at + 4] == word(SECOND_FORM)
+    if second:
+        reader.word()
     for _ in range(reader.word_among(0, MAX_MEMBERS)):
-        member = read_member(reader, least)
+        member = read_member(reader, least, second)
         roster[member.node], least = member, member.node + 1
+    if second and not has_gaps(roster):
+        reader.at -= 4
+        raise Undecodable
     return roster
 
 
+def has_gaps(roster: Roster) -> bool:
+    return any(member.log == LOG_2 for member in roster.values())
+
+
 def roster_text(roster: Roster) -> bytes:
-    return array([word(member.node, member.kind) + member.root + word(member.height) for member in roster.values()])
-
-
-def read_place(reader: Reader, least: int = 0) -> int:
-    """A number of an entry: any of 64 bits but the greatest, and none below the least."""
-    start, number = reader.at, reader.hyper()
-    if number < least or number == NO_PLACE:
-        reader.at = start
-        raise Undecodable
-    return number
+    second = has_gaps(roster)
+    members = [word(member.node, member.kind) + member.root + word(member.height, *[member.log] * second)
+               for member in roster.values()]
+    return word(*[SECOND_FORM] * second) + array(members)
 
 
 def read_hash(reader: Reader) -> bytes:
@@ -115,5 +123,5 @@ def is_signed(roster: Roster, claim: Authenticator) -> bool:
     signature = claim.signature
     if member is None or signature.leaf >= 2**member.height or len(signature.path) != member.height:
         return False
-    signed = digest(word(claim.node) + hyper(claim.number) + claim.hash)
+    signed = digest(word(claim.node) + hyper(claim.word) + claim.hash)
     return root_over(signature.leaf, leaf_hash(signed, signature), signature.path) == member.root

@@ -56,8 +56,8 @@ class State:
     def text(self, of_file: Callable[[bytes], bytes] = bytes) -> bytes:
         """The text, or one that has something else of each file's text."""
         received = [word(sender) + hyper(seq) + at for sender, seq, at in sorted(self.received)]
-        sent = [hyper(number) + word(message.to) + message.prev + message.body_hash
-                for number, message in sorted(self.sent.items())]
+        sent = [hyper(seq) + word(message.to) + message.prev + message.body_hash
+                for seq, message in sorted(self.sent.items())]
         head = word(STATE_VERSION, self.node, self.kind, *self.clock)
         world = world_text(self.world, of_file) if self.kind == SERVER else b''
         return head + array(received) + array(sent) + self.stage() + world
@@ -137,10 +137,10 @@ def is_acknowledged(state: State, roster: Roster, entry: Ack) -> bool:
     return is_signed(roster, Authenticator(entry.to, entry.number, receipt, entry.signature))
 
 
-def step(state: State, number: int, before: bytes, entry: Entry):
+def step(state: State, entry_word: int, before: bytes, entry: Entry):
     """What an entry without fault does to the state; `before` is the hash before it."""
     if entry.kind == SEND:
-        state.sent[number] = Sent(entry.to, before, digest(entry.body))
+        state.sent[entry_word] = Sent(entry.to, before, digest(entry.body))
         state.owed = None
     elif entry.kind == RECV:
         state.received.add((entry.sender, entry.seq, message_hash(state.node, entry)))
@@ -159,13 +159,13 @@ def read_clock(state: State, entry: Clock):
         state.heard = None
 
 
-def first_fault(roster: Roster, node: int, entries: list[Entry],
+def first_fault(roster: Roster, node: int, entries: list[Entry], words: list[int],
                 hashes: list[bytes]) -> tuple[Fault, int] | None:
-    """The first entry with a fault, by its number; `hashes` has the hash before each entry."""
+    """The first entry with a fault, by its index; `words` has that of each entry, and `hashes` the hash before each."""
     state = opening_state(node, roster[node].kind)
-    for number, (entry, before) in enumerate(zip(entries, hashes), start=1):
+    for at, (entry, entry_word, before) in enumerate(zip(entries, words, hashes)):
         fault = fault_of(state, roster, entry)
         if fault is not None:
-            return fault, number
-        step(state, number, before, entry)
+            return fault, at
+        step(state, entry_word, before, entry)
     return None
