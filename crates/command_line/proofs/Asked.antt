@@ -1,12 +1,14 @@
 -- What the matches of the commands ask for. Serves: parse, request_by_rules, flag_of.
 use Rattle.std.proofs.Common.{◌≡◌, ◌∙◌, Bool, true, false, List, [], ◌∷◌, Option, Some, None, Result, Ok, Err}
-use Rattle.std.proofs.Common.{Bor, IfErr, ◌⊎◌, inl, inr, codes, option_map, refl, sym, ap, ap₂, unwrap_or, subst}
+use Rattle.std.proofs.Common.{Bor, IfErr, ◌⊎◌, inl, inr, codes, option_map, refl, sym, ap, ap₂, unwrap_or}
+use Rattle.std.proofs.Common.{subst}
 use Rattle.std.specs.Prelude.{◌||◌, IsErrAnd, is_some}
 use Rattle.std.specs.List.{AllByRecursion, list_any}
 use Rattle.std.specs.Option.{option_map_or}
 use Rattle.std.specs.Str.{bytes_eq}
 use Rattle.std.proofs.lemmas.Slice.Eq.{bytes_eq-Decides}
-use Rattle.clap.specs.Words.{App, HasMatchesOf, is_simple, is_simple_and_free, kind_of, subcommand_name_of, subcommand_rows_of}
+use Rattle.clap.specs.Words.{App, HasMatchesOf, is_simple, is_simple_and_free, kind_of, subcommand_name_of}
+use Rattle.clap.specs.Words.{subcommand_rows_of}
 use Rattle.clap.specs.Kinds.{FailsBy, HasKind, IsAmong, Kinds}
 use Rattle.clap.specs.Walk.{Row, Text, first_of, rows_after}
 use Rattle.clap.specs.Simple.{built, subcommand_of}
@@ -15,8 +17,8 @@ use Rattle.clap.specs.declared.error.Error.{Error}
 use Rattle.clap.specs.declared.error.kind.ErrorKind.TheVariants.{OutOfMemory}
 use Rattle.clap.specs.declared.parser.matches.ArgMatches.{ArgMatches}
 use Rattle.clap.proofs.OnLiterals.{clap_on_literals}
-use Rattle.command_line.specs.CommandLine.{Check, CheckAsked, Roster, Rpc, Run, asked_in, asked_of, asked_without}
-use Rattle.command_line.specs.CommandLine.{check_of, commands}
+use Rattle.command_line.specs.CommandLine.{Check, CheckAsked, Roster, Rpc, Run, asked_in, asked_of}
+use Rattle.command_line.specs.CommandLine.{asked_without, check_of, commands}
 use Rattle.command_line.specs.CommandLine.{is_flag_text, is_set, is_told}
 use Rattle.command_line.specs.declared.request.Request.{Request}
 use Rattle.command_line.proofs.Taken.{entered_is, flag_is, is_plain_app, name_is_one, value_is}
@@ -148,7 +150,8 @@ check_is words rows a none is asks =
     (codes "explain") rows refl is) in
     let entries = asks.entries (flag_is commands words are_plain none (codes "check")
     (codes "entries") rows refl is) in
-    let json = asks.json (flag_is commands words are_plain none (codes "check") (codes "json") rows refl is) in
+    let json =
+    asks.json (flag_is commands words are_plain none (codes "check") (codes "json") rows refl is) in
     asked_is words (codes "check") rows none is
     ∙ some_of _ _ (value_is commands words are_plain none (codes "check") (codes "file") rows refl is)
     ∙ ap (λ (x : CheckAsked). Some (Check x)) (same explain entries json)

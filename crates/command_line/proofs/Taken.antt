@@ -11,13 +11,14 @@ use Rattle.std.specs.Str.{bytes_eq}
 use Rattle.std.proofs.lemmas.Slice.Eq.{bytes_eq-Decides}
 use Rattle.clap.specs.Lexer.{long_of, short_of}
 use Rattle.clap.specs.Kinds.{Kinds, check_kinds, or_else}
-use Rattle.clap.specs.Walk.{Held, Names, Outcome, Row, Rule, Step, Text, Waiting, Walk, action_of, after_flag, after_step}
-use Rattle.clap.specs.Walk.{answers_to, arg_by_index, done, first_of, idle, is_empty}
+use Rattle.clap.specs.Walk.{Held, Names, Outcome, Row, Rule, Step, Text, Waiting, Walk, action_of, after_flag}
+use Rattle.clap.specs.Walk.{after_step, answers_to, arg_by_index, done, first_of, idle, is_empty}
 use Rattle.clap.specs.Walk.{long_or_other, next, nothing_held, option, plain, plain_word}
 use Rattle.clap.specs.Walk.{positional, refused, rows_after, settled, short_or_plain, stop_after, subcommand}
 use Rattle.clap.specs.Walk.{subcommand_met, subcommand_or_other, to_positional, trailing, value, waits, walk}
 use Rattle.clap.specs.Walk.{walk_from, walked, walked_from, word_met}
-use Rattle.clap.specs.Simple.{App, Shape, argument_words, built, entered, label_of, names_of, rows_at, subcommand_of}
+use Rattle.clap.specs.Simple.{App, Shape, argument_words, built, entered, label_of, names_of, rows_at}
+use Rattle.clap.specs.Simple.{subcommand_of}
 use Rattle.clap.specs.Takes.{is_given}
 use Rattle.clap.specs.Faults.{check_fault, defaults_fault, entered_fault, fault_of, level_fault}
 use Rattle.clap.specs.Faults.{other_fault, settle_fault, step_fault, turn_fault, walk_fault, word_fault}

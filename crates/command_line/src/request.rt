@@ -294,7 +294,8 @@ fn request_by_rules(alloc: Global, words: &[String]) -> Result<Request<'_>, Erro
 /// `--json`, `--state` with a word and `--roster` with another name, in any order; `roster` with a file's
 /// name is `Roster`; `run` with a file's name is `Run`, with `--roster-out` and another name before it or
 /// after it, or without; `serve` with two words is `Serve`, with its options before, between or after them.
-/// After `--` each word is a name. It comes exactly where clap's rules find no fault in the words, memory aside, and has what they say the words hold.
+/// After `--` each word is a name. It comes exactly where clap's rules find no fault in the words, memory
+/// aside, and has what they say the words hold.
 /// The error says what is wrong with other words, or is the help or the version that they ask for: its kind
 /// is one of those that the rules give, or OutOfMemory where memory was refused.
 pub fn parse(alloc: Global, words: &[String]) -> Result<Request<'_>, Error>

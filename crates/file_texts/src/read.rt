@@ -6,7 +6,8 @@ ghost use Rattle.xdr.specs.Reading.{GivesUnless};
 ghost use Rattle.xdr.specs.ReadFault.{xdr_fault};
 ghost use Rattle.fs_spec.specs.nfs_items.Timeval.{timeval};
 ghost use Rattle.tree_rules.specs.GivenListing.{said_entry, said_entries};
-ghost use Rattle.server_spec.specs.FileItems.{entry_item, attributes_item, kind_item, is_file_kind, file_item};
+ghost use Rattle.server_spec.specs.FileItems.{entry_item, attributes_item, kind_item, is_file_kind};
+ghost use Rattle.server_spec.specs.FileItems.{file_item};
 ghost use Rattle.tree_rules.specs.declared.limits.TheConstants.{MAX_DIRECTORY_ENTRIES};
 ghost use Rattle.file_texts.specs.Parts.{time_said, attributes_said, kind_said, file_said};
 

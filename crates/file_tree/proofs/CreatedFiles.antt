@@ -28,7 +28,8 @@ use Rattle.file_tree.proofs.OfFileChecks.GrantedNames.{may_make, make_does, make
 pub changed_new : (a : GivenFields) (w : Files) (dir : ℕ) (name : List ℕ) (number : ℕ)
     → directory_entries w dir name ≡ None → changed_by_create a w dir name number ≡ dir ∷ number ∷ []
 changed_new a w dir name number free =
-    ap (λ (o : Option DirectoryEntry). option_map_or (λ (e : DirectoryEntry). number_if (gives_any a) number) o
+    ap (λ (o : Option DirectoryEntry). option_map_or
+    (λ (e : DirectoryEntry). number_if (gives_any a) number) o
     (dir ∷ number ∷ [])) free
 
 -- and where a file has it
@@ -36,7 +37,8 @@ pub changed_old : (a : GivenFields) (w : Files) (dir : ℕ) (name : List ℕ) (n
     → directory_entries w dir name ≡ Some e
     → changed_by_create a w dir name number ≡ number_if (gives_any a) number
 changed_old a w dir name number e is =
-    ap (λ (o : Option DirectoryEntry). option_map_or (λ (e : DirectoryEntry). number_if (gives_any a) number) o
+    ap (λ (o : Option DirectoryEntry). option_map_or
+    (λ (e : DirectoryEntry). number_if (gives_any a) number) o
     (dir ∷ number ∷ [])) is
 
 -- a new file of zeros, as many as the size that is given, or none

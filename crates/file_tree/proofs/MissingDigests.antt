@@ -139,7 +139,8 @@ all_kept w k (Ok x) = drops_only w w k k [] (none_yet k) (λ n others. refl)
 all_kept w k (Err e) = refl
 
 -- what stands under a name
-pub one_named : (w : Files) (dir : ℕ) (name : List ℕ) (e : DirectoryEntry) → directory_entries w dir name ≡ Some e
+pub one_named : (w : Files) (dir : ℕ) (name : List ℕ) (e : DirectoryEntry)
+    → directory_entries w dir name ≡ Some e
     → named_in w dir name ≡ e.0 ∷ []
 one_named w dir name e is =
     ap (λ (o : Option DirectoryEntry). option_map_or (λ (x : DirectoryEntry). x.0 ∷ []) o []) is

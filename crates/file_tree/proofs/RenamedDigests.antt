@@ -76,7 +76,8 @@ module _ (w : Files) (from : ℕ) (from_name : List ℕ) (to : ℕ) (to_name : L
             ap (λ t. list_any (eq_by_cmp nat_cmp n) (number ∷ unwrap_or t number ∷ [])) is
 
     pub moved_dropped : (w' : Files) (k k₁ k₂ k₃ k₄ : FileDigests)
-        → Forgets (unwrap_or target number) k k₁ → Forgets number k₁ k₂ → Forgets to k₂ k₃ → Forgets from k₃ k₄
+        → Forgets (unwrap_or target number) k k₁ → Forgets number k₁ k₂ → Forgets to k₂ k₃
+        → Forgets from k₃ k₄
         → ((n : ℕ) → n ≢ unwrap_or target number → n ≢ number → n ≢ to → n ≢ from
         → file_at w' n ≡ file_at w n)
         → DropsOnly (changed_by_rename w from from_name to to_name) (seen w k) (seen w' k₄)

@@ -68,8 +68,7 @@ AreAllMissing k = (n : FileNumber) → is_missing k n ≡ is_some (file_at k.fil
 abbrev pub KeepsAll : KeptFiles → KeptFiles → Type 0
 KeepsAll old new = (n : FileNumber) → is_missing old n ≡ false → is_missing new n ≡ false
 
--- The digests of these files are dropped, and no others: of the files that are there afterwards, those miss
--- theirs that are among them or missed theirs before.
+-- Afterwards a file has no kept digest exactly where it is one of these, or was there before and had none.
 abbrev pub DropsOnly : List FileNumber → KeptFiles → KeptFiles → Type 0
 DropsOnly changed old new = (n : FileNumber) → is_missing new n
     ≡ (is_some (file_at new.files n) && (list_any (eq_by_cmp nat_cmp n) changed || is_missing old n))

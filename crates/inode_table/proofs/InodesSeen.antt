@@ -1,7 +1,7 @@
 -- What the definitions say of a file by its number, told by the inode of that number.
 -- Serves: `InodeTable::get`, `InodeTable::file_count`.
-use Rattle.std.proofs.Common.{◌≡◌, ℕ, ◌+◌, arith, length, is_some, cond, List, [], ◌∷◌, Some, None, Ok, option_map}
-use Rattle.std.proofs.Common.{refl, sym, ap, subst, ◌∙◌}
+use Rattle.std.proofs.Common.{◌≡◌, ℕ, ◌+◌, arith, length, is_some, cond, List, [], ◌∷◌, Some, None, Ok}
+use Rattle.std.proofs.Common.{option_map, refl, sym, ap, subst, ◌∙◌}
 use Rattle.std.specs.Ordering.{nat_cmp, eq_by_cmp}
 use Rattle.std.specs.Cmp.{nat_cmp_total, eq_by_cmp_equiv}
 use Rattle.std.specs.Map.{keys_of}

@@ -48,11 +48,17 @@ module _ (fs : Files) (f : File) (room : block_count fs ≤ 32768) (fits : IsBod
 
 -- a change of the contents of a number's file, which the table can take: it fits, and has room
 pub record HasRoom (t : Inside) (n : ℕ) (change : File → File) : Type 0 where
+  -- the file before the change
   pub file : File
+  -- it is the number's
   pub there : file_at (files_in t) n ≡ Some file
+  -- what a directory lists stays
   pub listing : listing_in (change file).body ≡ listing_in file.body
+  -- a directory stays one, and nothing else becomes one
   pub kind : is_directory (change file).body ≡ is_directory file.body
+  -- afterwards it is within the limits of a file
   pub fits : IsFile (change file)
+  -- and the files take no more blocks than there may be
   pub room : block_count (files_in t) + blocks_in (change file).body ≤ 32768 + blocks_in file.body
 
 module _ (t : Inside) (whole : IsWhole t) {n : ℕ} {change : File → File} (may : HasRoom t n change) where
@@ -142,6 +148,7 @@ module _ (t : Inside) (whole : IsWhole t) {w : Files} (view : files_in t ≡ w) 
     same = ap (λ x. with_mtime now (record may_write.file { body = body_with_bytes_at offset bytes x }))
         may_write.regular
 
+    -- the table can take them
     pub write_room : HasRoom t n writes
     write_room = record {
       file = may_write.file;

@@ -18,7 +18,8 @@ use Rattle.fs_spec.proofs.Walks.{some_same, none_some}
 use Rattle.fs_spec.proofs.Counts.{same_number}
 use Rattle.nfs_count_laws.specs.nfs_spec.FileAttributes.{nlink_of}
 use Rattle.nfs_count_laws.specs.nfs_spec.Opening.{first_file, opening_root, opening_hello, opening_files}
-use Rattle.nfs_count_laws.proofs.nfs_spec.OpeningFiles.{hello_there, opening_names, opening_entries, opening_room}
+use Rattle.nfs_count_laws.proofs.nfs_spec.OpeningFiles.{hello_there, opening_names, opening_entries}
+use Rattle.nfs_count_laws.proofs.nfs_spec.OpeningFiles.{opening_room}
 use Rattle.nfs_count_laws.proofs.nfs_spec.OpeningTree.{one_directory, opening_is_tree}
 use Rattle.tree_rules.specs.inodes.declared.inode.Body as stored
 use Rattle.tree_rules.specs.inodes.declared.inode.Body.TheVariants as code

@@ -1,8 +1,8 @@
 -- The texts of four leaves side by side: how a block and the byte after it follow a text, and what holds of
 -- each lane.
 -- Serves: next_block, LeafTexts::new, LeafTexts::add_place, leaf_hashes (lamport).
-use Rattle.std.proofs.Common.{◌≡◌, ℕ, zero, suc, ◌+◌, ◌<◌, List, [], ◌∷◌, ◌++◌, length, take, drop, replicate, get_or}
-use Rattle.std.proofs.Common.{slice_index, refl, sym, ap, ◌∙◌, append_assoc, add-zero, arith}
+use Rattle.std.proofs.Common.{◌≡◌, ℕ, zero, suc, ◌+◌, ◌<◌, List, [], ◌∷◌, ◌++◌, length, take, drop, replicate}
+use Rattle.std.proofs.Common.{get_or, slice_index, refl, sym, ap, ◌∙◌, append_assoc, add-zero, arith}
 use Rattle.std.proofs.lemmas.List.{append-nil, drop_all, drop_at, take-append-drop, take_at}
 use Rattle.std.proofs.Math.Seq.{drop-cons}
 use Rattle.sha256_lanes.specs.LongMessages.{HoldsBlocks}

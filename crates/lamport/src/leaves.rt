@@ -1,6 +1,7 @@
 //! The hashes of four leaves at a time: their secrets, public hashes and texts stand side by side.
 
-ghost use Rattle.std.specs.Prelude.{◌≡◌, ℕ, ◌+◌, ◌^◌, ◌<◌, ◌≤◌, List, [], ◌∷◌, ◌++◌, slice_index, slice_index_or};
+ghost use Rattle.std.specs.Prelude.{◌≡◌, ℕ, ◌+◌, ◌^◌, ◌<◌, ◌≤◌, List, [], ◌∷◌, ◌++◌, slice_index};
+ghost use Rattle.std.specs.Prelude.{slice_index_or};
 ghost use Rattle.sha2.specs.Sha256.{sha256};
 ghost use Rattle.lamport.specs.Fours.{four};
 ghost use Rattle.lamport.specs.Lamport.{LeafKey, leaf_hash, public_hash, secret};

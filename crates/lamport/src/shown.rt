@@ -1,7 +1,7 @@
 //! What a signature shows of its key: the public hashes, and by them the hash of the key's leaf.
 
-ghost use Rattle.std.specs.Prelude.{◌≡◌, ℕ, ◌+◌, ◌*◌, ◌<◌, ◌≤◌, Bool, false, true, List, [], ◌∷◌, ◌++◌, length};
-ghost use Rattle.std.specs.Prelude.{if◌then◌else◌, slice_index_or};
+ghost use Rattle.std.specs.Prelude.{◌≡◌, ℕ, ◌+◌, ◌*◌, ◌<◌, ◌≤◌, Bool, false, true, List, [], ◌∷◌, ◌++◌};
+ghost use Rattle.std.specs.Prelude.{length, if◌then◌else◌, slice_index_or};
 ghost use Rattle.sha2.specs.Sha256.{sha256};
 ghost use Rattle.sha256_lanes.specs.OneMessage.{HoldsMessage};
 ghost use Rattle.lamport.specs.Fours.{four, four_bits};

@@ -28,4 +28,5 @@ pub one_by_one : (a b d e leaf shown other path : List ℕ) → a ≡ leaf → b
 one_by_one a b d e leaf shown other path ea eb ed ee =
     let texts = λ (s o : List ℕ). leaf ++ (s ++ (o ++ path)) in
     (λ i. (((ea i) ++ (eb i)) ++ (ed i)) ++ (ee i)) ∙ append_assoc (leaf ++ shown) other path
-    ∙ append_assoc leaf shown (other ++ path) ∙ (λ i. texts (sym (append-nil shown) i) (sym (append-nil other) i))
+    ∙ append_assoc leaf shown (other ++ path)
+    ∙ (λ i. texts (sym (append-nil shown) i) (sym (append-nil other) i))

@@ -1,7 +1,7 @@
 //! The options of a run.
 
-/// The heights of the trees of keys: a tree of height n has 2^n keys. A call takes two keys of its client, and
-/// two of the server.
+/// The heights of the trees of keys: a tree of height n has 2^n keys. A call takes two keys of its client,
+/// and two of the server.
 #[derive(Clone, Copy, Debug, PartialEq, Eq)]
 pub struct Heights {
     /// The server's, from 1 to 15; 12 where none is named.

@@ -1,8 +1,8 @@
 //! What holds of the reply that is owed.
 
 ghost use Rattle.std.specs.Prelude.{◌≡◌, ◌<◌, ◌≤◌, ◌^◌, List, ℕ, Option, IfSome, length};
-ghost use Rattle.server_spec.specs.declared.programs.TheConstants.{AUTH_NONE, AUTH_SYS, NFS_PROGRAM, NFS_VERSION};
-ghost use Rattle.server_spec.specs.declared.programs.TheConstants.{MOUNT_PROGRAM, MOUNT_VERSION};
+ghost use Rattle.server_spec.specs.declared.programs.TheConstants.{AUTH_NONE, AUTH_SYS, NFS_PROGRAM};
+ghost use Rattle.server_spec.specs.declared.programs.TheConstants.{NFS_VERSION, MOUNT_PROGRAM, MOUNT_VERSION};
 ghost use Rattle.rpc.specs.declared.call.TheConstants.{RPC_VERSION};
 ghost use Rattle.xdr.specs.Item.{IsBytes};
 ghost use Rattle.mount_types.specs.nfs_items.Timeval.{Timeval};

@@ -1,6 +1,7 @@
 -- A row of digests as far as it is set.
 -- Serves: set_rest.
-use Rattle.std.proofs.Common.{◌≡◌, ℕ, zero, suc, ◌<◌, ◌≤◌, List, [], ◌∷◌, length, get_or, map, refl, sym, ◌∙◌, arith}
+use Rattle.std.proofs.Common.{◌≡◌, ℕ, zero, suc, ◌<◌, ◌≤◌, List, [], ◌∷◌, length, get_or, map, refl, sym, ◌∙◌}
+use Rattle.std.proofs.Common.{arith}
 use Rattle.std.proofs.lemmas.List.{ext_get_or, length-map}
 use Rattle.sha2.specs.Sha256.{sha256}
 use Rattle.sha256_lanes.specs.Rows.{HasDigests}

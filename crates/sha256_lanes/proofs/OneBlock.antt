@@ -1,9 +1,9 @@
 -- The last block of a message, and the hash value after each. A block in one lane is kept while another is
 -- set.
 -- Serves: last_block, words_of, FourMessages, digest_4.
-use Rattle.std.proofs.Common.{◌≡◌, ◌≢◌, ℕ, zero, suc, ◌+◌, ◌-◌, ◌*◌, ◌/◌, ◌%◌, ◌^◌, ◌<◌, ◌≤◌, List, [], ◌∷◌, ◌++◌}
-use Rattle.std.proofs.Common.{length, take, drop, replicate, get_or, slice_set, refl, sym, ap, ◌∙◌, arith}
-use Rattle.std.proofs.Common.{append_assoc, length-append}
+use Rattle.std.proofs.Common.{◌≡◌, ◌≢◌, ℕ, zero, suc, ◌+◌, ◌-◌, ◌*◌, ◌/◌, ◌%◌, ◌^◌, ◌<◌, ◌≤◌, List, [], ◌∷◌}
+use Rattle.std.proofs.Common.{◌++◌, length, take, drop, replicate, get_or, slice_set, refl, sym, ap, ◌∙◌}
+use Rattle.std.proofs.Common.{arith, append_assoc, length-append}
 use Rattle.std.proofs.lemmas.List.{append-nil, drop_all, drop_at, drop-replicate, length-replicate}
 use Rattle.std.proofs.lemmas.List.{replicate-append-replicate, take_all, take_at}
 use Rattle.std.specs.Int.{w64, to_be_bytes}

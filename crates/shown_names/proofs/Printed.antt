@@ -1,6 +1,7 @@
 -- Each name is shown by printed characters alone.
 -- Serves: names_are_printed.
-use Rattle.std.proofs.Common.{◌≡◌, ◌<◌, ◌%◌, ◌/◌, ◌++◌, ◌==◌, ℕ, List, [], ◌∷◌, Bool, true, false, arith, rules, refl, codes, All, IsTrue, flat_map, if◌then◌else◌}
+use Rattle.std.proofs.Common.{◌≡◌, ◌<◌, ◌%◌, ◌/◌, ◌++◌, ◌==◌, ℕ, List, [], ◌∷◌, Bool, true, false, arith}
+use Rattle.std.proofs.Common.{rules, refl, codes, All, IsTrue, flat_map, if◌then◌else◌}
 use Rattle.std.proofs.lemmas.Grind.{common_steps}
 use Rattle.std.proofs.lemmas.List.Elements.{All-append, All-cons, All-nil}
 use Rattle.std.specs.Char.{digit_char}
@@ -45,7 +46,8 @@ byte_is_printed byte = by_case byte (byte == 92) (is_printed byte) refl
 bytes_are_printed : (bytes : List ℕ) → ArePrinted (flat_map shown_byte bytes)
 bytes_are_printed [] = All-nil IsPrinted
 bytes_are_printed (byte ∷ rest) =
-    All-append IsPrinted (shown_byte byte) (flat_map shown_byte rest) (byte_is_printed byte) (bytes_are_printed rest)
+    All-append IsPrinted (shown_byte byte) (flat_map shown_byte rest) (byte_is_printed byte)
+    (bytes_are_printed rest)
 
 pub name_is_printed : (bytes : List ℕ) → ArePrinted (shown_name bytes)
 name_is_printed [] = two 39 39 refl refl

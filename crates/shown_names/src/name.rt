@@ -9,8 +9,8 @@ use std::fmt;
 
 /// A name of a file, or another word that the program was given. Its `Display` is one line of printed ASCII,
 /// whatever it has: a backslash stands as `\\`, and a byte that is no printed character of ASCII as `\x` with
-/// two lower-case hexadecimal digits, as a line feed `\x0a`. Each other byte stands for itself, and two quotes
-/// for an empty name.
+/// two lower-case hexadecimal digits, as a line feed `\x0a`. Each other byte stands for itself, and two
+/// quotes for an empty name.
 #[derive(Clone, Copy, Debug)]
 pub struct ShownName<'a> {
     name: &'a str,

@@ -21,8 +21,8 @@ use Rattle.server_spec.specs.World.{World}
 use Rattle.server_spec.specs.mount_types.declared.limits.TheConstants.{MNTNAMLEN}
 use Rattle.server_spec.specs.mount_types.Mounts.{max_mounts}
 use Rattle.server_spec.specs.nfs_laws.Sizes.Bounds.{HasWords}
-use Rattle.server_spec.specs.FileItems.{entry_item, file_item, file_value, is_file_kind, kind_item, kind_value}
-use Rattle.server_spec.specs.FileItems.{attributes_item, attributes_value}
+use Rattle.server_spec.specs.FileItems.{entry_item, file_item, file_value, is_file_kind, kind_item}
+use Rattle.server_spec.specs.FileItems.{kind_value, attributes_item, attributes_value}
 use Rattle.state_spec.specs.State.{Stage}
 use Rattle.state_spec.specs.StateItems.{mount_item, rest_item, world_value}
 

@@ -41,7 +41,8 @@ module _ {K X : Type 0} (R : K → K → Ordering) where
       → T (below_all R x es)
   above_each x [] h = tt
   above_each x (e ∷ es) h =
-      from_both (is_lt (R x e.0)) (below_all R x es) (subst (λ r. T (is_lt r)) (sym h.0) tt) (above_each x es h.1)
+      from_both (is_lt (R x e.0)) (below_all R x es) (subst (λ r. T (is_lt r)) (sym h.0) tt)
+      (above_each x es h.1)
 
   each_above : (x : K) (es : List (K × X)) → T (below_all R x es)
       → AllByRecursion (λ y. R x y ≡ Less) (map (λ e. e.0) es)
@@ -53,7 +54,8 @@ module _ {K X : Type 0} (R : K → K → Ordering) where
   pub sorted_of : (es : List (K × X)) → IsStrictlySortedBy R (map (λ e. e.0) es) → T (is_sorted R es)
   unfolding IsStrictlySortedBy
   sorted_of [] h = tt
-  sorted_of (e ∷ es) h = from_both (below_all R e.0 es) (is_sorted R es) (above_each e.0 es h.0) (sorted_of es h.1)
+  sorted_of (e ∷ es) h =
+      from_both (below_all R e.0 es) (is_sorted R es) (above_each e.0 es h.0) (sorted_of es h.1)
 
   -- and the other way round
   pub rising_of : (es : List (K × X)) → T (is_sorted R es) → IsStrictlySortedBy R (map (λ e. e.0) es)

@@ -28,8 +28,8 @@ use Rattle.fs_spec.proofs.OfChanges.Room.{AllCookies, IsWithin, within}
 use Rattle.server_spec.specs.nfs_laws.Sizes.Bounds.{AreWords}
 use Rattle.server_spec.specs.World.{World}
 use Rattle.server_spec.specs.IsWorld.{IsWorld}
-use Rattle.server_spec.specs.FileItems.{entry_item, attributes_item, attributes_value, is_file_kind, kind_item}
-use Rattle.server_spec.specs.FileItems.{kind_value, file_item, file_value}
+use Rattle.server_spec.specs.FileItems.{entry_item, attributes_item, attributes_value, is_file_kind}
+use Rattle.server_spec.specs.FileItems.{kind_item, kind_value, file_item, file_value}
 use Rattle.state_spec.specs.State.{Stage}
 use Rattle.state_spec.specs.StateItems.{mount_item, stage_item, stage_value, rest_item, world_value}
 

@@ -16,11 +16,16 @@ use Rattle.inode_table.proofs.OfEdits.EditedInodes.{alike, changes_file, here, i
 module _ (old new : List (ℕ × Inode)) (fsid number : ℕ) (change : File → File) where
   -- what an edit of a number's file tells, where it isn't refused memory
   pub record Edits {E : Type 0} (result : Result Edited E) : Type 0 where
+    -- the file changes, and what is kept beside it stays
     pub ok : OnOk result (ChangesFile number change old new)
+    -- its blocks before and after are told
     pub blocks : IfOk result (λ edited. IsBlockChange number edited.before edited.after old new)
+    -- the attributes that are told are those of its inode afterwards
     pub attributes : IfOk result (λ edited. (inode : Inode) → inode_at new number ≡ Some inode
         → edited.attributes ≡ fattr_of fsid number inode)
+    -- its owner, group and seconds are words afterwards
     pub words : OnOk result ((f : File) → stored_at new number ≡ Some f → HasWords f)
+    -- nothing changes where it fails
     pub err : OnErr result (AreAlike old new)
 
   -- by what it tells of the inode

@@ -77,8 +77,10 @@ module _ (fsid next : ℕ) (es : List (ℕ × File)) (up : AreRising (numbers_of
 -- what is no directory has its names for links
 pub plain_links : (fs : Files) (n : ℕ) (b : Body) (links : Links) → is_directory b ≡ false
     → links.nlink ≡ names_of fs n → IsLinks fs n b links
-plain_links fs n (Regular bytes) links plain is = record { nlink_is = is; parent_is = λ e. absurd (false≢true e) }
-plain_links fs n (Symlink target) links plain is = record { nlink_is = is; parent_is = λ e. absurd (false≢true e) }
+plain_links fs n (Regular bytes) links plain is =
+    record { nlink_is = is; parent_is = λ e. absurd (false≢true e) }
+plain_links fs n (Symlink target) links plain is =
+    record { nlink_is = is; parent_is = λ e. absurd (false≢true e) }
 plain_links fs n (Directory l) links plain is = absurd (false≢true (sym plain))
 
 -- a body keeps the number of the directory above

@@ -1,7 +1,7 @@
 //! Edits of the inode of a number; where it has none, nothing changes.
 
-ghost use Rattle.std.specs.Prelude.{◌≡◌, ◌<◌, ◌+◌, ◌-◌, ◌^◌, ℕ, IfOk, IsSome, OnOk, OnErr, Some, None, length};
-ghost use Rattle.std.specs.Prelude.{true, if◌then◌else◌};
+ghost use Rattle.std.specs.Prelude.{◌≡◌, ◌<◌, ◌+◌, ◌-◌, ◌^◌, ℕ, IfOk, IsSome, OnOk, OnErr, Some, None};
+ghost use Rattle.std.specs.Prelude.{length, true, if◌then◌else◌};
 ghost use Rattle.fs_spec.specs.Files.{File, is_directory, listing_in};
 ghost use Rattle.fs_spec.specs.Listing.{with_entry, without_entry};
 ghost use Rattle.fs_spec.specs.Trees.{IsBody};
@@ -13,7 +13,8 @@ ghost use Rattle.nfs_count_laws.specs.nfs_laws.Sizes.Bounds.{HasWords};
 ghost use Rattle.tree_rules.specs.inodes.Contents.{body_with_bytes_at};
 ghost use Rattle.tree_rules.specs.inodes.Given.{given_in};
 ghost use Rattle.tree_rules.specs.inodes.declared.inode.Inode as stored;
-ghost use Rattle.tree_rules.specs.inodes.Inodes.{body_in, fattr_of, file_in, inode_at, links_at, parent_in, stored_at};
+ghost use Rattle.tree_rules.specs.inodes.Inodes.{body_in, fattr_of, file_in, inode_at, links_at, parent_in};
+ghost use Rattle.tree_rules.specs.inodes.Inodes.{stored_at};
 ghost use Rattle.inode_table.specs.Edits.Slots.{AddsEntry, AddsInode, AddsNamed, AreAlike, ChangesFile};
 ghost use Rattle.inode_table.specs.Edits.Slots.{ChangesLinks, DropsName, IsBlockChange, MayUnname};
 ghost use Rattle.inode_table.specs.Edits.Slots.{RemovesInode, SetsParent, TakesEntry, Unnames};

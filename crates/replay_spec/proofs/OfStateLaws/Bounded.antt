@@ -13,18 +13,23 @@ use Rattle.nfs_items.proofs.xdr.Front.{length-number_spelling}
 abbrev pub IsShort : Item → ℕ → Type 0
 IsShort a m = (v : Value a) → Fits a v → length (spelling a v) ≤ m
 
+-- the zeros that fill bytes up to a multiple of four are at most 3
 pub short_padding : (n : ℕ) → length (padding n) ≤ 3
 short_padding n = omega (arith, length-replicate {A = ℕ} ((4 - n % 4) % 4) 0)
 
+-- a word takes at most 4 bytes
 pub short_word : IsShort word 4
 short_word v h = omega (arith, length-number_spelling 4 v)
 
+-- a hyper takes at most 8
 pub short_hyper : IsShort hyper 8
 short_hyper v h = omega (arith, length-number_spelling 8 v)
 
+-- n bytes without their count take at most n + 3
 pub short_fixed : (n : ℕ) → IsShort (fixed n) (n + 3)
 short_fixed n v h = omega (arith, length-append v (padding n), short_padding n, h)
 
+-- up to n bytes with their count take at most n + 7
 pub short_opaque : (n : ℕ) → IsShort (opaque n) (4 + (n + 3))
 short_opaque n v h =
     omega (
@@ -36,6 +41,7 @@ short_opaque n v h =
       h.1,
     )
 
+-- a pair takes at most what its two items take together
 pub short_pair : (a b : Item) (m n : ℕ) → IsShort a m → IsShort b n → IsShort (pair a b) (m + n)
 short_pair a b m n h k v fits =
     omega (arith, length-append (spelling a v.0) (spelling b v.1), h v.0 fits.0, k v.1 fits.1)
@@ -52,6 +58,7 @@ short_all a m h (v ∷ vs) all =
       short_all a m h vs all.1,
     )
 
+-- up to k values with their count take at most 4 bytes and k times what one takes
 pub short_array : (k : ℕ) (a : Item) (m : ℕ) → IsShort a m → IsShort (array k a) (4 + k * m)
 short_array k a m h vs fits =
     omega (
@@ -64,6 +71,7 @@ short_array k a m h vs fits =
 
 -- ---- how long lists of items are at least
 
+-- there are no more values than bytes that spell them, where each takes at least one
 pub counted : (a : Item) → ((v : Value a) → 1 ≤ length (spelling a v)) → (vs : List (Value a))
     → length vs ≤ length (flat_map (spelling a) vs)
 counted a h [] = omega arith

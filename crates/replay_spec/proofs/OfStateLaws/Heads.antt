@@ -16,11 +16,12 @@ use Rattle.replay_spec.proofs.OfStateLaws.Lengths.{counted_item}
 abbrev pub text_with : State → Machine → List ℕ
 text_with s m = spelling (state_item (fixed 32)) (1, (s.node, machine_value (fixed 32) file_digest s m))
 
+-- the kind of a machine: 1 is a server, 2 a client
 abbrev pub kind : Machine → ℕ
 kind (Server w stage) = 1
 kind (Client clock) = 2
 
--- what it says after the kind
+-- what it says after the kind of a server
 abbrev pub server_said : State → World → Stage → Value (counted_item max_received 1)
 server_said s w stage = (
   timeval_value w.clock,
@@ -30,12 +31,14 @@ server_said s w stage = (
   ),
 )
 
+-- and after that of a client
 abbrev pub client_said : State → Timeval → Value (counted_item max_received 2)
 client_said s clock = (
   timeval_value clock,
   (map received_value (finite.keys s.received), (map sent_value (finite.entries s.sends), 0)),
 )
 
+-- the bytes after the kind
 abbrev pub body : State → Machine → List ℕ
 body s (Server w stage) = spelling (counted_item max_received 1) (server_said s w stage)
 body s (Client clock) = spelling (counted_item max_received 2) (client_said s clock)

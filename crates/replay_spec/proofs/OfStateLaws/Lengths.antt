@@ -117,9 +117,11 @@ module _ (clock : Value timeval) (received : List (Value received_item)) (sends 
   abbrev sends_text : List ℕ
   sends_text = number_spelling 4 (length sends) ++ flat_map (spelling sent_item) sends
 
+  -- such a text: the clock, the messages received, those sent, and what comes after them
   abbrev pub front_text : List ℕ
   front_text = spelling timeval clock ++ (received_text ++ (sends_text ++ rest))
 
+  -- it has at least a byte for each message received
   pub few_received : length received ≤ length front_text
   few_received =
       omega (
@@ -130,6 +132,7 @@ module _ (clock : Value timeval) (received : List (Value received_item)) (sends 
         length-append (number_spelling 4 (length received)) (flat_map (spelling received_item) received),
       )
 
+  -- and for each message sent
   pub few_sends : length sends ≤ length front_text
   few_sends =
       omega (

@@ -29,16 +29,20 @@ HearsBytes (Client clock) = Unit {0}
 
 -- what stays of the machine of a node
 pub record IsKept (node : ℕ) (m : Machine) : Type 0 where
+  -- a node can have it
   pub machine : IsMachine node m
+  -- what its world doesn't bound can be spelled
   pub spelled : MachineIsSpelled m
+  -- a body that it heard is bytes
   pub heard : HearsBytes m
 
--- that worlds stay worlds, and that replies are short
+-- that worlds stay worlds
 abbrev pub WorldsStay : Type 0
 WorldsStay =
     (node : ℕ) (w : World) (time : Timeval) (bytes : List ℕ) → IsWorld node w → time.microseconds < 1_000_000
     → time.seconds < 2 ^ 32 → IsBytes bytes → IsWorld node (world_after w time bytes)
 
+-- and that replies are no longer than a body may be
 abbrev pub RepliesAreShort : Type 0
 RepliesAreShort =
     (node : ℕ) (w : World) (time : Timeval) (bytes : List ℕ) → IsWorld node w

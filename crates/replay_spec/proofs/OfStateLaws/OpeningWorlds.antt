@@ -30,6 +30,7 @@ of_two f true b is = subst HasWords (same_Some opening_root f is) (first_words _
 of_two f false true is = subst HasWords (same_Some opening_hello f is) (first_words _ _)
 of_two f false false is = absurd cc
 
+-- the world that a server begins with is one that it can have, where its number is of 32 bits
 pub opening_is_world : (node : ℕ) → node < 2 ^ 32 → IsWorld node (opening_world node)
 unfolding IsDistinct
 opening_is_world node word =

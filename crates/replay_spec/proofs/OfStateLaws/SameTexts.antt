@@ -15,6 +15,7 @@ module _ {A : Type 0} (item : Item) (value : A → Value item) where
   abbrev digest : A → List ℕ
   digest x = sha256 (text x)
 
+  -- the digests of values have 32 bytes each
   pub digests_fit : (xs : List A) → AllByRecursion (Fits (fixed 32)) (map digest xs)
   digests_fit [] = tt
   digests_fit (x ∷ xs) = (length-sha256 (text x), digests_fit xs)

@@ -73,6 +73,7 @@ module _ (stays : WorldsStay) (short : RepliesAreShort) (ms : List Member) (node
         machine = kept.machine.spelled;
       }
 
+-- the states of honest logs can be spelled, where worlds stay worlds and replies are short
 pub spelled : WorldsStay → RepliesAreShort → HonestStatesAreSpelled
 spelled stays short ms m es s word texts bytes few honest = by m.kind honest
   where

@@ -17,6 +17,7 @@ in_right : (x : List ℕ) (xs ys : List (List ℕ)) → IsAmong x ys → IsAmong
 in_right x [] ys i = i
 in_right x (y ∷ xs) ys i = inr (in_right x xs ys i)
 
+-- states are told by their digests, where no two of the texts under these have one digest
 pub tells : DigestsTellStates
 unfolding state_digest
 tells s t h few k unlike digests =

@@ -40,6 +40,7 @@ parts s (Server w stage) fits =
     record { received = fits.2.1.0; sends = fits.2.1.1.0; machine = fits.2.1.1.1.0 }
 parts s (Client clock) fits = record { received = fits.2.1.0; sends = fits.2.1.1.0; machine = fits.2.0.0 }
 
+-- a state that has a text can be spelled, and knows few messages
 pub of_texts : TextsAreSpelled
 of_texts s bytes h =
     let p = parts s s.machine h.fits.1.1 in (

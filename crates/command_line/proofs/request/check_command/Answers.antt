@@ -25,9 +25,15 @@ pub returns : goal.returns
 returns c =
     let empty : app_of c.after_help.result ≡ new_app (codes "check") =
     search (rules, c.after_help.ensures, c.about.ensures, c.new.ensures.app) in
-    let one : app_of c.in_ok-arg.field-0 ≡ explained = c.in_ok-arg.ensures.shape (search rules) ∙ ap₂ with_rule empty c.flag.ensures.rule in
-    let two : app_of c.in_ok-arg-2.field-0 ≡ with_entries = c.in_ok-arg-2.ensures.shape (search rules) ∙ ap₂ with_rule one c.flag-2.ensures.rule in
-    let three : app_of c.in_ok-arg-3.field-0 ≡ with_state = c.in_ok-arg-3.ensures.shape (search rules) ∙ ap₂ with_rule two c.number_option.ensures.rule in
-    let four : app_of c.in_ok-arg-4.field-0 ≡ with_json = c.in_ok-arg-4.ensures.shape (search rules) ∙ ap₂ with_rule three c.flag-3.ensures.rule in
-    let five : app_of c.in_ok-arg-5.field-0 ≡ with_roster = c.in_ok-arg-5.ensures.shape (search rules) ∙ ap₂ with_rule four c.file_option.ensures.rule in
-    IfOk-weaker c.arg-6.result _ _ (λ r added. added.shape (search rules) ∙ ap₂ with_rule five c.file_argument.ensures.rule) c.arg-6.ensures
+    let one : app_of c.in_ok-arg.field-0 ≡ explained =
+    c.in_ok-arg.ensures.shape (search rules) ∙ ap₂ with_rule empty c.flag.ensures.rule in
+    let two : app_of c.in_ok-arg-2.field-0 ≡ with_entries =
+    c.in_ok-arg-2.ensures.shape (search rules) ∙ ap₂ with_rule one c.flag-2.ensures.rule in
+    let three : app_of c.in_ok-arg-3.field-0 ≡ with_state =
+    c.in_ok-arg-3.ensures.shape (search rules) ∙ ap₂ with_rule two c.number_option.ensures.rule in
+    let four : app_of c.in_ok-arg-4.field-0 ≡ with_json =
+    c.in_ok-arg-4.ensures.shape (search rules) ∙ ap₂ with_rule three c.flag-3.ensures.rule in
+    let five : app_of c.in_ok-arg-5.field-0 ≡ with_roster =
+    c.in_ok-arg-5.ensures.shape (search rules) ∙ ap₂ with_rule four c.file_option.ensures.rule in
+    IfOk-weaker c.arg-6.result _ _
+    (λ r added. added.shape (search rules) ∙ ap₂ with_rule five c.file_argument.ensures.rule) c.arg-6.ensures

@@ -7,4 +7,5 @@ pub returns-clause-state : goal.returns-clause-state
 returns-clause-state c = c.get_str.ensures ∙ first_value-rows (found_of c.args.matches.now) (codes "state")
 
 pub returns-clause-roster : goal.returns-clause-roster
-returns-clause-roster c = c.get_str-2.ensures ∙ first_value-rows (found_of c.args.matches.now) (codes "roster")
+returns-clause-roster c =
+    c.get_str-2.ensures ∙ first_value-rows (found_of c.args.matches.now) (codes "roster")

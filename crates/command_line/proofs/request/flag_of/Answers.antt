@@ -8,4 +8,5 @@ use Rattle.command_line.proofs.request.flag_of.Goals as goal
 pub returns : goal.returns
 returns c told =
     let text = one_text-rows (found_of c.args.matches.now) c.args.id.now in
-    flag_is_answered _ _ told (λ e. c.get_flag.ensures.none (text ∙ e)) (λ e. c.get_flag.ensures.value (text ∙ e)) (λ e. c.get_flag.ensures.other (text ∙ e))
+    flag_is_answered _ _ told (λ e. c.get_flag.ensures.none (text ∙ e))
+    (λ e. c.get_flag.ensures.value (text ∙ e)) (λ e. c.get_flag.ensures.other (text ∙ e))

@@ -12,8 +12,10 @@ returns-clause-ok c =
 pub returns-clause-kinds : goal.returns-clause-kinds
 returns-clause-kinds c =
     let parsed = c.in_ok-matches.ensures in
-    (taken _ (map string_bytes c.args.words.now) c.in_ok-matches.matches c.in_ok-commands.ensures parsed.matches parsed.kinds).0
+    (taken _ (map string_bytes c.args.words.now) c.in_ok-matches.matches c.in_ok-commands.ensures
+    parsed.matches parsed.kinds).0
 
 pub returns-in_err-matches-clause-kinds : goal.returns-in_err-matches-clause-kinds
 returns-in_err-matches-clause-kinds c =
-    passes_on _ (map string_bytes c.args.words.now) _ _ c.in_ok-commands.ensures c.in_err-matches.ensures.kinds c.from_residual-in_err-matches.ensures.1
+    passes_on _ (map string_bytes c.args.words.now) _ _ c.in_ok-commands.ensures
+    c.in_err-matches.ensures.kinds c.from_residual-in_err-matches.ensures.1

@@ -5,9 +5,11 @@ use Rattle.command_line.proofs.request.request_in.Goals as goal
 
 pub returns-in-Some : goal.returns-in-Some
 returns-in-Some c words none found =
-    let is = found_is c.args.matches.now _ _ _ found (c.in-Some.ensures.found.0 refl) c.in-Some.ensures.rows in
+    let is = found_is c.args.matches.now _ _ _ found (c.in-Some.ensures.found.0 refl)
+    c.in-Some.ensures.rows in
     let asked = c.check_request.ensures in
-    check_is words _ (record { file = _; explain = _; entries = _; state = _; json = _; roster = _ }) none is (record {
+    check_is words _ (record { file = _; explain = _; entries = _; state = _; json = _; roster = _ })
+    none is (record {
       file = asked.file;
       explain = asked.explain;
       entries = asked.entries;
@@ -18,17 +20,20 @@ returns-in-Some c words none found =
 
 pub returns-in-Some-subcommand_matches : goal.returns-in-Some-subcommand_matches
 returns-in-Some-subcommand_matches c words none found =
-    let is = found_is c.args.matches.now _ _ _ found (c.in-Some-subcommand_matches.ensures.found.0 refl) c.in-Some-subcommand_matches.ensures.rows in
+    let is = found_is c.args.matches.now _ _ _ found (c.in-Some-subcommand_matches.ensures.found.0 refl)
+    c.in-Some-subcommand_matches.ensures.rows in
     roster_is words _ _ none is c.text_of.ensures
 
 pub returns-in-Some-subcommand_matches-2 : goal.returns-in-Some-subcommand_matches-2
 returns-in-Some-subcommand_matches-2 c words none found =
-    let is = found_is c.args.matches.now _ _ _ found (c.in-Some-subcommand_matches-2.ensures.found.0 refl) c.in-Some-subcommand_matches-2.ensures.rows in
+    let is = found_is c.args.matches.now _ _ _ found (c.in-Some-subcommand_matches-2.ensures.found.0 refl)
+    c.in-Some-subcommand_matches-2.ensures.rows in
     run_is words _ _ _ none is c.run_request.ensures.file c.run_request.ensures.roster_out
 
 pub returns-in-Some-subcommand_matches-3 : goal.returns-in-Some-subcommand_matches-3
 returns-in-Some-subcommand_matches-3 c words none found =
-    let is = found_is c.args.matches.now _ _ _ found (c.in-Some-subcommand_matches-3.ensures.found.0 refl) c.in-Some-subcommand_matches-3.ensures.rows in
+    let is = found_is c.args.matches.now _ _ _ found (c.in-Some-subcommand_matches-3.ensures.found.0 refl)
+    c.in-Some-subcommand_matches-3.ensures.rows in
     let asks = c.serve_request.ensures in
     serve_is words _ (record {
       port = _;
@@ -66,15 +71,18 @@ returns c words none found =
           cc,
       (
         λ e.
-            let bad = rw c.in_default-subcommand_matches.is at c.subcommand_matches-2.ensures.found.1 (name ∙ e) in
+            let bad = rw c.in_default-subcommand_matches.is at c.subcommand_matches-2.ensures.found.1
+            (name ∙ e) in
             cc,
         (
           λ e.
-              let bad = rw c.in_default-subcommand_matches-2.is at c.subcommand_matches-3.ensures.found.1 (name ∙ e) in
+              let bad = rw c.in_default-subcommand_matches-2.is at c.subcommand_matches-3.ensures.found.1
+              (name ∙ e) in
               cc,
           (
             λ e.
-                let bad = rw c.in_default-subcommand_matches-3.is at c.subcommand_matches-4.ensures.found.1 (name ∙ e) in
+                let bad = rw c.in_default-subcommand_matches-3.is at c.subcommand_matches-4.ensures.found.1
+                (name ∙ e) in
                 cc,
             tt,
           ),

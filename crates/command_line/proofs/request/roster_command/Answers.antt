@@ -7,4 +7,5 @@ use Rattle.command_line.proofs.request.roster_command.Goals as goal
 pub returns : goal.returns
 returns c =
     let empty : app_of c.about.result ≡ new_app (codes "roster") = search rules in
-    IfOk-weaker c.arg.result _ _ (λ r added. added.shape (search rules) ∙ ap₂ with_rule empty c.file_argument.ensures.rule) c.arg.ensures
+    IfOk-weaker c.arg.result _ _
+    (λ r added. added.shape (search rules) ∙ ap₂ with_rule empty c.file_argument.ensures.rule) c.arg.ensures

@@ -8,6 +8,8 @@ use Rattle.command_line.proofs.request.run_command.Goals as goal
 pub returns : goal.returns
 returns c =
     let empty : app_of c.after_help.result ≡ new_app (codes "run") = search rules in
-    let one : app_of c.in_ok-arg.field-0 ≡ with_rule (new_app (codes "run")) (file_option (codes "roster-out")) =
+    let one : app_of c.in_ok-arg.field-0
+    ≡ with_rule (new_app (codes "run")) (file_option (codes "roster-out")) =
     c.in_ok-arg.ensures.shape (search rules) ∙ ap₂ with_rule empty c.file_option.ensures.rule in
-    IfOk-weaker c.arg-2.result _ _ (λ r added. added.shape (search rules) ∙ ap₂ with_rule one c.file_argument.ensures.rule) c.arg-2.ensures
+    IfOk-weaker c.arg-2.result _ _
+    (λ r added. added.shape (search rules) ∙ ap₂ with_rule one c.file_argument.ensures.rule) c.arg-2.ensures

@@ -4,4 +4,5 @@ use Rattle.clap.proofs.WalkLemmas.{first_value-rows}
 use Rattle.command_line.proofs.request.run_request.Goals as goal
 
 pub returns-clause-roster_out : goal.returns-clause-roster_out
-returns-clause-roster_out c = c.get_str.ensures ∙ first_value-rows (found_of c.args.matches.now) (codes "roster-out")
+returns-clause-roster_out c =
+    c.get_str.ensures ∙ first_value-rows (found_of c.args.matches.now) (codes "roster-out")

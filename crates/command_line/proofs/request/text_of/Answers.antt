@@ -8,4 +8,5 @@ use Rattle.command_line.proofs.request.text_of.Goals as goal
 pub returns : goal.returns
 returns c =
     ap (λ (t : Bor (List ℕ)). t.now) c.unwrap_or.ensures
-    ∙ text_is_answered c.get_str.result _ refl (c.get_str.ensures ∙ first_value-rows (found_of c.args.matches.now) c.args.id.now)
+    ∙ text_is_answered c.get_str.result _ refl
+    (c.get_str.ensures ∙ first_value-rows (found_of c.args.matches.now) c.args.id.now)

@@ -8,5 +8,7 @@ use Rattle.command_line.proofs.serve.serve_command.Goals as goal
 pub returns : goal.returns
 returns c =
     let one : app_of c.in_ok-arg.field-0 ≡ with_rule serve_options (word_argument (codes "port")) =
-    c.in_ok-arg.ensures.shape (search rules) ∙ ap₂ with_rule c.in_ok-serve_options.ensures c.word_argument.ensures.rule in
-    IfOk-weaker c.arg-2.result _ _ (λ r added. added.shape (search rules) ∙ ap₂ with_rule one c.word_argument-2.ensures.rule) c.arg-2.ensures
+    c.in_ok-arg.ensures.shape (search rules)
+    ∙ ap₂ with_rule c.in_ok-serve_options.ensures c.word_argument.ensures.rule in
+    IfOk-weaker c.arg-2.result _ _
+    (λ r added. added.shape (search rules) ∙ ap₂ with_rule one c.word_argument-2.ensures.rule) c.arg-2.ensures

@@ -6,4 +6,5 @@ use Rattle.lamport.proofs.leaves.leaf_hashes.Given as goal
 
 abbrev pub invariant-loop-place : goal.invariant-loop-place
 invariant-loop-place l = (k : ℕ) → k < 4
-    → HoldsText l.texts k (leaf_front (public_hash (record { master = l.master; leaf = l.first + k })) l.place)
+    → HoldsText l.texts k
+    (leaf_front (public_hash (record { master = l.master; leaf = l.first + k })) l.place)

@@ -19,5 +19,6 @@ returns c =
     let last : word_bytes c.word_of.result ≡ bit = ap word_bytes c.word_of.ensures in
     let whole : take 44 c.put_word-3.new.text ≡ ((c.args.master.now ++ leaf) ++ place) ++ bit =
     c.put_word-3.ensures ∙ (λ i. three i ++ last i) in
-    let all : take 44 c.put_word-3.new.text ≡ c.put_word-3.new.text = take_all 44 c.put_word-3.new.text (omega arith) in
+    let all : take 44 c.put_word-3.new.text ≡ c.put_word-3.new.text =
+    take_all 44 c.put_word-3.new.text (omega arith) in
     ap sha256 (sym whole ∙ all)

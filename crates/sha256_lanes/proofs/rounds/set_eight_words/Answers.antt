@@ -6,7 +6,8 @@ use Rattle.sha256_lanes.proofs.rounds.set_eight_words.Goals as goal
 pub returns : goal.returns
 returns c = λ b held.
     let t = c.args.t in
-    let w1 = one_more_word b _ _ t (t + 1) (omega arith) (omega arith) (omega arith) held c.set_word.ensures in
+    let w1 = one_more_word b _ _ t (t + 1) (omega arith) (omega arith) (omega arith) held
+    c.set_word.ensures in
     let w2 = one_more_word b _ _ (t + 1) (t + 2) (omega arith) (omega arith) (omega arith) w1
     c.set_word-2.ensures in
     let w3 = one_more_word b _ _ (t + 2) (t + 3) (omega arith) (omega arith) (omega arith) w2

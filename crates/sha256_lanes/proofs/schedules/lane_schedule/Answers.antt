@@ -7,7 +7,8 @@ use Rattle.sha256_lanes.proofs.schedules.lane_schedule.Goals as goal
 pub returns : goal.returns
 returns c = λ b block.
     let size : length c.block_words-w.result ≡ 64 = omega arith in
-    let own : (k : ℕ) → k < 16 → slice_index c.block_words-w.result k ≡ word_at b (4 * k) = λ k low. c.block_words-w.ensures k low ∙ block.each k low in
+    let own : (k : ℕ) → k < 16 → slice_index c.block_words-w.result k ≡ word_at b (4 * k) =
+    λ k low. c.block_words-w.ensures k low ∙ block.each k low in
     let w24 = c.set_eight_words.ensures b (block_words_held b c.block_words-w.result size own) in
     let w32 = c.set_eight_words-2.ensures b w24 in
     let w40 = c.set_eight_words-3.ensures b w32 in

@@ -38,7 +38,8 @@ pub returns-then-not-is_name : goal.returns-then-not-is_name
 returns-then-not-is_name c = λ h.
     let i = c.loop-entry.entry-index in
     let inside : i < length c.args.entries.now = omega arith in
-    false≢true (c.if-not-is_name.ensures ∙ is_a_name c.args.entries.now i (get_or c.args.entries.now i blank) inside
+    false≢true (c.if-not-is_name.ensures
+    ∙ is_a_name c.args.entries.now i (get_or c.args.entries.now i blank) inside
     (λ d. get_or_default c.args.entries.now i d blank inside) c.loop-entry.directory
     c.loop-entry.invariant c.args.next h)
 

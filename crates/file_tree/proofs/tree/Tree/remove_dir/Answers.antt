@@ -9,7 +9,8 @@ use Rattle.file_tree.proofs.tree.Tree.remove_dir.Goals as goal
 
 pub unname-requires : goal.unname-requires
 unname-requires c =
-    subst (λ w. MayGo w c.args.dir c.args.name.now c.check_remove_dir-checked.result) (files_seen c.self.view_is)
+    subst (λ w. MayGo w c.args.dir c.args.name.now c.check_remove_dir-checked.result)
+    (files_seen c.self.view_is)
     c.check_remove_dir-checked.ensures.granted
 
 pub returns-clause-effect : goal.returns-clause-effect

@@ -6,7 +6,8 @@ use Rattle.inode_table.proofs.edits.slots.drop_name.Goals as goal
 pub returns-then-is_last-clause-change : goal.returns-then-is_last-clause-change
 returns-then-is_last-clause-change c =
     let removed = c.remove_file.ensures.change in
-    subst (λ b. DropsName c.args.now c.args.number b c.args.inodes.now.entries c.remove_file.new.inodes.entries)
+    subst (λ b. DropsName c.args.now c.args.number b c.args.inodes.now.entries
+    c.remove_file.new.inodes.entries)
     (sym c.if-is_last.true)
     (record { files = removed.files; own = λ h. cc; links = removed.links; above = removed.above })
 

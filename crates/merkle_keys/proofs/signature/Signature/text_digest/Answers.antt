@@ -13,4 +13,5 @@ returns c =
     let other = c.update-3.ensures _ (c.update-2.ensures _ leaf) in
     let path = ap (spelling (array MAX_HEIGHT (fixed 32))) c.deref-3.ensures.value in
     rw (← c.self.view_is) (c.finalize.ensures _ (c.hash_path.ensures _ other)
-    ∙ ap sha256 (one_by_one _ _ _ _ _ _ _ _ c.to_be_bytes.ensures c.deref.ensures.value c.deref-2.ensures.value path))
+    ∙ ap sha256 (one_by_one _ _ _ _ _ _ _ _ c.to_be_bytes.ensures c.deref.ensures.value
+    c.deref-2.ensures.value path))

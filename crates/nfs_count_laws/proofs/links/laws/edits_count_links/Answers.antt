@@ -1,8 +1,8 @@
 use Rattle.std.proofs.Common.{ap, option_map}
 use Rattle.nfs_laws.specs.fs_spec.Files.{is_directory}
 use Rattle.nfs_laws.proofs.OfTrees.FilesFit.{dir_file, distinct_names, next_free, next_unnamed}
-use Rattle.nfs_count_laws.proofs.OfLinks.LinkCounts.{changed_links, more_links, named_more, unnamed_less, new_own}
-use Rattle.nfs_count_laws.proofs.OfLinks.LinkCounts.{new_others}
+use Rattle.nfs_count_laws.proofs.OfLinks.LinkCounts.{changed_links, more_links, named_more, unnamed_less}
+use Rattle.nfs_count_laws.proofs.OfLinks.LinkCounts.{new_own, new_others}
 use Rattle.nfs_count_laws.proofs.links.laws.edits_count_links.Goals as goal
 
 pub returns-clause-contents : goal.returns-clause-contents

@@ -12,4 +12,5 @@ returns-clause-appends c =
     c.all_or_nothing.result c.all_or_nothing.new.out.items)
     (sym (answers_say (code.Attributes c.args.attributes.now)))
     (c.all_or_nothing.ensures.text (answer_bytes (code.Attributes c.args.attributes.now))
-    c.args.out.now.items (sym (c.len-start.ensures ∙ c.args.out.now.ok.0)) c.add_attrstat-written.ensures.adds)
+    c.args.out.now.items (sym (c.len-start.ensures ∙ c.args.out.now.ok.0))
+    c.add_attrstat-written.ensures.adds)

@@ -12,4 +12,5 @@ returns-clause-appends c =
     c.all_or_nothing.result c.all_or_nothing.new.out.items)
     (sym (answers_say (code.DirOp c.args.found.now)))
     (c.all_or_nothing.ensures.text (answer_bytes (code.DirOp c.args.found.now))
-    c.args.out.now.items (sym (c.len-start.ensures ∙ c.args.out.now.ok.0)) c.add_diropres-written.ensures.adds)
+    c.args.out.now.items (sym (c.len-start.ensures ∙ c.args.out.now.ok.0))
+    c.add_diropres-written.ensures.adds)

@@ -36,7 +36,8 @@ pub loop-count-preserved : goal.loop-count-preserved
 loop-count-preserved g c =
     let marked = rw (c.in-Some.is, c.if-mark.false) at c.in_ok-mark.ensures.found in
     let room = rw c.deref.ensures.value at c.passes_limit.ensures.within c.if-passes_limit.false in (
-      goes_on _ _ _ _ _ _ _ _ c.loop-count.invariant.0 room.0 marked.0 c.in_ok-read_piece.ensures.piece room.1,
+      goes_on _ _ _ _ _ _ _ _ c.loop-count.invariant.0 room.0 marked.0
+          c.in_ok-read_piece.ensures.piece room.1,
       search rules,
       search rules,
     )

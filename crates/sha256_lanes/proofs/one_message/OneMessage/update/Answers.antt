@@ -13,7 +13,8 @@ fours-preserved c =
       none = omega (arith, c.add-in-fours.ensures.count, c.fours.invariant.none);
       holds = λ m holds.
           subst (HoldsMessage c.add-in-fours.new.self)
-          (more_of_piece m c.args.data.now _ a 256 _ (omega arith) (ap (λ (n : ℕ). take n (drop a c.args.data.now)) width))
+          (more_of_piece m c.args.data.now _ a 256 _ (omega arith)
+          (ap (λ (n : ℕ). take n (drop a c.args.data.now)) width))
           (c.add-in-fours.ensures.message _ (c.fours.invariant.holds m holds));
     }
 

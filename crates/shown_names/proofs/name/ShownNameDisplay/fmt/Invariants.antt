@@ -6,4 +6,5 @@ use Rattle.shown_names.proofs.name.ShownNameDisplay.fmt.Given as goal
 abbrev pub invariant-loop-byte : goal.invariant-loop-byte
 invariant-loop-byte g l =
     IsPlainFormatter l.initial.f
-    → HasWritten g.W.Write.write_str_gives l.initial.f (flat_map shown_byte (take l.byte-index l.byte-items)) l.f
+    → HasWritten g.W.Write.write_str_gives l.initial.f
+    (flat_map shown_byte (take l.byte-index l.byte-items)) l.f
