@@ -325,12 +325,12 @@ check_endless() {
     grep -qx '  length: 65535' "$files/out" || fail 'a file of 65,535 bytes' "$files/out"
 }
 
-# A file that begins like evidence of 65,536 entries and has no end is read up to the longest evidence, 1,916,554,608
+# A file that begins like evidence of 65,536 entries and has no end is read up to the longest evidence, 1,916,554,868
 # bytes, and a byte more.
 check_longest() {
     { head -c 144 "$cases/wrong_reply.evidence"; printf '\0\1\0\0'; } > "$files/case"
     [ "$(od -An -tx1 -j 92 -N 8 "$files/case" | tr -d ' ')" = 0000000100000002 ] || fail 'evidence of a replay' "$files/case"
-    truncate -s 1916554609 "$files/case"
+    truncate -s 1916554869 "$files/case"
     unread 148 "$files/case"
     truncate -s 100G "$files/case"
     unread 148 "$files/case"
@@ -351,6 +351,8 @@ for program in "${made[@]}"; do
     check_others
     check_endless
 done
+# Under rosters in the second form, and texts that are none.
+checks/gaps.py --version-1 "$(IFS=,; echo "${made[*]}")"
 # It takes 2 GiB of memory, so one program is enough.
 program=${made[0]}
 check_longest

@@ -9,6 +9,8 @@ usage: checks/gaps.py                   compares, in a few seconds, without a pr
                                         NAME.roster, and prints what is owed
        checks/gaps.py PROGRAM           compares what `nfsacc check` says of each, as checks/generate.py does. Several
                                         programs, with a comma between them, must say the same
+       checks/gaps.py --version-1 PROGRAM   the same of files that nfsacc reads today: evidence of kinds 1 and 2 under
+                                        rosters in the second form, and texts that are no roster
 """
 
 import os
@@ -223,6 +225,13 @@ def compare() -> int:
     return 1 if failed else 0
 
 
+def is_read_today(name: str, place: int) -> bool:
+    """Whether a file is one that a program decides that knows of version 2 the second form of rosters alone."""
+    if name == 'versions':
+        return not place >> 1 & 1
+    return name == 'beside_others' or name == 'rosters' and 2 <= place <= 9
+
+
 def put(folder: str, name: str, data: bytes):
     with open(os.path.join(folder, name), 'wb') as file:
         file.write(data)
@@ -239,13 +248,19 @@ def write(folder: str) -> int:
     return 0
 
 
+def compare_programs(programs: str, cases: Iterator[tuple[str, int, Case]]) -> int:
+    judged, wrong = generate.compare(programs.split(','), cases)
+    print(f'{judged} files were judged, {wrong} otherwise than they are meant to be')
+    return 1 if wrong else 0
+
+
 def main() -> int:
     if len(sys.argv) == 3 and sys.argv[1] == '--write':
         return write(sys.argv[2])
+    if len(sys.argv) == 3 and sys.argv[1] == '--version-1':
+        return compare_programs(sys.argv[2], (each for each in all_made() if is_read_today(*each[:2])))
     if len(sys.argv) == 2 and not sys.argv[1].startswith('-'):
-        judged, wrong = generate.compare(sys.argv[1].split(','), all_made())
-        print(f'{judged} files were judged, {wrong} otherwise than they are meant to be')
-        return 1 if wrong else 0
+        return compare_programs(sys.argv[1], all_made())
     if len(sys.argv) == 1:
         return compare()
     print(__doc__, file=sys.stderr)

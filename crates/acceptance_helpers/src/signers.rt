@@ -1,6 +1,6 @@
 //! Who signs, and what is signed. Each function gives none where memory is refused.
 
-use authenticator::{Authenticator, Kind, Member, Number, Roster, signed_digest};
+use authenticator::{Authenticator, Kind, LogVersion, Member, Number, Roster, signed_digest};
 use merkle_keys::Signer;
 use std::alloc::Global;
 
@@ -16,6 +16,7 @@ pub fn server(root: [u8; 32], height: u32) -> Member {
         kind: Kind::Server,
         root,
         height,
+        log_version: LogVersion::One,
     }
 }
 
@@ -26,6 +27,7 @@ pub fn client(root: [u8; 32], height: u32) -> Member {
         kind: Kind::Client,
         root,
         height,
+        log_version: LogVersion::One,
     }
 }
 

@@ -4,7 +4,7 @@ ghost use Rattle.std.specs.Prelude.{◌≡◌, IfSome};
 
 use crate::parties::CALL;
 use acceptance_helpers::{client, roster_of, server};
-use authenticator::{Kind, Member, Roster};
+use authenticator::{Kind, LogVersion, Member, Roster};
 use merkle_keys::Signer;
 use nfs_items::Time;
 use nodes::exchanges::exchange;
@@ -34,6 +34,7 @@ fn roster(alloc: Global) -> Option<Roster> {
         kind: Kind::Client,
         root: signer(alloc, 3)?.root(),
         height: HEIGHT,
+        log_version: LogVersion::One,
     };
     roster_of(alloc, &[server(one, HEIGHT), client(two, HEIGHT), three])
 }

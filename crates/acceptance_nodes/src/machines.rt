@@ -1,7 +1,7 @@
 //! The first steps of a server's and a client's machine. What replays find is compared with a second
 //! verifier, from outside (`checks/verify.sh`).
 
-use authenticator::{Kind, Member, Number, Roster};
+use authenticator::{Kind, LogVersion, Member, Number, Roster};
 use replay::{FreeMachine, Machine, ReplayFault, ServerMachine, StepFault, opening_state};
 use secure_log::log_entries::Entry;
 use std::alloc::Global;
@@ -25,6 +25,7 @@ const SERVER: Member = Member {
     kind: Kind::Server,
     root: [0; 32],
     height: 1,
+    log_version: LogVersion::One,
 };
 
 /// The same as a client.
@@ -33,6 +34,7 @@ const CLIENT: Member = Member {
     kind: Kind::Client,
     root: [0; 32],
     height: 1,
+    log_version: LogVersion::One,
 };
 
 /// Whether the first step of a server, which reads its clock, is refused as out of turn.

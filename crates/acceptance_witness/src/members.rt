@@ -9,7 +9,7 @@ use crate::logs::{
     answer_packet, changed, closing_at, learn, learn_packet, reads_clocks, segment_text,
 };
 use acceptance_helpers::{client, roster_of, server};
-use authenticator::{Authenticator, Kind, Member, Roster};
+use authenticator::{Authenticator, Kind, LogVersion, Member, Roster};
 use merkle_keys::Signer;
 use secure_log::Log;
 use std::alloc::Global;
@@ -43,6 +43,7 @@ pub fn member(node: u32, root: [u8; 32], height: u32) -> Member {
         kind: Kind::Client,
         root,
         height,
+        log_version: LogVersion::One,
     }
 }
 

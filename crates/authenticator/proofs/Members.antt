@@ -1,18 +1,19 @@
 -- A roster's members as a text, one after the other; the member with a number; and that members have no
 -- fault exactly where they fit and rise.
--- Serves: Roster::write by add_members, Roster::new, Checked::vouch (authenticator).
+-- Serves: Roster::write by the two forms of its text, Roster::new, Checked::vouch (authenticator).
 use Rattle.std.proofs.Common.{◌≡◌, ◌==◌, ℕ, Bool, true, false, cond, List, [], ◌∷◌, ◌++◌, length, Result, Ok}
 use Rattle.std.proofs.Common.{Err, Option, Some, None, refl, sym, ap, ◌∙◌, append_assoc}
 use Rattle.std.specs.Prelude.{IsTrue, ◌&&◌, nat_lt}
 use Rattle.std.proofs.lemmas.Bool.{eqb-true}
 use Rattle.std.proofs.lemmas.List.{length-map}
 use Rattle.std.specs.List.{flat_map}
-use Rattle.xdr.specs.Item.{spelling, number_spelling}
+use Rattle.xdr.specs.Item.{array, spelling, number_spelling}
 use Rattle.xdr.specs.Writing.{Adds}
 use Rattle.authenticator.specs.declared.member.Member.{Member}
+use Rattle.authenticator.specs.declared.roster.TheConstants.{MAX_MEMBERS}
 use Rattle.authenticator.specs.declared.refusal.RosterFault.{RosterFault}
 use Rattle.authenticator.specs.declared.refusal.RosterFault.TheVariants.{BadNumber, BadHeight, NotRising}
-use Rattle.authenticator.specs.Roster.{member_item, member_value, roster_item, roster_value, is_node}
+use Rattle.authenticator.specs.Roster.{member_item, member_value, member_values, is_node}
 use Rattle.authenticator.specs.Roster.{is_height, rises_above, EachFits, first_of, first_fault, member_of}
 
 -- the members' texts
@@ -20,22 +21,9 @@ abbrev pub texts : List Member → List ℕ
 texts ms = flat_map (λ m. spelling member_item (member_value m)) ms
 
 -- the same over the members' values
-members_text : (ms : List Member) → texts ms ≡ flat_map (spelling member_item) (roster_value ms)
+pub members_text : (ms : List Member) → texts ms ≡ flat_map (spelling member_item) (member_values ms)
 members_text [] = refl
 members_text (m ∷ ms) = ap (λ x. spelling member_item (member_value m) ++ x) (members_text ms)
-
--- their texts after their count
-pub counted : {E : Type 0} (ms : List Member) (old first new : List ℕ) (r : Result (Unit {0}) E)
-    → first ≡ old ++ number_spelling 4 (length ms)
-    → Adds (texts ms) first r new → Adds (spelling roster_item (roster_value ms)) old r new
-counted ms old first new (Ok x) e h =
-    let same : length (roster_value ms) ≡ length ms = length-map ms member_value in
-    rw (same, ← members_text ms)
-    (h ∙ ap (λ a. a ++ texts ms) e ∙ append_assoc old (number_spelling 4 (length ms)) (texts ms))
-counted ms old first new (Err x) e h = (
-  number_spelling 4 (length ms) ++ h.0,
-  h.1 ∙ ap (λ a. a ++ h.0) e ∙ append_assoc old (number_spelling 4 (length ms)) h.0,
-)
 
 -- the member that is found has the number
 pub member_node : (ms : List Member) (node : ℕ) (m : Member) → member_of ms node ≡ Some m → m.node ≡ node
@@ -50,7 +38,7 @@ member_node (x ∷ ms) node m e = by_test (x.node == node) refl e (member_node m
 
 -- members without a fault rise
 pub no_fault_rises : (low : ℕ) (ms : List Member) → first_fault low ms ≡ None
-    → IsTrue (rises_above low (roster_value ms))
+    → IsTrue (rises_above low (member_values ms))
 no_fault_rises low [] e = refl
 no_fault_rises low (m ∷ ms) e =
     by_tests (is_node m.node) (is_height m.height) (nat_lt low m.node) (first_fault m.node ms) e
@@ -66,7 +54,7 @@ no_fault_rises low (m ∷ ms) e =
     by_tests false height above later e rest = absurd cc
 
 -- members that fit and rise have no fault
-pub rising_no_fault : (low : ℕ) (ms : List Member) → EachFits ms → IsTrue (rises_above low (roster_value ms))
+pub rising_no_fault : (low : ℕ) (ms : List Member) → EachFits ms → IsTrue (rises_above low (member_values ms))
     → first_fault low ms ≡ None
 rising_no_fault low [] fit rise = refl
 rising_no_fault low (m ∷ ms) fit rise =

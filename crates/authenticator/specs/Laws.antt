@@ -1,8 +1,11 @@
--- What holds of signatures: each law is the contract of a function in src/laws.rt.
-use Rattle.std.specs.Prelude.{◌↔◌, ℕ, IsTrue, List}
+-- What holds of signatures and rosters: each law is the contract of a function in src/laws.rt.
+use Rattle.std.specs.Prelude.{◌≡◌, ◌↔◌, ℕ, IsTrue, List, false}
+use Rattle.xdr.specs.Item.{array, spelling}
 use Rattle.merkle_keys.specs.Signing.{SignatureParts, Signed}
 use Rattle.authenticator.specs.Signed.{IsSignedIn}
 use Rattle.authenticator.specs.Signing.{is_signed, is_signed_in}
+use Rattle.authenticator.specs.Roster.{IsRoster, member_item, member_values, roster_item, roster_value, some_gaps}
+use Rattle.authenticator.specs.declared.roster.TheConstants.{MAX_MEMBERS}
 use Rattle.authenticator.specs.declared.member.Member.{Member}
 use Rattle.authenticator.specs.declared.authenticator.Authenticator.{Authenticator}
 
@@ -16,3 +19,9 @@ TestsAsItIsSigned =
 abbrev pub TestsAsItIsSignedIn : Type 0
 TestsAsItIsSignedIn =
     (ms : List Member) (a : Authenticator) → IsTrue (is_signed_in ms a) ↔ IsSignedIn ms a
+
+-- The text of a roster without a log of version 2 is the array of its members.
+abbrev pub RostersWithoutGaps : Type 0
+RostersWithoutGaps =
+    (ms : List Member) → IsRoster ms → some_gaps ms ≡ false
+    → spelling roster_item (roster_value ms) ≡ spelling (array MAX_MEMBERS member_item) (member_values ms)

@@ -1,9 +1,14 @@
-//! What holds of signatures.
+//! What holds of signatures and rosters.
 
-ghost use Rattle.authenticator.specs.Laws.{TestsAsItIsSigned, TestsAsItIsSignedIn};
+ghost use Rattle.authenticator.specs.Laws.{RostersWithoutGaps, TestsAsItIsSigned, TestsAsItIsSignedIn};
 
 /// The tests on signatures, which compute, are what it means that something is signed.
 pub fn tests_as_it_is_signed()
     ensures by_root { TestsAsItIsSigned }
     ensures in_roster { TestsAsItIsSignedIn }
+{}
+
+/// A roster whose logs are all of version 1 has a text in the first form, the array of its members.
+pub fn rosters_without_gaps()
+    ensures { RostersWithoutGaps }
 {}

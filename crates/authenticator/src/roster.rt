@@ -7,17 +7,20 @@ ghost use Rattle.xdr.specs.Texts.Text.{IsText, GivesText};
 ghost use Rattle.xdr.specs.Texts.TextFault.{is_no_text};
 ghost use Rattle.xdr.specs.declared.texts.text.TextFault.TheVariants.{NoMemory};
 ghost use Rattle.xdr.specs.Writing.{Writes, Adds};
-ghost use Rattle.authenticator.specs.Roster.{member_item, member_value, roster_item, roster_text};
-ghost use Rattle.authenticator.specs.Roster.{roster_value, rises_above, IsRoster, EachFits, member_fault};
-ghost use Rattle.authenticator.specs.Roster.{first_fault, roster_fault, member_of};
+ghost use Rattle.authenticator.specs.Roster.{member_item, member_value, member_values, roster_item};
+ghost use Rattle.authenticator.specs.Roster.{roster_text, roster_value, rises_above, IsRoster, EachFits};
+ghost use Rattle.authenticator.specs.Roster.{member_fault, first_fault, roster_fault, member_of};
+ghost use Rattle.authenticator.specs.Roster.{has_gaps, some_gaps, versioned_item, versioned_value};
+ghost use Rattle.authenticator.specs.Roster.{keeps_version};
 
-use crate::member::{MAX_NODE, Member, write_member};
+use crate::listed::ListedRoster;
+use crate::member::{LogVersion, MAX_NODE, Member, write_member, write_versioned};
 use crate::refusal::RosterFault;
 use merkle_keys::MAX_HEIGHT;
 use std::alloc::{AllocError, Global};
 use std::marker::Model;
-use xdr::texts::{FromText, TextFault, read_text};
-use xdr::{ReadFault, Reader, Writer, all_or_nothing, read_array};
+use xdr::texts::{TextFault, read_text};
+use xdr::{Writer, all_or_nothing};
 
 /// The members of a service: at most `MAX_MEMBERS`, by rising numbers from 1 to `MAX_NODE`, with heights
 /// from 1 to `merkle_keys::MAX_HEIGHT`.
@@ -41,30 +44,12 @@ impl Model for Roster {
 /// The most members of a roster.
 pub const MAX_MEMBERS: u32 = 64;
 
-// The members that a roster's text holds, before their order is tested.
-#[derive(Drop)]
-struct Members {
-    members: Vec<Member>,
-}
-
-impl<'a> FromText<'a> for Members {
-    ghost text = { roster_text };
-
-    ghost value = { λ m. map member_value m.members.items };
-
-    fn read_front(alloc: Global, reader: &mut Reader<'a>) -> Result<Members, ReadFault> {
-        let members = read_array(alloc, reader, MAX_MEMBERS)?;
-        Ok(Members { members })
-    }
-
-    fn has_text(&self) -> bool {
-        are_rising(&self.members)
-    }
-}
+/// The first word of a roster's text in its second form, in which each member has the version of its log.
+pub const SECOND_FORM: u32 = 0x8000_0002;
 
 /// Whether each number is above the one before.
-fn are_rising(members: &[Member]) -> bool
-    ensures { result ≡ rises_above 0 (roster_value members.now) }
+pub(crate) fn are_rising(members: &[Member]) -> bool
+    ensures { result ≡ rises_above 0 (member_values members.now) }
 {
     let mut low = 0;
     for member in members {
@@ -74,6 +59,18 @@ fn are_rising(members: &[Member]) -> bool
         low = member.node;
     }
     true
+}
+
+/// Whether some member's log is of version 2.
+pub(crate) fn has_gaps(members: &[Member]) -> bool
+    ensures { result ≡ some_gaps members.now }
+{
+    for member in members {
+        if member.log_version == LogVersion::Two {
+            return true;
+        }
+    }
+    false
 }
 
 /// What is wrong with a member after one with the number `low`.
@@ -150,7 +147,7 @@ impl Roster {
         }
     }
 
-    /// The roster whose text the bytes are. `NotAText` comes exactly where they are the text of none,
+    /// The roster whose text the bytes are, in either form. `NotAText` comes exactly where they are the text of none,
     /// `NoMemory` only where a growth was refused.
     pub fn read(alloc: Global, bytes: &[u8]) -> Result<Roster, TextFault>
         ensures exact { GivesText is_no_text roster_text roster_value bytes.now result }
@@ -158,11 +155,15 @@ impl Roster {
         ensures only { (v : Value roster_text.item) → IsText roster_text v bytes.now →
             MatchResult result (λ r. roster_value r ≡ v) (λ e. e ≡ NoMemory) }
     {
-        let Members { members } = read_text(alloc, bytes)?;
-        Ok(Roster { members })
+        let listed: ListedRoster = read_text(alloc, bytes)?;
+        match listed.into_roster() {
+            Some(roster) => Ok(roster),
+            None => Err(TextFault::NotAText),
+        }
     }
 
-    /// Appends the text. Where memory was refused the bytes are as they were.
+    /// Appends the text, which is in the second form exactly where some log is of version 2. Where memory was
+    /// refused the bytes are as they were.
     pub fn write(&self, out: &mut Vec<u8>) -> Result<(), AllocError>
         ensures fits { Fits roster_text.item (roster_value self.now) }
         ensures rising { IsTrue (roster_text.test (roster_value self.now)) }
@@ -188,6 +189,13 @@ impl Roster {
         same_members(&self.members, &other.members)
     }
 
+    /// Its members are a roster, as its type keeps it: does nothing, and tells a caller's proof.
+    pub fn is_roster(&self)
+        ensures { IsRoster self.now }
+    {
+        let _count = self.members.len();
+    }
+
     /// The members, by rising numbers.
     pub fn members(&self) -> &[Member]
         ensures { result.now ≡ self.now }
@@ -200,6 +208,16 @@ impl Roster {
         ensures { result ≡ member_of self.now node }
     {
         find_member(&self.members, node)
+    }
+
+    /// Whether a node's log is of this version. Of a node that is no member's it is true.
+    pub fn keeps_version(&self, node: u32, version: LogVersion) -> bool
+        ensures { result ≡ keeps_version self.now node version }
+    {
+        match self.member(node) {
+            Some(member) => member.log_version as u32 == version as u32,
+            None => true,
+        }
     }
 }
 
@@ -215,11 +233,16 @@ fn find_member(members: &[Member], node: u32) -> Option<Member>
     None
 }
 
-/// Appends the count and each member's text.
+/// Appends the first word, the count where that isn't it, and each member's text.
 fn add_members(members: &[Member], out: &mut Vec<u8>) -> Result<(), AllocError>
-    requires { Fits roster_item (roster_value members.now) }
+    requires { IsRoster members.now }
     ensures { Adds (spelling roster_item (roster_value members.now)) out.old.items result out.new.items }
 {
+    if has_gaps(members) {
+        out.put_u32(SECOND_FORM)?;
+        out.put_u32(members.len() as u32)?;
+        return add_each_versioned(members, out);
+    }
     out.put_u32(members.len() as u32)?;
     add_each(members, out)
 }
@@ -231,6 +254,17 @@ fn add_each(members: &[Member], out: &mut Vec<u8>) -> Result<(), AllocError>
 {
     for member in members {
         write_member(member, out)?;
+    }
+    Ok(())
+}
+
+/// Appends each member's text with the version of its log.
+fn add_each_versioned(members: &[Member], out: &mut Vec<u8>) -> Result<(), AllocError>
+    ensures { Adds (flat_map (λ m. spelling versioned_item (versioned_value m)) members.now)
+        out.old.items result out.new.items }
+{
+    for member in members {
+        write_versioned(member, out)?;
     }
     Ok(())
 }

@@ -1,8 +1,12 @@
 -- What is found in evidence tells whether it is accepted; and what closed showings show is found.
 -- Serves: examine, find_in_two, find_in_one, replay_finding.
-use Rattle.std.proofs.Common.{◌≡◌, ℕ, List, Option, Some, None, Result, Ok, Err, refl, sym, ap, ◌∙◌, inl, inr}
-use Rattle.std.specs.Prelude.{◌↔◌, IsTrue, IfOk}
+use Rattle.std.proofs.Common.{◌≡◌, ℕ, Bool, List, Option, Some, None, Result, Ok, Err, refl, sym, ap, subst}
+use Rattle.std.proofs.Common.{◌∙◌, inl, inr}
+use Rattle.std.specs.Prelude.{◌↔◌, IsFalse, IsTrue, IfOk}
+use Rattle.std.proofs.lemmas.Bool.{true≢false}
+use Rattle.authenticator.specs.declared.member.LogVersion.TheVariants.{One}
 use Rattle.authenticator.specs.declared.member.Member.{Member}
+use Rattle.authenticator.specs.Roster.{keeps_version}
 use Rattle.secure_log.specs.LogEntries.Chain.{zeros}
 use Rattle.secure_log.specs.Segment.{SegmentParts}
 use Rattle.replay.specs.replay_spec.Placed.{placed_in}
@@ -12,7 +16,7 @@ use Rattle.replay.specs.Verdicts.{IsOutcome}
 use Rattle.replay.specs.Faults.{fault_in}
 use Rattle.replay.specs.declared.outcome.Outcome.{Outcome}
 use Rattle.replay.specs.declared.outcome.Outcome.TheVariants as outcomes
-use Rattle.evidence_showings.specs.evidence_spec.Showing.{ShowingParts, IsClosedShowing, Shows}
+use Rattle.evidence_showings.specs.evidence_spec.Showing.{ShowingParts, Shows}
 use Rattle.evidence_showings.specs.evidence_spec.Evidence.{Charge, Fork, Replay, EvidenceParts, AcceptsFork}
 use Rattle.evidence_showings.specs.evidence_spec.Evidence.{AcceptsReplay, AcceptsCharge, Accepts}
 use Rattle.challenge.specs.declared.finding.Finding.{Finding}
@@ -25,39 +29,56 @@ use Rattle.challenge.specs.Findings.{Finds, FindsInFork, FindsInLog, FindsInChar
 
 -- ---- what lacks something isn't accepted
 
+-- what is false isn't true
+pub not_true : {b : Bool} → IsFalse b → ¬ IsTrue b
+not_true isnt is = true≢false (sym is ∙ isnt)
+
 -- a closed showing of a node lacks nothing
-pub showing_lacks : (ms : List Member) (node : ℕ) (s : ShowingParts) (reason : NotAccepted) → s.node ≡ node
-    → IsClosedShowing ms s → ShowingLacks ms node s reason → ⊥
-showing_lacks ms node s reasons.AnotherNode of_node closed lack = lack of_node
-showing_lacks ms node s reasons.NotClosed of_node closed lack =
-    lack.1 (record { first = closed.first; node = closed.node; number = closed.number; hash = closed.hash })
-showing_lacks ms node s reasons.NotSigned of_node closed lack = lack.2 closed.signed
-showing_lacks ms node s reasons.NotFromStart of_node closed lack = lack
-showing_lacks ms node s reasons.NoTwoHashes of_node closed lack = lack
-showing_lacks ms node s reasons.NoFault of_node closed lack = lack
+pub showing_lacks : (ms : List Member) (node : ℕ) (s : ShowingParts) (reason : NotAccepted)
+    → IsClosedOf ms node s → ShowingLacks ms node s reason → ⊥
+showing_lacks ms node s reasons.AnotherNode closed lack = lack closed.of_node
+showing_lacks ms node s reasons.OtherVersion closed lack = not_true lack.1 closed.version
+showing_lacks ms node s reasons.NotClosed closed lack =
+    let c = closed.closed in
+    lack.2 (record { first = c.first; node = c.node; number = c.number; hash = c.hash })
+showing_lacks ms node s reasons.NotSigned closed lack = lack.3 closed.closed.signed
+showing_lacks ms node s reasons.NotFromStart closed lack = lack
+showing_lacks ms node s reasons.NoTwoHashes closed lack = lack
+showing_lacks ms node s reasons.NoFault closed lack = lack
 
 -- a fork that is accepted lacks nothing
-pub fork_lacks : (ms : List Member) (node at : ℕ) (a : ShowingParts) (b : Option ShowingParts)
-    (reason : NotAccepted) → ForkLacks ms node at a b reason → AcceptsFork ms node at a b → ⊥
-fork_lacks ms node at a (Some b) reason (inl lack) accepted =
-    showing_lacks ms node a reason accepted.a_node accepted.a_closed lack
-fork_lacks ms node at a (Some b) reason (inr (closed, inl lack)) accepted =
-    showing_lacks ms node b reason accepted.b_node accepted.b_closed lack
-fork_lacks ms node at a (Some b) reason (inr (closed, inr lack)) accepted =
+fork_lacks : (ms : List Member) (node at : ℕ) (a : ShowingParts) (b : Option ShowingParts)
+    (reason : NotAccepted) → ForkLacks ms node at a b reason → IsTrue (keeps_version ms node One)
+    → AcceptsFork ms node at a b → ⊥
+fork_lacks ms node at a (Some b) reason (inl lack) version accepted =
+    showing_lacks ms node a reason
+    (record { of_node = accepted.a_node; version = version; closed = accepted.a_closed }) lack
+fork_lacks ms node at a (Some b) reason (inr (closed, inl lack)) version accepted =
+    showing_lacks ms node b reason
+    (record { of_node = accepted.b_node; version = version; closed = accepted.b_closed }) lack
+fork_lacks ms node at a (Some b) reason (inr (closed, inr lack)) version accepted =
     accepted.differ (lack.2 accepted.one accepted.other accepted.one_shown accepted.other_shown)
-fork_lacks ms node at a None reason (inl lack) accepted =
-    showing_lacks ms node a reason accepted.a_node accepted.closed lack
-fork_lacks ms node at a None reason (inr (closed, lack)) accepted =
+fork_lacks ms node at a None reason (inl lack) version accepted =
+    showing_lacks ms node a reason
+    (record { of_node = accepted.a_node; version = version; closed = accepted.closed }) lack
+fork_lacks ms node at a None reason (inr (closed, lack)) version accepted =
     accepted.differs (lack.1 accepted.hash accepted.shown)
+
+-- a log that is accepted is of version 1
+log_version : (ms : List Member) (node : ℕ) (s : SegmentParts) → AcceptsReplay ms node s
+    → IsTrue (keeps_version ms node One)
+log_version ms node s accepted =
+    subst (λ n. IsTrue (keeps_version ms n One)) accepted.of_node accepted.closed.version
 
 -- a log that is accepted lacks nothing
 pub log_lacks : (ms : List Member) (node : ℕ) (s : SegmentParts) (reason : NotAccepted)
     → LogLacks ms node s reason → AcceptsReplay ms node s → ⊥
 log_lacks ms node s reasons.AnotherNode lack accepted = lack accepted.of_node
+log_lacks ms node s reasons.OtherVersion lack accepted = not_true lack.1 (log_version ms node s accepted)
 log_lacks ms node s reasons.NotFromStart lack accepted =
-    lack.1 (record { first = accepted.first; opening = accepted.opening })
-log_lacks ms node s reasons.NotClosed lack accepted = lack.2 accepted.closed.ends
-log_lacks ms node s reasons.NotSigned lack accepted = lack.3 accepted.closed.signed
+    lack.2 (record { first = accepted.first; opening = accepted.opening })
+log_lacks ms node s reasons.NotClosed lack accepted = lack.3 accepted.closed.ends
+log_lacks ms node s reasons.NotSigned lack accepted = lack.4 accepted.closed.signed
 log_lacks ms node s reasons.NoTwoHashes lack accepted = lack
 log_lacks ms node s reasons.NoFault lack accepted =
     let same : Some lack.member ≡ Some accepted.member = sym lack.audited.is_member ∙ accepted.is_member in
@@ -68,28 +89,41 @@ log_lacks ms node s reasons.NoFault lack accepted =
 -- ---- what is found tells whether evidence is accepted
 
 -- a fork with two hashes is accepted
-pub fork_accepts : (ms : List Member) (node fork_at : ℕ) (a : ShowingParts) (b : Option ShowingParts) (at : ℕ)
+fork_accepts : (ms : List Member) (node fork_at : ℕ) (a : ShowingParts) (b : Option ShowingParts) (at : ℕ)
     (one other : List ℕ) → AcceptsHashes ms node fork_at a b at one other → AcceptsFork ms node fork_at a b
 fork_accepts ms node fork_at a (Some b) at one other h = h.1.accepted
 fork_accepts ms node fork_at a None at one other h = h.2.accepted
 
+-- something is accepted against a node, whose log is of version 1 where it is a member
+abbrev AcceptsVersion : List Member → (node : ℕ) → (accepts : Type 0) → Type 0
+AcceptsVersion ms node accepts = IsTrue (keeps_version ms node One) × accepts
+
+-- two hashes aren't found in a fork that lacks something
+pub fork_has_two : (ms : List Member) (node fork_at : ℕ) (a : ShowingParts) (b : Option ShowingParts) (at : ℕ)
+    (one other : List ℕ) (reason : NotAccepted) → ForkLacks ms node fork_at a b reason
+    → FindsInFork ms node fork_at a b (found.TwoHashes at one other) → ⊥
+fork_has_two ms node fork_at a b at one other reason lack h =
+    fork_lacks ms node fork_at a b reason lack h.0 (fork_accepts ms node fork_at a b at one other h.1)
+
 fork_exact : (ms : List Member) (node at : ℕ) (a : ShowingParts) (b : Option ShowingParts) (f : Finding)
-    → FindsInFork ms node at a b f → IsTrue (is_accepted f) ↔ AcceptsFork ms node at a b
+    → FindsInFork ms node at a b f
+    → IsTrue (is_accepted f) ↔ AcceptsVersion ms node (AcceptsFork ms node at a b)
 fork_exact ms node fork_at a b (found.TwoHashes at one other) h =
-    ((λ t. fork_accepts ms node fork_at a b at one other h), (λ accepted. refl))
+    ((λ t. (h.0, fork_accepts ms node fork_at a b at one other h.1)), (λ accepted. refl))
 fork_exact ms node fork_at a b (found.Fault fault number) h = absurd h
 fork_exact ms node fork_at a b (found.NotAccepted reason) h =
-    ((λ t. absurd cc), (λ accepted. absurd (fork_lacks ms node fork_at a b reason h accepted)))
+    ((λ t. absurd cc), (λ accepted. absurd (fork_lacks ms node fork_at a b reason h accepted.0 accepted.1)))
 
 log_exact : (ms : List Member) (node : ℕ) (s : SegmentParts) (f : Finding) → FindsInLog ms node s f
-    → IsTrue (is_accepted f) ↔ AcceptsReplay ms node s
+    → IsTrue (is_accepted f) ↔ AcceptsVersion ms node (AcceptsReplay ms node s)
 log_exact ms node s (found.TwoHashes at one other) h = absurd h
-log_exact ms node s (found.Fault fault number) h = ((λ t. h.accepted), (λ accepted. refl))
+log_exact ms node s (found.Fault fault number) h =
+    ((λ t. (log_version ms node s h.accepted, h.accepted)), (λ accepted. refl))
 log_exact ms node s (found.NotAccepted reason) h =
-    ((λ t. absurd cc), (λ accepted. absurd (log_lacks ms node s reason h accepted)))
+    ((λ t. absurd cc), (λ accepted. absurd (log_lacks ms node s reason h accepted.1)))
 
 charge_exact : (ms : List Member) (node : ℕ) (c : Charge) (f : Finding) → FindsInCharge ms node c f
-    → IsTrue (is_accepted f) ↔ AcceptsCharge ms node c
+    → IsTrue (is_accepted f) ↔ AcceptsVersion ms node (AcceptsCharge ms node c)
 charge_exact ms node (Fork fork) f h = fork_exact ms node fork.at fork.a fork.b f h
 charge_exact ms node (Replay s) f h = log_exact ms node s f h
 

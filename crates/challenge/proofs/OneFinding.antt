@@ -2,8 +2,10 @@
 -- hashes.
 -- Serves: one_finding.
 use Rattle.std.proofs.Common.{◌≡◌, ℕ, ◌+◌, ◌-◌, List, Option, Some, None, refl, sym, ap, ◌∙◌, inl, inr, arith}
-use Rattle.std.specs.Prelude.{◌⊎◌}
+use Rattle.std.specs.Prelude.{◌⊎◌, IsTrue}
+use Rattle.authenticator.specs.declared.member.LogVersion.TheVariants.{One}
 use Rattle.authenticator.specs.declared.member.Member.{Member}
+use Rattle.authenticator.specs.Roster.{keeps_version}
 use Rattle.authenticator.specs.Signed.{IsSignedIn}
 use Rattle.secure_log.specs.Segment.{SegmentParts}
 use Rattle.secure_log.specs.Segment as segments
@@ -25,7 +27,7 @@ use Rattle.challenge.specs.declared.finding.NotAccepted.TheVariants as reasons
 use Rattle.challenge.specs.Findings.{ShowingLacks, LacksAfterFirst, ForkLacks, IsFromStart, LogLacks}
 use Rattle.challenge.specs.Findings.{AcceptsHashes, AcceptsFault, FindsInFork, FindsInLog, FindsInCharge}
 use Rattle.challenge.specs.Findings.{OneFinding}
-use Rattle.challenge.proofs.Found.{showing_lacks, fork_lacks, log_lacks, fork_accepts}
+use Rattle.challenge.proofs.Found.{not_true, showing_lacks, log_lacks, fork_has_two}
 
 -- ---- what is lacking first
 
@@ -60,21 +62,27 @@ module _ (ms : List Member) (node : ℕ) (s : ShowingParts) where
   abbrev Ended : NotAccepted → Type 0
   Ended = First (Ends s) reasons.NotClosed Signed
 
+  abbrev OfVersion : NotAccepted → Type 0
+  OfVersion = First (IsTrue (keeps_version ms node One)) reasons.OtherVersion Ended
+
   abbrev OfNode : NotAccepted → Type 0
-  OfNode = First (s.node ≡ node) reasons.AnotherNode Ended
+  OfNode = First (s.node ≡ node) reasons.AnotherNode OfVersion
 
   in_order : (reason : NotAccepted) → ShowingLacks ms node s reason → OfNode reason
   in_order reasons.AnotherNode lack = inl (refl, lack)
-  in_order reasons.NotClosed lack = inr (lack.0, inl (refl, lack.1))
-  in_order reasons.NotSigned lack = inr (lack.0, inr (lack.1, inl (refl, lack.2)))
+  in_order reasons.OtherVersion lack = inr (lack.0, inl (refl, not_true lack.1))
+  in_order reasons.NotClosed lack = inr (lack.0, inr (lack.1, inl (refl, lack.2)))
+  in_order reasons.NotSigned lack = inr (lack.0, inr (lack.1, inr (lack.2, inl (refl, lack.3))))
   in_order reasons.NotFromStart lack = absurd lack
   in_order reasons.NoTwoHashes lack = absurd lack
   in_order reasons.NoFault lack = absurd lack
 
   order_is_one : IsOne OfNode
   order_is_one =
-      first_is_one (s.node ≡ node) reasons.AnotherNode Ended (first_is_one (Ends s) reasons.NotClosed Signed
-      (first_is_one (IsSignedIn ms s.closing) reasons.NotSigned (λ reason. ⊥) (λ one other x y. absurd x)))
+      first_is_one (s.node ≡ node) reasons.AnotherNode OfVersion
+      (first_is_one (IsTrue (keeps_version ms node One)) reasons.OtherVersion Ended
+      (first_is_one (Ends s) reasons.NotClosed Signed
+      (first_is_one (IsSignedIn ms s.closing) reasons.NotSigned (λ reason. ⊥) (λ one other x y. absurd x))))
 
   showing_lacks_one : IsOne (ShowingLacks ms node s)
   showing_lacks_one one other x y = order_is_one one other (in_order one x) (in_order other y)
@@ -85,16 +93,16 @@ module _ (ms : List Member) (node at : ℕ) (a : ShowingParts) where
   after_lacks_one : (b : Option ShowingParts) → IsOne (LacksAfterFirst ms node at a b)
   after_lacks_one (Some b) one other (inl x) (inl y) = showing_lacks_one ms node b one other x y
   after_lacks_one (Some b) one other (inl x) (inr y) =
-      absurd (showing_lacks ms node b one y.0.of_node y.0.closed x)
+      absurd (showing_lacks ms node b one y.0 x)
   after_lacks_one (Some b) one other (inr x) (inl y) =
-      absurd (showing_lacks ms node b other x.0.of_node x.0.closed y)
+      absurd (showing_lacks ms node b other x.0 y)
   after_lacks_one (Some b) one other (inr x) (inr y) = x.1 ∙ sym y.1
   after_lacks_one None one other x y = x.0 ∙ sym y.0
 
   fork_lacks_one : (b : Option ShowingParts) → IsOne (ForkLacks ms node at a b)
   fork_lacks_one b one other (inl x) (inl y) = showing_lacks_one ms node a one other x y
-  fork_lacks_one b one other (inl x) (inr y) = absurd (showing_lacks ms node a one y.0.of_node y.0.closed x)
-  fork_lacks_one b one other (inr x) (inl y) = absurd (showing_lacks ms node a other x.0.of_node x.0.closed y)
+  fork_lacks_one b one other (inl x) (inr y) = absurd (showing_lacks ms node a one y.0 x)
+  fork_lacks_one b one other (inr x) (inl y) = absurd (showing_lacks ms node a other x.0 y)
   fork_lacks_one b one other (inr x) (inr y) = after_lacks_one b one other x.1 y.1
 
 -- ---- in a log
@@ -109,26 +117,32 @@ module _ (ms : List Member) (node : ℕ) (s : SegmentParts) where
   abbrev StartedLog : NotAccepted → Type 0
   StartedLog = First (IsFromStart s) reasons.NotFromStart EndedLog
 
+  abbrev LogOfVersion : NotAccepted → Type 0
+  LogOfVersion = First (IsTrue (keeps_version ms node One)) reasons.OtherVersion StartedLog
+
   abbrev LogOfNode : NotAccepted → Type 0
-  LogOfNode = First (s.node ≡ node) reasons.AnotherNode StartedLog
+  LogOfNode = First (s.node ≡ node) reasons.AnotherNode LogOfVersion
 
   log_in_order : (reason : NotAccepted) → LogLacks ms node s reason → LogOfNode reason
   log_in_order reasons.AnotherNode lack = inl (refl, lack)
-  log_in_order reasons.NotFromStart lack = inr (lack.0, inl (refl, lack.1))
-  log_in_order reasons.NotClosed lack = inr (lack.0, inr (lack.1, inl (refl, lack.2)))
-  log_in_order reasons.NotSigned lack = inr (lack.0, inr (lack.1, inr (lack.2, inl (refl, lack.3))))
+  log_in_order reasons.OtherVersion lack = inr (lack.0, inl (refl, not_true lack.1))
+  log_in_order reasons.NotFromStart lack = inr (lack.0, inr (lack.1, inl (refl, lack.2)))
+  log_in_order reasons.NotClosed lack = inr (lack.0, inr (lack.1, inr (lack.2, inl (refl, lack.3))))
+  log_in_order reasons.NotSigned lack =
+      inr (lack.0, inr (lack.1, inr (lack.2, inr (lack.3, inl (refl, lack.4)))))
   log_in_order reasons.NoTwoHashes lack = absurd lack
   log_in_order reasons.NoFault lack =
-      let closed = lack.audited.closed in
-      inr (lack.audited.of_node, inr (lack.audited.start, inr (closed.ends, inr (closed.signed, refl))))
+      let a = lack.audited in
+      inr (a.of_node, inr (a.version, inr (a.start, inr (a.closed.ends, inr (a.closed.signed, refl)))))
 
   log_order_is_one : IsOne LogOfNode
   log_order_is_one =
-      first_is_one (s.node ≡ node) reasons.AnotherNode StartedLog
+      first_is_one (s.node ≡ node) reasons.AnotherNode LogOfVersion
+      (first_is_one (IsTrue (keeps_version ms node One)) reasons.OtherVersion StartedLog
       (first_is_one (IsFromStart s) reasons.NotFromStart EndedLog
       (first_is_one (segments.Ends s) reasons.NotClosed SignedLog
       (first_is_one (IsSignedIn ms s.closing) reasons.NotSigned (Only reasons.NoFault)
-      (only_is_one reasons.NoFault))))
+      (only_is_one reasons.NoFault)))))
 
   log_lacks_one : IsOne (LogLacks ms node s)
   log_lacks_one one other x y = log_order_is_one one other (log_in_order one x) (log_in_order other y)
@@ -208,13 +222,13 @@ one_in_fork : (ms : List Member) (node fork_at : ℕ) (a : ShowingParts) (b : Op
     (one other : Finding) → FindsInFork ms node fork_at a b one → FindsInFork ms node fork_at a b other
     → one ≡ other
 one_in_fork ms node fork_at a b (found.TwoHashes at h k) (found.TwoHashes at' h' k') x y =
-    same_hashes ms node fork_at a b at at' h h' k k' x y
+    same_hashes ms node fork_at a b at at' h h' k k' x.1 y.1
 one_in_fork ms node fork_at a b (found.TwoHashes at h k) (found.Fault fault number) x y = absurd y
 one_in_fork ms node fork_at a b (found.TwoHashes at h k) (found.NotAccepted reason) x y =
-    absurd (fork_lacks ms node fork_at a b reason y (fork_accepts ms node fork_at a b at h k x))
+    absurd (fork_has_two ms node fork_at a b at h k reason y x)
 one_in_fork ms node fork_at a b (found.Fault fault number) other x y = absurd x
 one_in_fork ms node fork_at a b (found.NotAccepted reason) (found.TwoHashes at h k) x y =
-    absurd (fork_lacks ms node fork_at a b reason x (fork_accepts ms node fork_at a b at h k y))
+    absurd (fork_has_two ms node fork_at a b at h k reason x y)
 one_in_fork ms node fork_at a b (found.NotAccepted reason) (found.Fault fault number) x y = absurd y
 one_in_fork ms node fork_at a b (found.NotAccepted reason) (found.NotAccepted reason') x y =
     ap found.NotAccepted (fork_lacks_one ms node fork_at a b reason reason' x y)

@@ -1,5 +1,5 @@
 -- What an item leaves is the end of the bytes.
--- Serves: front, members_in_front, fork_in_front, hash_in_front.
+-- Serves: front, fork_in_front, hash_in_front.
 use Rattle.std.proofs.Common.{◌≡◌, ℕ, ◌+◌, ◌-◌, ◌≤◌, List, ◌++◌, length, drop, Ok, ap, ◌∙◌, arith}
 use Rattle.std.proofs.lemmas.List.{length-append, drop_at}
 use Rattle.xdr.specs.Item.{Item, Value, IsBytes, spelling}

@@ -2,7 +2,7 @@
 use Rattle.std.specs.Prelude.{◌&&◌}
 use Rattle.xdr.specs.Item.{Item, Value, pair}
 use Rattle.xdr.specs.Texts.Text.{Text}
-use Rattle.authenticator.specs.Roster.{roster_item, roster_value, rises_above}
+use Rattle.authenticator.specs.Roster.{is_roster_value, roster_item, roster_value}
 use Rattle.evidence_showings.specs.evidence_spec.Evidence.{evidence_item, evidence_text, evidence_value}
 use Rattle.challenge.specs.declared.case.Case.{Case}
 
@@ -14,6 +14,6 @@ case_item = pair roster_item evidence_item
 abbrev pub case_value : Case → Value case_item
 case_value c = (roster_value c.roster, evidence_value c.evidence)
 
--- Its text: the members' numbers rise, evidence passes its own test, and nothing may follow.
+-- Its text: the roster and the evidence pass their own tests, and nothing may follow.
 abbrev pub case_text : Text
-case_text = record { item = case_item; test = λ v. evidence_text.test v.1 && rises_above 0 v.0 }
+case_text = record { item = case_item; test = λ v. evidence_text.test v.1 && is_roster_value v.0 }

@@ -1,7 +1,8 @@
 -- What is found in evidence.
-use Rattle.std.specs.Prelude.{◌≡◌, ◌⊎◌, ℕ, Bool, true, false, List, Option, Some, None}
+use Rattle.std.specs.Prelude.{◌≡◌, ◌⊎◌, ℕ, Bool, true, false, IsFalse, IsTrue, List, Option, Some, None}
+use Rattle.authenticator.specs.declared.member.LogVersion.TheVariants.{One}
 use Rattle.authenticator.specs.declared.member.Member.{Member}
-use Rattle.authenticator.specs.Roster.{member_of}
+use Rattle.authenticator.specs.Roster.{keeps_version, member_of}
 use Rattle.authenticator.specs.Signed.{IsSignedIn}
 use Rattle.secure_log.specs.LogEntries.Chain.{zeros}
 use Rattle.secure_log.specs.Segment.{SegmentParts, IsClosed}
@@ -62,18 +63,22 @@ pub record AcceptsFault (ms : List Member) (node : ℕ) (s : SegmentParts) (faul
 -- What is asked is asked in one order, and what is lacking first is lacking after all that is asked before
 -- it: one answer is right, and no other.
 
--- A showing is of a node, and closed.
+-- A showing is of a node, whose log is of version 1 where it is a member, and closed.
 pub record IsClosedOf (ms : List Member) (node : ℕ) (s : ShowingParts) : Type 0 where
   pub of_node : s.node ≡ node
+  pub version : IsTrue (keeps_version ms node One)
   pub closed : IsClosedShowing ms s
 
--- A showing lacks something first, by name: it is to be of the node, to end in its closing, and that is to be
--- signed.
+-- A showing lacks something first, by name: it is to be of the node, whose log is to be of version 1 where it
+-- is a member, to end in its closing, and that is to be signed.
 abbrev pub ShowingLacks : List Member → (node : ℕ) → ShowingParts → NotAccepted → Type 0
 ShowingLacks ms node s reasons.AnotherNode = ¬ (s.node ≡ node)
+ShowingLacks ms node s reasons.OtherVersion = (s.node ≡ node) × IsFalse (keeps_version ms node One)
 ShowingLacks ms node s reasons.NotFromStart = ⊥
-ShowingLacks ms node s reasons.NotClosed = (s.node ≡ node) × (¬ Ends s)
-ShowingLacks ms node s reasons.NotSigned = (s.node ≡ node) × Ends s × (¬ IsSignedIn ms s.closing)
+ShowingLacks ms node s reasons.NotClosed =
+    (s.node ≡ node) × IsTrue (keeps_version ms node One) × (¬ Ends s)
+ShowingLacks ms node s reasons.NotSigned =
+    (s.node ≡ node) × IsTrue (keeps_version ms node One) × Ends s × (¬ IsSignedIn ms s.closing)
 ShowingLacks ms node s reasons.NoTwoHashes = ⊥
 ShowingLacks ms node s reasons.NoFault = ⊥
 
@@ -101,9 +106,10 @@ pub record IsFromStart (s : SegmentParts) : Type 0 where
   pub first : s.first ≡ 1
   pub opening : s.opening ≡ zeros
 
--- A log is of a member, from its first entry on, and closed.
+-- A log is of a member, of version 1, from its first entry on, and closed.
 pub record IsAudited (ms : List Member) (node : ℕ) (s : SegmentParts) (m : Member) : Type 0 where
   pub of_node : s.node ≡ node
+  pub version : IsTrue (keeps_version ms node One)
   pub start : IsFromStart s
   pub closed : IsClosed ms s
   pub is_member : member_of ms node ≡ Some m
@@ -115,23 +121,28 @@ pub record HasNoFault (ms : List Member) (node : ℕ) (s : SegmentParts) : Type 
   pub none : (fault : spec.ReplayFault) (number : ℕ)
       → ¬ (verdict_of ms (opening_of member) (placed_in s) ≡ Fault fault number)
 
--- A log lacks something first, by name: it is to be of the node, from its first entry on, to end in its
--- closing, that is to be signed, and a replay is to find a fault.
+-- A log lacks something first, by name: it is to be of the node, whose log is to be of version 1 where it is a
+-- member, from its first entry on, to end in its closing, that is to be signed, and a replay is to find a
+-- fault.
 abbrev pub LogLacks : List Member → (node : ℕ) → SegmentParts → NotAccepted → Type 0
 LogLacks ms node s reasons.AnotherNode = ¬ (s.node ≡ node)
-LogLacks ms node s reasons.NotFromStart = (s.node ≡ node) × (¬ IsFromStart s)
-LogLacks ms node s reasons.NotClosed = (s.node ≡ node) × IsFromStart s × (¬ segments.Ends s)
+LogLacks ms node s reasons.OtherVersion = (s.node ≡ node) × IsFalse (keeps_version ms node One)
+LogLacks ms node s reasons.NotFromStart =
+    (s.node ≡ node) × IsTrue (keeps_version ms node One) × (¬ IsFromStart s)
+LogLacks ms node s reasons.NotClosed =
+    (s.node ≡ node) × IsTrue (keeps_version ms node One) × IsFromStart s × (¬ segments.Ends s)
 LogLacks ms node s reasons.NotSigned =
-    (s.node ≡ node) × IsFromStart s × segments.Ends s × (¬ IsSignedIn ms s.closing)
+    (s.node ≡ node) × IsTrue (keeps_version ms node One) × IsFromStart s × segments.Ends s
+    × (¬ IsSignedIn ms s.closing)
 LogLacks ms node s reasons.NoTwoHashes = ⊥
 LogLacks ms node s reasons.NoFault = HasNoFault ms node s
 
 -- ---- findings
 
--- what is found in a fork
+-- what is found in a fork: two hashes alone of a node whose log is of version 1, where it is a member
 abbrev pub FindsInFork : List Member → (node at : ℕ) → ShowingParts → Option ShowingParts → Finding → Type 0
 FindsInFork ms node fork_at a b (found.TwoHashes at one other) =
-    AcceptsHashes ms node fork_at a b at one other
+    IsTrue (keeps_version ms node One) × AcceptsHashes ms node fork_at a b at one other
 FindsInFork ms node fork_at a b (found.Fault fault number) = ⊥
 FindsInFork ms node fork_at a b (found.NotAccepted reason) = ForkLacks ms node fork_at a b reason
 

@@ -12,7 +12,7 @@ ghost use Rattle.challenge.specs.declared.fault.EvidenceFault.TheVariants.{NoMem
 
 use crate::evidence::Evidence;
 use crate::fault::EvidenceFault;
-use crate::items::take_members;
+use crate::items::take_roster;
 use crate::read::evidence_of;
 use crate::source::Source;
 use authenticator::Roster;
@@ -47,8 +47,8 @@ fn case_of(alloc: Global, mut source: Source) -> Result<Case, EvidenceFault>
     ensures { GivesText is_garbage case_text case_value source result }
 {
     are_bytes(source.rest());
-    let members = take_members(alloc, &mut source)?;
-    let Ok(roster) = Roster::new(members) else {
+    let listed = take_roster(alloc, &mut source)?;
+    let Some(roster) = listed.into_roster() else {
         return Err(EvidenceFault::Garbage);
     };
     let evidence = evidence_of(alloc, source)?;

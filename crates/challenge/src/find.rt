@@ -9,7 +9,7 @@ ghost use Rattle.challenge.specs.Findings.{finding_in, is_accepted};
 
 use crate::evidence::{AuditedLog, Charge, Evidence, Fork};
 use crate::finding::{Finding, NotAccepted};
-use authenticator::{Member, Number, Roster, is_signed_by};
+use authenticator::{LogVersion, Member, Number, Roster, is_signed_by};
 use evidence_showings::{Showing, is_signed_in};
 use replay::{Outcome, opening_state, replay_outcome};
 use secure_log::chain_fits;
@@ -100,6 +100,9 @@ fn find_lack(roster: &Roster, node: u32, showing: &Showing) -> Option<NotAccepte
     if showing.node() != node {
         return Some(NotAccepted::AnotherNode);
     }
+    if !roster.keeps_version(node, LogVersion::One) {
+        return Some(NotAccepted::OtherVersion);
+    }
     if !showing.ends() {
         return Some(NotAccepted::NotClosed);
     }
@@ -146,6 +149,9 @@ fn audited_member(roster: &Roster, node: u32, log: &AuditedLog) -> Result<Member
 {
     if log.node() != node {
         return Err(NotAccepted::AnotherNode);
+    }
+    if !roster.keeps_version(log.node(), LogVersion::One) {
+        return Err(NotAccepted::OtherVersion);
     }
     if !is_from_start(log) {
         return Err(NotAccepted::NotFromStart);

@@ -26,6 +26,9 @@ pub enum NotAccepted {
     /// A showing or the log is of another node than the evidence.
     #[error("what is shown is of another node")]
     AnotherNode,
+    /// The roster has the node, and its log is of another version than the evidence.
+    #[error("the evidence is of another log version than the node's")]
+    OtherVersion,
     /// The log doesn't begin with the first entry, after 32 zero bytes.
     #[error("the log is not shown from its first entry on")]
     NotFromStart,

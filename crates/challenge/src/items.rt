@@ -4,7 +4,7 @@ ghost use Rattle.std.specs.Prelude.{map, option_map};
 ghost use Rattle.xdr.specs.Item.{array, fixed, optional, word};
 ghost use Rattle.xdr.specs.Reading.{GivesUnless};
 ghost use Rattle.xdr.specs.ReadFault.{xdr_fault};
-ghost use Rattle.authenticator.specs.Roster.{roster_item, roster_value};
+ghost use Rattle.authenticator.specs.Roster.{listed_value, roster_item};
 ghost use Rattle.challenge.specs.Charges.{fork_in};
 ghost use Rattle.evidence_showings.specs.evidence_spec.Showing.{showing_item, showing_value};
 ghost use Rattle.evidence_showings.specs.evidence_spec.Evidence.{MAX_AUDITED, fork_item, fork_value};
@@ -15,11 +15,11 @@ ghost use Rattle.challenge.specs.Taking.{LeavesOf};
 
 use crate::evidence::Fork;
 use crate::source::Source;
-use authenticator::{Authenticator, MAX_MEMBERS, Member, Number};
+use authenticator::{Authenticator, ListedRoster, Number};
 use evidence_showings::{MAX_AUDITED, Showing};
 use secure_log::log_entries::Entry;
 use std::alloc::Global;
-use xdr::{FromXdr, ReadFault, Reader, XdrFault, read_array};
+use xdr::{FromXdr, ReadFault, Reader, XdrFault};
 
 /// The item in front of some bytes, and how many are left after it.
 fn front<'a, T: FromXdr<'a>>(alloc: Global, bytes: &'a [u8]) -> Result<(T, usize), ReadFault>
@@ -28,15 +28,6 @@ fn front<'a, T: FromXdr<'a>>(alloc: Global, bytes: &'a [u8]) -> Result<(T, usize
     let mut reader = Reader::new(bytes);
     let item = T::read(alloc, &mut reader)?;
     Ok((item, reader.rest().len()))
-}
-
-/// The members of a roster in front of some bytes, and how many bytes are left after them.
-fn members_in_front(alloc: Global, bytes: &[u8]) -> Result<(Vec<Member>, usize), ReadFault>
-    ensures { LeavesOf xdr_fault roster_item (λ x. roster_value x.0.items) (λ x. x.1) bytes.now result }
-{
-    let mut reader = Reader::new(bytes);
-    let members = read_array(alloc, &mut reader, MAX_MEMBERS)?;
-    Ok((members, reader.rest().len()))
 }
 
 /// A fork. After an `Err` the reader may stand within it.
@@ -79,13 +70,13 @@ fn hash_in_front(bytes: &[u8]) -> Result<([u8; 32], usize), ReadFault>
     Ok((hash, reader.rest().len()))
 }
 
-/// Takes a roster's members.
-pub(crate) fn take_members(alloc: Global, source: &mut Source) -> Result<Vec<Member>, ReadFault>
-    ensures { GivesUnless xdr_fault roster_item (λ v. roster_value v.items) source.old result source.new }
+/// Takes a roster in either form.
+pub(crate) fn take_roster(alloc: Global, source: &mut Source) -> Result<ListedRoster, ReadFault>
+    ensures { GivesUnless xdr_fault roster_item listed_value source.old result source.new }
 {
-    let (members, left) = members_in_front(alloc, source.rest())?;
+    let (listed, left): (ListedRoster, usize) = front(alloc, source.rest())?;
     source.keep(left);
-    Ok(members)
+    Ok(listed)
 }
 
 /// Takes a word.

@@ -2,7 +2,8 @@
 -- Serves: may_accuse, may_hold.
 use Rattle.std.proofs.Common.{◌≡◌, ◌∙◌, ℕ, zero, suc, ◌+◌, ◌*◌, ◌<◌, ◌≤◌, Bool, true, false, cond, eqb, ◌||◌}
 use Rattle.std.proofs.Common.{ltb, List}
-use Rattle.std.proofs.Common.{[], ◌∷◌, ◌++◌, length, drop, Ok, Err, Some, None, refl, sym, ap, arith}
+use Rattle.std.proofs.Common.{[], ◌∷◌, ◌++◌, ◌==◌, length, drop, Ok, Err, Some, None, refl, sym, ap, ap₂}
+use Rattle.std.proofs.Common.{subst, arith}
 use Rattle.std.specs.Prelude.{Option}
 use Rattle.std.proofs.lemmas.Bool.{ltb-false, le-ltb}
 use Rattle.std.proofs.lemmas.List.{length-append, length-drop, drop-drop, drop-append-le}
@@ -13,12 +14,15 @@ use Rattle.xdr.specs.Item.{Item, choice, pair, word_where, Value}
 use Rattle.xdr.specs.Reading.{Read, ◌>>=◌, number_at, items_at, read_at}
 use Rattle.xdr.specs.Texts.Text.{Text, text_at, whole}
 use Rattle.xdr.proofs.Front.{bind_ok, guard_ok, guard_true, ok_is}
-use Rattle.authenticator.specs.Roster.{member_item, roster_item, roster_text, is_node, is_kind, is_height}
+use Rattle.authenticator.specs.declared.roster.TheConstants.{SECOND_FORM}
+use Rattle.authenticator.specs.Roster.{member_item, members_item, roster_item, roster_text, versioned_item}
+use Rattle.authenticator.specs.Roster.{is_node, is_kind, is_height, is_log, is_roster_word}
 use Rattle.challenge.specs.evidence_spec.Evidence.{is_charge, charge_item, evidence_item}
 use Rattle.challenge.specs.Cases.{case_item, case_text}
 use Rattle.console.specs.Checking.{HoldsNone}
-use Rattle.console.specs.Contents.{longest_case, IsWordAt}
-use Rattle.console.proofs.Lengths.{TakesJust, number_just, tested_just, fixed_just, roster_up, case_up}
+use Rattle.console.specs.Contents.{longest_case, count_place, member_size, IsWordAt}
+use Rattle.console.proofs.Lengths.{TakesJust, number_just, tested_just, fixed_just, few_members, roster_up}
+use Rattle.console.proofs.Lengths.{case_up}
 
 -- a number is the same with more bytes after it
 pub number_more : (len : ℕ) (bytes more : List ℕ) (x : ℕ × List ℕ) → number_at len bytes ≡ Ok x
@@ -87,6 +91,9 @@ member_just =
     just_pair 4 40 (just_word is_node) (just_pair 4 36 (just_word is_kind)
     (just_pair 32 4 (record { takes = fixed_just 32 }) (just_word is_height)))
 
+versioned_just : IsJust 48 versioned_item
+versioned_just = just_pair 44 4 member_just (just_word is_log)
+
 -- ---- what is left of a text is nothing
 
 -- where a value was read as a whole, the reading left nothing
@@ -104,34 +111,88 @@ text_read t bytes v e = whole_read t.test (read_at t.item bytes) v e
 
 -- ---- rosters
 
--- A roster was read: its first word is the count of its members, 64 at most, which have 44 bytes each.
-pub record OfRoster (bytes rest : List ℕ) : Type 0 where
-  -- the count of its members
+-- So many members stand in front of bytes, 64 at most, which have so many bytes each. Their count stands at a
+-- place just before them.
+pub record Counted (bytes rest : List ℕ) (place size : ℕ) : Type 0 where
+  -- the count of the members
   pub count : ℕ
-  -- it is the first word
-  pub counted : number_at 4 bytes ≡ Ok (count, drop 4 bytes)
+  -- what stands after it
+  pub after : List ℕ
+  -- it is the word at its place
+  pub counted : number_at 4 (drop place bytes) ≡ Ok (count, after)
   -- it is 64 at most
   pub few : count ≤ 64
   -- the bytes hold that word and all members
-  pub long : 4 + count * 44 ≤ length bytes
+  pub long : place + 4 + count * size ≤ length bytes
   -- what stands after the members is left
-  pub left : rest ≡ drop (4 + count * 44) bytes
+  pub left : rest ≡ drop (place + 4 + count * size) bytes
+
+-- A roster was read: its first word says in which form.
+pub record OfRoster (bytes rest : List ℕ) : Type 0 where
+  -- its first word
+  pub first : ℕ
+  -- what stands after it
+  pub after : List ℕ
+  -- it is the first word of the bytes
+  pub begins : number_at 4 bytes ≡ Ok (first, after)
+  -- the members of that form
+  pub members : Counted bytes rest (count_place first) (member_size first)
+
+-- members that stand from a place on
+counted_members : {a : Item} (size : ℕ) → IsJust size a → (place count : ℕ) (bytes after : List ℕ)
+    (x : List (Value a) × List ℕ) → count ≤ 64 → place + 4 ≤ length bytes → after ≡ drop (place + 4) bytes
+    → number_at 4 (drop place bytes) ≡ Ok (count, after) → items_at (read_at a) count after ≡ Ok x
+    → Counted bytes x.1 place size
+counted_members {a} size just place count bytes after x few inside same counted e =
+    let members = items_just (read_at a) size just.takes count after x e in
+    record {
+      count = count;
+      after = after;
+      counted = counted;
+      few = few;
+      long = omega (arith, inside, members.0, ap length same, length-drop (place + 4) bytes);
+      left = members.1 ∙ ap (drop (count * size)) same ∙ drop-drop (count * size) (place + 4) bytes;
+    }
+
+-- so it is in each form
+members_read : (second : Bool) (first : ℕ) (bytes after : List ℕ) (x : Value (members_item second first) × List ℕ)
+    → is_roster_word first ≡ true → (first == SECOND_FORM) ≡ second → 4 ≤ length bytes → after ≡ drop 4 bytes
+    → number_at 4 bytes ≡ Ok (first, after) → read_at (members_item second first) after ≡ Ok x
+    → Counted bytes x.1 (cond second 4 0) (cond second 48 44)
+members_read true first bytes after x known form inside same begins e =
+    let p = bind_ok (number_at 4 after)
+    (λ count. cond (ltb 64 count.0) (Err TooLong) (items_at (read_at versioned_item) count.0 count.1)) x e in
+    let g = guard_ok (ltb 64 p.0.0) TooLong (items_at (read_at versioned_item) p.0.0 p.0.1) x p.2 in
+    let second = number_just 4 after p.0 p.1 in
+    counted_members 48 versioned_just 4 p.0.0 bytes p.0.1 x (ltb-false _ _ g.0)
+    (omega (arith, inside, second.0, ap length same, length-drop 4 bytes))
+    (second.1 ∙ ap (drop 4) same ∙ drop-drop 4 4 bytes)
+    (ap (number_at 4) (sym same) ∙ p.1) g.1
+members_read false first bytes after x known form inside same begins e =
+    counted_members 44 member_just 0 first bytes after x (few_members first known form) inside same begins e
 
 -- so it is with each roster that is read from the front of bytes
 pub roster_read : (bytes : List ℕ) (x : Value roster_item × List ℕ) → read_at roster_item bytes ≡ Ok x
     → OfRoster bytes x.1
 roster_read bytes x e =
     let p = bind_ok (number_at 4 bytes)
-    (λ count. cond (ltb 64 count.0) (Err TooLong) (items_at (read_at member_item) count.0 count.1)) x e in
-    let g = guard_ok (ltb 64 p.0.0) TooLong (items_at (read_at member_item) p.0.0 p.0.1) x p.2 in
-    let first = number_just 4 bytes p.0 p.1 in
-    let members = items_just (read_at member_item) 44 member_just.takes p.0.0 p.0.1 x g.1 in
+    (λ k. cond (is_roster_word k.0)
+    (read_at (members_item (k.0 == SECOND_FORM) k.0) k.1 >>= λ v. Ok ((k.0, v.0), v.1)) (Err BadEnum)) x e in
+    let first : ℕ = p.0.0 in
+    let g = guard_true (is_roster_word first) BadEnum
+    (read_at (members_item (first == SECOND_FORM) first) p.0.1 >>= λ v. Ok ((first, v.0), v.1)) x p.2 in
+    let q = bind_ok (read_at (members_item (first == SECOND_FORM) first) p.0.1) (λ v. Ok ((first, v.0), v.1)) x
+    g.1 in
+    let left : q.0.1 ≡ x.1 =
+    ap (λ (r : Value roster_item × List ℕ). r.1) (ok_is ((first, q.0.0), q.0.1) x q.2) in
+    let front = number_just 4 bytes p.0 p.1 in
     record {
-      count = p.0.0;
-      counted = p.1 ∙ ap (λ (r : List ℕ). Ok (p.0.0, r)) first.1;
-      few = ltb-false _ _ g.0;
-      long = omega (arith, first.0, members.0, ap length first.1, length-drop 4 bytes);
-      left = members.1 ∙ ap (drop (p.0.0 * 44)) first.1 ∙ drop-drop (p.0.0 * 44) 4 bytes;
+      first = first;
+      after = p.0.1;
+      begins = p.1;
+      members =
+          subst (λ rest. Counted bytes rest (count_place first) (member_size first)) left
+          (members_read (first == SECOND_FORM) first bytes p.0.1 q.0 g.0 refl front.0 front.1 p.1 q.1);
     }
 
 -- ---- bytes that hold nothing
@@ -142,22 +203,22 @@ none_unless None never = refl
 
 -- a roster's text has no more bytes than its members
 roster_of_text : (bytes : List ℕ) (v : Value roster_item) → text_at roster_text bytes ≡ Some v
-    → (count : ℕ) × (number_at 4 bytes ≡ Ok (count, drop 4 bytes)) × (count ≤ 64)
-    × (length bytes ≡ 4 + count * 44)
+    → (r : OfRoster bytes []) × (length bytes ≡ count_place r.first + 4 + r.members.count * member_size r.first)
 roster_of_text bytes v e =
     let t = text_read roster_text bytes v e in
     let r = roster_read bytes (t.0, []) t.1 in
-    (r.count, r.counted, r.few, omega (arith, r.long, ap length r.left, length-drop (4 + r.count * 44) bytes))
+    let m = r.members in
+    let end : ℕ = count_place r.first + 4 + m.count * member_size r.first in
+    (r, omega (arith, m.long, ap length m.left, length-drop end bytes))
 
 -- the words that a case's text has
 record OfCase (bytes : List ℕ) : Type 0 where
-  count : ℕ
-  counted : number_at 4 bytes ≡ Ok (count, drop 4 bytes)
-  few : count ≤ 64
-  long : 4 + count * 44 ≤ length bytes
+  left : List ℕ
+  roster : OfRoster bytes left
   charge : ℕ
   rest : List ℕ
-  charged : number_at 4 (drop (8 + count * 44) bytes) ≡ Ok (charge, rest)
+  charged : number_at 4 (drop (count_place roster.first + roster.members.count * member_size roster.first + 8) bytes)
+      ≡ Ok (charge, rest)
   known : is_charge charge ≡ true
 
 case_of_text : (bytes : List ℕ) (v : Value case_item) → text_at case_text bytes ≡ Some v → OfCase bytes
@@ -176,16 +237,16 @@ case_of_text bytes v e =
     let g = guard_true (is_charge k.0.0) BadEnum
     (read_at (charge_item k.0.0) k.0.1 >>= λ w. Ok ((k.0.0, w.0), w.1)) c.0 k.2 in
     let after = (number_just 4 p.0.1 n.0 n.1).1 in
-    let at : drop 4 (drop (4 + r.count * 44) bytes) ≡ drop (8 + r.count * 44) bytes =
-    drop-drop 4 (4 + r.count * 44) bytes ∙ ap (λ i. drop i bytes) (omega arith) in
+    let place : ℕ = count_place r.first in
+    let members : ℕ = r.members.count * member_size r.first in
+    let at : drop 4 (drop (place + 4 + members) bytes) ≡ drop (place + members + 8) bytes =
+    drop-drop 4 (place + 4 + members) bytes ∙ ap (λ i. drop i bytes) (omega arith) in
     record {
-      count = r.count;
-      counted = r.counted;
-      few = r.few;
-      long = r.long;
+      left = p.0.1;
+      roster = r;
       charge = k.0.0;
       rest = k.0.1;
-      charged = ap (number_at 4) (sym (after ∙ ap (drop 4) r.left ∙ at)) ∙ k.1;
+      charged = ap (number_at 4) (sym (after ∙ ap (drop 4) r.members.left ∙ at)) ∙ k.1;
       known = g.0;
     }
 
@@ -198,35 +259,64 @@ word_more front more at n m rest is e =
     ∙ number_more 4 (drop at front) more (n, is.rest) is.word in
     ap (λ (p : ℕ × List ℕ). p.0) (ok_is (n, is.rest ++ more) (m, rest) (sym whole ∙ e))
 
+-- Bytes begin with a word that says where the count of members stands, and have that count.
+pub record BeginsWith (front : List ℕ) (first count : ℕ) : Type 0 where
+  -- the first word
+  pub begins : IsWordAt front 0 first
+  -- the count
+  pub counted : IsWordAt front (count_place first) count
+
+-- a roster in front of all bytes that begin so has that first word
+first_more : (front more rest : List ℕ) (first count : ℕ) → BeginsWith front first count
+    → (r : OfRoster (front ++ more) rest) → first ≡ r.first
+first_more front more rest first count b r = word_more front more 0 first r.first r.after b.begins r.begins
+
+-- and so many members
+count_more : (front more rest : List ℕ) (first count : ℕ) → BeginsWith front first count
+    → (r : OfRoster (front ++ more) rest) → count ≡ r.members.count
+count_more front more rest first count b r =
+    let at : count_place first ≡ count_place r.first =
+    ap count_place (first_more front more rest first count b r) in
+    word_more front more (count_place first) count r.members.count r.members.after b.counted
+    (ap (λ i. number_at 4 (drop i (front ++ more))) at ∙ r.members.counted)
+
+-- so the members end at one place
+end_more : (front more rest : List ℕ) (first count : ℕ) → BeginsWith front first count
+    → (r : OfRoster (front ++ more) rest)
+    → count_place first + count * member_size first
+    ≡ count_place r.first + r.members.count * member_size r.first
+end_more front more rest first count b r =
+    ap₂ (λ i n. count_place i + n * member_size i) (first_more front more rest first count b r)
+    (count_more front more rest first count b r)
+
 -- a count of more than 64 members
-pub too_many : (front more : List ℕ) (n : ℕ) → IsWordAt front 0 n → 64 < n → HoldsNone (front ++ more)
-too_many front more n is many = (
-  none_unless _ (λ v e.
-      let r = roster_of_text (front ++ more) v e in
-      let same = word_more front more 0 n r.0 (drop 4 (front ++ more)) is r.1 in
-      omega (arith, same, r.2, many)),
-  none_unless _ (λ v e.
-      let r = case_of_text (front ++ more) v e in
-      let same = word_more front more 0 n r.count (drop 4 (front ++ more)) is r.counted in
-      omega (arith, same, r.few, many)),
+pub too_many : (front more : List ℕ) (first count : ℕ) → BeginsWith front first count → 64 < count
+    → HoldsNone (front ++ more)
+too_many front more first count b many = (
+  none_unless _ (λ v e. more_than_few (roster_of_text (front ++ more) v e).0),
+  none_unless _ (λ v e. more_than_few (case_of_text (front ++ more) v e).roster),
 )
+  where
+    more_than_few : {rest : List ℕ} → OfRoster (front ++ more) rest → ⊥
+    more_than_few {rest} r =
+        omega (arith, count_more front more rest first count b r, r.members.few, many)
 
 -- a charge that is none, after the members and the node
-pub no_charge : (front more : List ℕ) (n charge : ℕ) → IsWordAt front 0 n → IsWordAt front (n * 44 + 8) charge
+pub no_charge : (front more : List ℕ) (first count charge : ℕ) → BeginsWith front first count
+    → IsWordAt front (count_place first + count * member_size first + 8) charge
     → eqb charge 1 ≡ false → eqb charge 2 ≡ false → HoldsNone (front ++ more)
-no_charge front more n charge is there one two = (
+no_charge front more first count charge b there one two = (
   none_unless _ (λ v e.
       let r = roster_of_text (front ++ more) v e in
-      let same = word_more front more 0 n r.0 (drop 4 (front ++ more)) is r.1 in
-      let there : n * 44 + 8 ≤ length front = there.inside in
-      let fewer : n * 44 ≡ r.0 * 44 = ap (λ k. k * 44) same in
-      omega (arith, fewer, r.3, there, length-append front more)),
+      let same = end_more front more [] first count b r.0 in
+      let there : count_place first + count * member_size first + 8 ≤ length front = there.inside in
+      omega (arith, same, r.1, there, length-append front more)),
   none_unless _ (λ v e.
       let r = case_of_text (front ++ more) v e in
-      let same = word_more front more 0 n r.count (drop 4 (front ++ more)) is r.counted in
-      let at : 8 + r.count * 44 ≡ n * 44 + 8 = ap (λ k. 8 + k * 44) (sym same) ∙ omega arith in
-      let charged = ap (λ i. number_at 4 (drop i (front ++ more))) (sym at) ∙ r.charged in
-      let its = word_more front more (n * 44 + 8) charge r.charge r.rest there charged in
+      let end : ℕ = count_place first + count * member_size first in
+      let at = ap (λ i. i + 8) (end_more front more r.left first count b r.roster) in
+      let charged = ap (λ i. number_at 4 (drop i (front ++ more))) at ∙ r.charged in
+      let its = word_more front more (end + 8) charge r.charge r.rest there charged in
       let known : is_charge charge ≡ true = ap is_charge its ∙ r.known in
       absurd (true_is_not_false (sym known ∙ neither (eqb charge 1) (eqb charge 2) one two))),
 )

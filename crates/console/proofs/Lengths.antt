@@ -3,8 +3,8 @@
 use Rattle.std.proofs.Common.{◌≡◌, ◌∙◌, ℕ, zero, suc, ◌+◌, ◌-◌, ◌*◌, ◌/◌, ◌%◌, ◌≤◌, Bool, true, false, cond}
 use Rattle.std.proofs.Common.{ltb}
 use Rattle.std.proofs.Common.{eqb, List, [], ◌∷◌, length, take, drop, Ok, Err, Some, None, sym, ap, arith}
-use Rattle.std.proofs.Common.{lit≤}
-use Rattle.std.specs.Prelude.{Option}
+use Rattle.std.proofs.Common.{lit≤, leb, leb-true, refl, ◌==◌}
+use Rattle.std.specs.Prelude.{Option, ◌||◌}
 use Rattle.std.specs.List.{list_all}
 use Rattle.std.proofs.lemmas.Bool.{ltb-false}
 use Rattle.std.proofs.lemmas.List.{length-drop, drop-drop}
@@ -23,7 +23,9 @@ use Rattle.secure_log.specs.LogEntries.Entry.{entry_item, is_kind, kind_item, se
 use Rattle.secure_log.specs.LogEntries.Entry.{clock_item, check_item}
 use Rattle.secure_log.specs.Segment.{bounded_item}
 use Rattle.authenticator.specs.Roster as rosters
-use Rattle.authenticator.specs.Roster.{member_item, roster_item, is_node, is_height}
+use Rattle.authenticator.specs.Roster.{member_item, members_item, roster_item, versioned_item, is_node}
+use Rattle.authenticator.specs.Roster.{is_height, is_log, is_roster_word}
+use Rattle.authenticator.specs.declared.roster.TheConstants.{SECOND_FORM}
 use Rattle.challenge.specs.evidence_spec.Showing.{link_item, showing_item}
 use Rattle.challenge.specs.evidence_spec.Evidence.{fork_item, is_charge, charge_item, evidence_item}
 use Rattle.challenge.specs.Cases.{case_item}
@@ -151,7 +153,7 @@ array_up max a n up bytes x e =
     omega (arith, first, items_up (read_at a) n up p.0.0 p.0.1 x g.1, few)
 
 choice_up : (known : ℕ → Bool) (body : ℕ → Item) (n : ℕ)
-    → ((k : ℕ) → TakesUpTo n (read_at (body k)))
+    → ((k : ℕ) → known k ≡ true → TakesUpTo n (read_at (body k)))
     → TakesUpTo (4 + n) (read_at (choice known body))
 choice_up known body n up bytes x e =
     let p = bind_ok (number_at 4 bytes)
@@ -161,7 +163,7 @@ choice_up known body n up bytes x e =
     let q = bind_ok (read_at (body p.0.0) p.0.1) (λ v. Ok ((p.0.0, v.0), v.1)) x g.1 in
     let same = ap (λ (r : Value (choice known body) × List ℕ). length r.1)
     (ok_is ((p.0.0, q.0.0), q.0.1) x q.2) in
-    omega (arith, at_most 4 (number_at 4) (number_just 4) bytes p.0 p.1, up p.0.0 p.0.1 q.0 q.1, same)
+    omega (arith, at_most 4 (number_at 4) (number_just 4) bytes p.0 p.1, up p.0.0 g.0 p.0.1 q.0 q.1, same)
 
 wider : {A : Type 0} (m n : ℕ) (read : List ℕ → Read A) → m ≤ n → TakesUpTo m read → TakesUpTo n read
 wider m n read le up bytes x e = omega (arith, le, up bytes x e)
@@ -228,7 +230,8 @@ entry_up : IsWithin 29244 entry_item
 entry_up =
     record {
       takes =
-          choice_up is_kind kind_item 29240 (λ k. (kinds_up (eqb k 1) (eqb k 2) (eqb k 3) (eqb k 4)).takes);
+          choice_up is_kind kind_item 29240
+          (λ k known. (kinds_up (eqb k 1) (eqb k 2) (eqb k 3) (eqb k 4)).takes);
     }
 
 -- a segment of at most 65,536 entries takes 1,916,551,780 bytes at most
@@ -286,20 +289,45 @@ charge_up false = segment_up
 evidence_up : IsWithin 1916551788 evidence_item
 evidence_up =
     within_pair 4 1916551784 word_up
-    (record { takes = choice_up is_charge charge_item 1916551780 (λ n. (charge_up (eqb n 1)).takes) })
+    (record { takes = choice_up is_charge charge_item 1916551780 (λ n known. (charge_up (eqb n 1)).takes) })
+
+-- ---- rosters
+
+test_up : (test : ℕ → Bool) → IsWithin 4 (word_where test)
+test_up test = record { takes = at_most 4 (tested_at 4 test) (tested_just 4 test) }
 
 member_up : IsWithin 44 member_item
 member_up =
     within_pair 4 40 (test_up is_node) (within_pair 4 36 (test_up rosters.is_kind)
     (within_pair 32 4 hash_up (test_up is_height)))
+
+versioned_up : IsWithin 48 versioned_item
+versioned_up = within_pair 44 4 member_up (test_up is_log)
+
+-- in the first form the first word counts the members, 64 at most
+pub few_members : (n : ℕ) → is_roster_word n ≡ true → (n == SECOND_FORM) ≡ false → n ≤ 64
+few_members n known first = leb-true n 64 (left_one (leb n 64) (n == SECOND_FORM) known first)
   where
-    test_up : (test : ℕ → Bool) → IsWithin 4 (word_where test)
-    test_up test = record { takes = at_most 4 (tested_at 4 test) (tested_just 4 test) }
+    left_one : (a b : Bool) → (a || b) ≡ true → b ≡ false → a ≡ true
+    left_one true b either none = refl
+    left_one false b either none = absurd cc
 
--- a roster takes 2,820 bytes at most
-pub roster_up : IsWithin 2820 roster_item
-roster_up = within_array 64 44 member_up
+members_up : (second : Bool) (n : ℕ) → is_roster_word n ≡ true → (n == SECOND_FORM) ≡ second
+    → IsWithin 3076 (members_item second n)
+members_up true n known form = within_array 64 48 versioned_up
+members_up false n known form =
+    within (n * 44) 3076 (omega (arith, few_members n known form))
+    (record { takes = items_up (read_at member_item) 44 member_up.takes n })
 
--- a roster with evidence after it takes 1,916,554,608 bytes at most
-pub case_up : IsWithin 1916554608 case_item
-case_up = within_pair 2820 1916551788 roster_up evidence_up
+-- a roster takes 3,080 bytes at most
+pub roster_up : IsWithin 3080 roster_item
+roster_up =
+    record {
+      takes =
+          choice_up is_roster_word (λ n. members_item (n == SECOND_FORM) n) 3076
+          (λ n known. (members_up (n == SECOND_FORM) n known refl).takes);
+    }
+
+-- a roster with evidence after it takes 1,916,554,868 bytes at most
+pub case_up : IsWithin 1916554868 case_item
+case_up = within_pair 3080 1916551788 roster_up evidence_up

@@ -1,15 +1,24 @@
 -- What is read of a file.
-use Rattle.std.specs.Prelude.{◌≡◌, ◌≤◌, ℕ, List, length, drop, Ok}
+use Rattle.std.specs.Prelude.{◌≡◌, ◌==◌, ◌≤◌, ℕ, if◌then◌else◌, List, length, drop, Ok}
 use Rattle.xdr.specs.Reading.{number_at}
+use Rattle.authenticator.specs.declared.roster.TheConstants.{SECOND_FORM}
 use Rattle.console.specs.Checking.{HoldsNone}
 use Rattle.console.specs.declared.input.Contents.{Contents}
 use Rattle.console.specs.declared.input.Contents.TheVariants.{Whole, Front}
 
--- The most bytes of a file with evidence: 2,820 of a roster of 64 members, 8 of the node and the charge, and
--- 1,916,551,780 of a log of 65,536 entries. An entry has 29,244 bytes at most: a message received, with a
--- body of 12,288 bytes and a signature whose path has 16 hashes.
+-- The most bytes of a file with evidence: 3,080 of a roster of 64 members in its second form, 8 of the node
+-- and the charge, and 1,916,551,780 of a log of 65,536 entries. An entry has 29,244 bytes at most: a message
+-- received, with a body of 12,288 bytes and a signature whose path has 16 hashes.
 abbrev pub longest_case : ℕ
-longest_case = 1916554608
+longest_case = 1916554868
+
+-- where a roster's text has the count of its members, by its first word
+abbrev pub count_place : (first : ℕ) → ℕ
+count_place first = if first == SECOND_FORM then 4 else 0
+
+-- how many bytes each member has there
+abbrev pub member_size : (first : ℕ) → ℕ
+member_size first = if first == SECOND_FORM then 48 else 44
 
 -- the word at a place (RFC 4506, section 4.2)
 pub record IsWordAt (bytes : List ℕ) (at n : ℕ) : Type 0 where

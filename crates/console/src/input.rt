@@ -1,13 +1,13 @@
 //! Files as bytes.
 
-ghost use Rattle.std.specs.Prelude.{◌≡◌, ◌++◌, ℕ, List, IfErr, IfOk, IfSome, IsErrOf, OnOk, false};
+ghost use Rattle.std.specs.Prelude.{◌≡◌, ◌≤◌, ◌++◌, ℕ, List, IfErr, IfOk, IfSome, IsErrOf, OnOk, false};
 ghost use Rattle.rpc.specs.Records.Count.{Rises};
 ghost use Rattle.console.specs.Checking.{HoldsNone, IsRead};
-ghost use Rattle.console.specs.Contents.{IsContents, IsWordAt};
+ghost use Rattle.console.specs.Contents.{IsContents, IsWordAt, count_place, member_size};
 ghost use Rattle.console.specs.declared.fault.CheckFault.TheVariants.{NoMemory, Write};
 
 use crate::fault::CheckFault;
-use authenticator::MAX_MEMBERS;
+use authenticator::{MAX_MEMBERS, SECOND_FORM};
 use rpc::records::Counting;
 use std::alloc::Global;
 use std::io::Read;
@@ -20,10 +20,7 @@ const PIECE: usize = 8192;
 const HEAD: usize = 65_536;
 
 /// The most bytes of a file with evidence.
-const LONGEST: usize = 1_916_554_608;
-
-/// The bytes of a member in a roster's text.
-const MEMBER: usize = 44;
+const LONGEST: usize = 1_916_554_868;
 
 /// What was read of a file.
 #[derive(Drop)]
@@ -48,22 +45,44 @@ fn word_at(bytes: &[u8], at: usize) -> Option<u32>
     }
 }
 
-/// Whether a file whose roster has so many members may hold evidence, by the charge after it.
-fn may_accuse(front: &[u8], count: u32) -> bool
-    requires { IsWordAt front.now 0 count }
+/// Where a roster's text that begins with a word has the count of its members.
+fn count_place(first: u32) -> usize
+    ensures place { result ≡ count_place first }
+    ensures few { result ≤ 4 }
+{
+    if first == SECOND_FORM { 4 } else { 0 }
+}
+
+/// How many bytes each member has in a roster's text that begins with a word.
+fn member_size(first: u32) -> usize
+    ensures size { result ≡ member_size first }
+    ensures few { result ≤ 48 }
+{
+    if first == SECOND_FORM { 48 } else { 44 }
+}
+
+/// Whether a file that begins with a word may hold a roster or evidence, by the count of members and the
+/// charge after them.
+fn may_accuse(front: &[u8], first: u32) -> bool
+    requires { IsWordAt front.now 0 first }
     ensures { result ≡ false → (more : List ℕ) → HoldsNone (front.now ++ more) }
 {
+    let place = count_place(first);
+    let Some(count) = word_at(front, place) else {
+        return true;
+    };
     if count > MAX_MEMBERS {
         return false;
     }
-    match word_at(front, count as usize * MEMBER + 8) {
+    let members = count as usize * member_size(first);
+    match word_at(front, place + members + 8) {
         Some(charge) => charge == 1 || charge == 2,
         None => true,
     }
 }
 
 /// Whether a file that begins with these bytes may hold a roster or evidence, by how many they are, and, once
-/// the head of it is there, by the count of members and the charge.
+/// the head of it is there, by the form of its roster, the count of members and the charge.
 fn may_hold(front: &[u8]) -> bool
     ensures { result ≡ false → (more : List ℕ) → HoldsNone (front.now ++ more) }
 {
@@ -74,7 +93,7 @@ fn may_hold(front: &[u8]) -> bool
         return true;
     }
     match word_at(front, 0) {
-        Some(count) => may_accuse(front, count),
+        Some(first) => may_accuse(front, first),
         None => true,
     }
 }

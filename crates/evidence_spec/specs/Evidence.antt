@@ -1,10 +1,11 @@
 -- Evidence against a node: that it keeps two logs, or that its log isn't honest; and what is accepted.
-use Rattle.std.specs.Prelude.{◌≡◌, ◌≢◌, ℕ, Bool, true, false, ◌==◌, ◌||◌, if◌then◌else◌, List}
+use Rattle.std.specs.Prelude.{◌≡◌, ◌≢◌, ℕ, Bool, true, false, ◌==◌, ◌||◌, if◌then◌else◌, IsTrue, List}
 use Rattle.std.specs.Prelude.{Option, Some, None, option_map}
 use Rattle.xdr.specs.Item.{Item, Value, word, pair, choice, optional}
 use Rattle.xdr.specs.Texts.Text.{Text}
+use Rattle.replay_spec.specs.authenticator.declared.member.LogVersion.TheVariants.{One}
 use Rattle.replay_spec.specs.authenticator.declared.member.Member.{Member}
-use Rattle.replay_spec.specs.authenticator.Roster.{member_of}
+use Rattle.replay_spec.specs.authenticator.Roster.{keeps_version, member_of}
 use Rattle.replay_spec.specs.authenticator.Numbers.{number_item}
 use Rattle.replay_spec.specs.secure_log.LogEntries.Chain.{zeros}
 use Rattle.replay_spec.specs.secure_log.Segment.{SegmentParts, IsClosed, bounded_item, segment_value, is_whole}
@@ -127,6 +128,7 @@ abbrev pub AcceptsCharge : List Member → (node : ℕ) → Charge → Type 0
 AcceptsCharge ms node (Fork f) = AcceptsFork ms node f.at f.a f.b
 AcceptsCharge ms node (Replay s) = AcceptsReplay ms node s
 
--- evidence is accepted under a roster
+-- Evidence is accepted under a roster: the log of the node that it is against, where that is a member, is of
+-- version 1, as what is shown of it, and the charge is accepted.
 abbrev pub Accepts : List Member → EvidenceParts → Type 0
-Accepts ms e = AcceptsCharge ms e.node e.charge
+Accepts ms e = IsTrue (keeps_version ms e.node One) × AcceptsCharge ms e.node e.charge

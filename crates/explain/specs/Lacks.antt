@@ -13,6 +13,7 @@ use Rattle.explain.specs.declared.lack.Lack.TheVariants as lacks
 -- the finding that a lack is told of
 abbrev pub lacking : Lack → NotAccepted
 lacking lacks.AnotherNode = reasons.AnotherNode
+lacking lacks.OtherVersion = reasons.OtherVersion
 lacking lacks.NotFromStart = reasons.NotFromStart
 lacking lacks.BeginsAtZero = reasons.NotClosed
 lacking lacks.NotClosed = reasons.NotClosed
@@ -38,6 +39,7 @@ HasNoKey ms node = member_of ms node ≡ None
 -- what a lack says beside the finding
 abbrev pub IsLack : List Member → EvidenceParts → Lack → Type 0
 IsLack ms e lacks.AnotherNode = Unit {0}
+IsLack ms e lacks.OtherVersion = Unit {0}
 IsLack ms e lacks.NotFromStart = Unit {0}
 IsLack ms e lacks.BeginsAtZero = BeginsAtZero e.charge
 IsLack ms e lacks.NotClosed = ¬ (BeginsAtZero e.charge)

@@ -9,7 +9,7 @@ use crate::file::File;
 use crate::fork::{add_closing, add_showings, fork_words};
 use crate::lack::lack_of;
 use crate::log::{add_fault, add_premises};
-use crate::roster::{add_digest, add_roster, node_fact};
+use crate::roster::{accused_fact, add_digest, add_roster};
 use crate::state::{add_no_state, add_state};
 use challenge::{AuditedLog, Case, Charge, Evidence, Finding, Fork, ReplayFault};
 use secure_log::Roster;
@@ -74,7 +74,7 @@ fn add_case(facts: &mut Facts, file: &File, case: &Case, trusted: Option<&Roster
     if let Some(trusted) = trusted {
         add_digest(facts, "trusted roster's sha256", trusted);
     }
-    node_fact(facts, "accused", &case.roster, case.evidence.node());
+    accused_fact(facts, &case.roster, case.evidence.node());
     match case.evidence.charge() {
         Charge::Fork(fork) => {
             facts.words("charge", fork_words(fork));

@@ -2,7 +2,7 @@
 
 ghost use Rattle.std.specs.Prelude.{◌<◌, ◌^◌};
 
-use authenticator::MAX_NODE;
+use authenticator::{MAX_MEMBERS, MAX_NODE, SECOND_FORM};
 use secure_log::MAX_ENTRIES;
 use secure_log::log_entries::MAX_BODY;
 use xdr::Reader;
@@ -87,10 +87,47 @@ impl<'a> Passing<'a> {
         }
     }
 
+    /// Passes a roster in either form.
     fn roster(&mut self) {
+        match self.roster_word() {
+            SECOND_FORM => self.versioned_members(),
+            count => self.members(count),
+        }
+    }
+
+    /// Passes the first word of a roster, and answers it; 0 where it stops.
+    fn roster_word(&mut self) -> u32 {
+        let start = self.reader.rest();
+        match self.reader.u32() {
+            Ok(word) if word <= MAX_MEMBERS || word == SECOND_FORM => word,
+            _ => {
+                self.stop(start);
+                0
+            }
+        }
+    }
+
+    /// Passes so many members, whose logs are of version 1.
+    fn members(&mut self, count: u32) {
         let mut last = 0;
-        for _ in 0..self.word(0, MAX_NODE) {
+        for _ in 0..count {
             last = self.member(last);
+        }
+    }
+
+    /// Passes members with their logs, of which one is of version 2 at least. Where none is, it stops before
+    /// the last member's log, or before their count where there are none.
+    fn versioned_members(&mut self) {
+        let mut start = self.reader.rest();
+        let mut last = 0;
+        let mut has_gaps = false;
+        for _ in 0..self.word(0, MAX_MEMBERS) {
+            last = self.member(last);
+            start = self.reader.rest();
+            has_gaps = self.word(1, 2) == 2 || has_gaps;
+        }
+        if !has_gaps && !self.has_stopped {
+            self.stop(start);
         }
     }
 

@@ -3,7 +3,7 @@
 use crate::call::add_call;
 use crate::facts::Facts;
 use crate::reply::add_reply;
-use crate::roster::node_fact;
+use crate::roster::{add_number_there, node_fact};
 use authenticator::{Signature, signed_digest};
 use secure_log::log_entries::{Body, Entry, SignatureText, entry_hash, message_hash};
 use secure_log::{Kind, Member, Number, Roster, is_signed};
@@ -106,7 +106,7 @@ fn add_received(facts: &mut Facts, log: &Log<'_>, entry: &Entry) {
         return;
     };
     node_fact(facts, "from", log.roster, *from);
-    add_place_there(facts, *seq, prev);
+    add_place_there(facts, log.roster, *from, *seq, prev);
     let name = if log.kind() == Some(Kind::Server) {
         "bytes"
     } else {
@@ -137,14 +137,14 @@ fn add_acknowledgement(facts: &mut Facts, log: &Log<'_>, entry: &Entry) {
     node_fact(facts, "of message to", log.roster, *to);
     facts.place("its number", seq.get());
     facts.hex("digest of its signature", mine);
-    add_place_there(facts, *number, prev);
+    add_place_there(facts, log.roster, *to, *number, prev);
     facts.number("leaf", u64::from(signature.signature().leaf()));
     facts.hex("signature's sha256", &signature.digest());
 }
 
 /// Adds where an entry of another node's log stands.
-fn add_place_there(facts: &mut Facts, number: Number, prev: &[u8; 32]) {
-    facts.place("number there", number.get());
+fn add_place_there(facts: &mut Facts, roster: &Roster, node: u32, number: Number, prev: &[u8; 32]) {
+    add_number_there(facts, roster, node, number.get());
     facts.hex("hash before it there", prev);
 }
 

@@ -11,6 +11,8 @@ use secure_log::Roster;
 pub enum Lack {
     /// A showing or the log is of another node than the evidence.
     AnotherNode,
+    /// The roster has the node, and its log is of another version than the evidence.
+    OtherVersion,
     /// The log doesn't begin with the first entry, after 32 zero bytes.
     NotFromStart,
     /// A showing begins at 0: there is no entry of that number.
@@ -32,6 +34,7 @@ impl Lack {
     pub fn words(self) -> &'static str {
         match self {
             Lack::AnotherNode => "what is shown is of another node",
+            Lack::OtherVersion => "the evidence is of another log version than the node's",
             Lack::NotFromStart => "the log is not shown from its first entry on",
             Lack::BeginsAtZero =>
                 "a showing begins at number 0, and a log's first entry is number 1",
@@ -51,6 +54,7 @@ pub fn lack_of(roster: &Roster, evidence: &Evidence, why: NotAccepted) -> Lack
 {
     match why {
         NotAccepted::AnotherNode => Lack::AnotherNode,
+        NotAccepted::OtherVersion => Lack::OtherVersion,
         NotAccepted::NotFromStart => Lack::NotFromStart,
         NotAccepted::NotClosed if begins_at_zero(evidence) => Lack::BeginsAtZero,
         NotAccepted::NotClosed => Lack::NotClosed,

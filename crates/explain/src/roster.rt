@@ -1,7 +1,8 @@
 //! Rosters in words.
 
+use crate::draft::Draft;
 use crate::facts::Facts;
-use secure_log::{Kind, Member, Roster};
+use secure_log::{Kind, LogVersion, Member, Roster};
 use sha2::{Digest, Sha256};
 use std::alloc::{AllocError, Global};
 
@@ -58,6 +59,9 @@ fn add_member(facts: &mut Facts, member: &Member) {
     facts.words("kind", kind_name(member.kind));
     facts.hex("key", &member.root);
     facts.number("height", u64::from(member.height));
+    if member.log_version == LogVersion::Two {
+        facts.number("log version", 2);
+    }
     facts.end();
 }
 
@@ -71,13 +75,43 @@ fn kind_name(kind: Kind) -> &'static str {
 /// Adds a node with what it is in a roster, as `node 2, a client`.
 pub(crate) fn node_fact(facts: &mut Facts, name: &'static str, roster: &Roster, node: u32) {
     let mut draft = facts.draft();
+    add_node(&mut draft, roster, node);
+    facts.text(name, draft);
+}
+
+/// Adds the node that is accused, as `node 1, a server`; of a log of version 2 it says that, too.
+pub(crate) fn accused_fact(facts: &mut Facts, roster: &Roster, node: u32) {
+    let mut draft = facts.draft();
+    add_node(&mut draft, roster, node);
+    if !roster.keeps_version(node, LogVersion::One) {
+        draft.words(", log version 2");
+    }
+    facts.text("accused", draft);
+}
+
+/// Appends a node with what it is in a roster.
+fn add_node(draft: &mut Draft, roster: &Roster, node: u32) {
     draft.words("node ");
     draft.number(u64::from(node));
     draft.words(match roster.member(node) {
         Some(member) => kind_words(member.kind),
         None => ", no member",
     });
-    facts.text(name, draft);
+}
+
+/// Adds the number of an entry in another node's log. Where the roster has that node with a log of version 2,
+/// the number is the lower half of what stands for it, and the upper half is how many numbers are skipped
+/// just before it, which is said if there are any.
+pub(crate) fn add_number_there(facts: &mut Facts, roster: &Roster, node: u32, word: u64) {
+    if roster.keeps_version(node, LogVersion::One) {
+        facts.place("number there", word);
+        return;
+    }
+    facts.place("number there", word & 0xffff_ffff);
+    let skipped = word >> 32;
+    if skipped != 0 {
+        facts.number("skipped there", skipped);
+    }
 }
 
 fn kind_words(kind: Kind) -> &'static str {

@@ -6,7 +6,7 @@ ghost use Rattle.challenge.specs.evidence_spec.Evidence.{MAX_AUDITED};
 use crate::comparison::state_before;
 use crate::entry::{Log, call_before, call_group, reply_group};
 use crate::facts::Facts;
-use crate::roster::node_fact;
+use crate::roster::{add_number_there, node_fact};
 use checkpoint::parts::{
     MachinePart, MountPart, PartsFault, StagePart, StatePart, WorldPart, read_parts,
 };
@@ -101,7 +101,7 @@ fn add_received(facts: &mut Facts, log: &Log<'_>, received: &[ReceivedMessage]) 
     for message in received {
         facts.item();
         node_fact(facts, "from", log.roster, message.from());
-        facts.place("number there", message.seq());
+        add_number_there(facts, log.roster, message.from(), message.seq());
         facts.hex("hash there", message.hash());
         facts.end();
     }

@@ -2,11 +2,12 @@
 
 ghost use Rattle.std.specs.Prelude.{◌≡◌, ◌≤◌, [], false, IfOk};
 ghost use Rattle.merkle_keys.specs.Tree.{root};
+ghost use Rattle.authenticator.specs.declared.member.LogVersion.TheVariants.{One};
 ghost use Rattle.node_keys.specs.Masters.{master_of};
 ghost use Rattle.node_logs.specs.replay_spec.Opening.{opening_by};
 
 use crate::masters::Masters;
-use authenticator::{Kind, Member, Roster};
+use authenticator::{Kind, LogVersion, Member, Roster};
 use merkle_keys::Signer;
 use nodes::{Node, Role};
 use std::alloc::{AllocError, Global};
@@ -80,13 +81,14 @@ impl KeyedNode {
         self.kind
     }
 
-    /// The node as a roster lists it.
+    /// The node as a roster lists it, with a log of version 1.
     pub fn member(&self) -> Member
         ensures { result ≡ record {
           node = self.now.number;
           kind = self.now.kind;
           root = root self.now.signer.master self.now.signer.height;
           height = self.now.signer.height;
+          log_version = One;
         } }
     {
         Member {
@@ -94,6 +96,7 @@ impl KeyedNode {
             kind: self.kind,
             root: self.signer.root(),
             height: self.height,
+            log_version: LogVersion::One,
         }
     }
 

@@ -7,7 +7,8 @@ use Rattle.std.specs.Prelude.{◌+◌, ◌&&◌, ◌⊎◌, not, is_some, IsSome
 use Rattle.std.proofs.lemmas.Bool.{and_parts, and_from}
 use Rattle.xdr.specs.declared.fault.XdrFault.{XdrFault}
 use Rattle.xdr.specs.Reading.{number_at}
-use Rattle.envelopes.specs.secure_log.authenticator.Roster.{member_of}
+use Rattle.envelopes.specs.secure_log.authenticator.declared.member.LogVersion.TheVariants.{One}
+use Rattle.envelopes.specs.secure_log.authenticator.Roster.{keeps_version, member_of}
 use Rattle.envelopes.specs.secure_log.authenticator.Signed.{IsSignedBy, IsSignedIn}
 use Rattle.envelopes.specs.secure_log.authenticator.Checking.{Checks}
 use Rattle.envelopes.specs.secure_log.authenticator.declared.member.Member.{Member}
@@ -34,22 +35,22 @@ use Rattle.packets.proofs.Contents.{segment_back}
 -- ---- the four answers
 
 -- what passes all tests is taken
-pub taken : (ms : List Member) (d : Delivery) → may_be d ≡ true → is_of_members ms d ≡ true
+pub taken : (ms : List Member) (d : Delivery) → may_be ms d ≡ true → is_of_members ms d ≡ true
     → is_signed_in ms (delivery_shows d) ≡ true → judged_delivery ms d ≡ Ok d
 taken ms d may of signed = rw (may, of, signed) refl
 
 -- what fails the last alone isn't signed
-pub unsigned : (ms : List Member) (d : Delivery) → may_be d ≡ true → is_of_members ms d ≡ true
+pub unsigned : (ms : List Member) (d : Delivery) → may_be ms d ≡ true → is_of_members ms d ≡ true
     → is_signed_in ms (delivery_shows d) ≡ false → judged_delivery ms d ≡ Err refusal.BadSignature
 unsigned ms d may of signed = rw (may, of, signed) refl
 
 -- what fails the second is of a stranger
-pub of_strangers : (ms : List Member) (d : Delivery) → may_be d ≡ true → is_of_members ms d ≡ false
+pub of_strangers : (ms : List Member) (d : Delivery) → may_be ms d ≡ true → is_of_members ms d ≡ false
     → judged_delivery ms d ≡ Err refusal.UnknownNode
 of_strangers ms d may of = rw (may, of) refl
 
 -- what fails the first is garbage
-pub cannot_be : (ms : List Member) (d : Delivery) → may_be d ≡ false
+pub cannot_be : (ms : List Member) (d : Delivery) → may_be ms d ≡ false
     → judged_delivery ms d ≡ Err refusal.Garbage
 cannot_be ms d may = rw may refl
 
@@ -87,11 +88,11 @@ learned ms bytes value member (Err refusal.NoMemory) h = tt
 -- ---- an envelope
 
 -- it may be exactly where it goes to another
-pub between : (e : Envelope) → ¬ (e.from ≡ e.to) → may_be (SendChallenge e) ≡ true
-between e two = ap not (is_false (e.from == e.to) (λ h. two (eqb-true e.from e.to h)))
+pub between : (ms : List Member) (e : Envelope) → ¬ (e.from ≡ e.to) → may_be ms (SendChallenge e) ≡ true
+between ms e two = ap not (is_false (e.from == e.to) (λ h. two (eqb-true e.from e.to h)))
 
-to_itself : (e : Envelope) → e.from ≡ e.to → may_be (SendChallenge e) ≡ false
-to_itself e same = ap not (eq-eqb e.from e.to same)
+to_itself : (ms : List Member) (e : Envelope) → e.from ≡ e.to → may_be ms (SendChallenge e) ≡ false
+to_itself ms e same = ap not (eq-eqb e.from e.to same)
 
 -- it is of members exactly where both are
 of_two : (ms : List Member) (e : Envelope) (m : Member) → member_of ms e.from ≡ Some m
@@ -116,19 +117,19 @@ challenged ms bytes value member (Ok c) h =
     let e : Envelope = value c in
     let m : Member = member c in
     rw h.0.between.text
-    (taken ms (SendChallenge e) (between e h.0.between.two) (of_two ms e m h.0.sender h.0.receiver)
+    (taken ms (SendChallenge e) (between ms e h.0.between.two) (of_two ms e m h.0.sender h.0.receiver)
     (signed_by_member ms (delivery_shows (SendChallenge e)) m h.0.sender h.1))
 challenged ms bytes value member (Err refusal.Garbage) (inl none) = rw none refl
 challenged ms bytes value member (Err refusal.Garbage) (inr same) =
-    rw same.1.0 (cannot_be ms (SendChallenge same.0) (to_itself same.0 same.1.1))
+    rw same.1.0 (cannot_be ms (SendChallenge same.0) (to_itself ms same.0 same.1.1))
 challenged ms bytes value member (Err refusal.UnknownNode) h =
-    rw h.1.0.text (of_strangers ms (SendChallenge h.0) (between h.0 h.1.0.two) (of_one ms h.0 h.1.1))
+    rw h.1.0.text (of_strangers ms (SendChallenge h.0) (between ms h.0 h.1.0.two) (of_one ms h.0 h.1.1))
 challenged ms bytes value member (Err refusal.BadSignature) h =
     let e : Envelope = h.0 in
     let m : Member = h.1.0 in
     let s = h.1.1.0 in
     rw s.between.text
-    (unsigned ms (SendChallenge e) (between e s.between.two) (of_two ms e m s.sender s.receiver)
+    (unsigned ms (SendChallenge e) (between ms e s.between.two) (of_two ms e m s.sender s.receiver)
     (unsigned_by_member ms (delivery_shows (SendChallenge e)) m s.sender h.1.1.1))
 challenged ms bytes value member (Err refusal.NoMemory) h = tt
 
@@ -159,6 +160,11 @@ of_ends s h =
       hash = same_list s.closing.hash (last_hash s.opening (links_from s.first s.entries)) two.1;
     }
 
+-- it may be exactly where it ends so, and is of a log of the right version
+pub may_end : (ms : List Member) (s : SegmentParts) → keeps_version ms s.node One ≡ true → Ends s
+    → may_be ms (Answer s) ≡ true
+may_end ms s version e = rw version (ends_of s e)
+
 -- what its text delivers
 segment_at : (ms : List Member) (bytes : List ℕ) (s : SegmentParts) → IsOf bytes s
     → judged_option ms (content_at 3 bytes) ≡ judged_delivery ms (Answer s)
@@ -183,7 +189,7 @@ pub given : (ms : List Member) (bytes : List ℕ) (c : ClosedParts) → ChecksSe
 given ms bytes c h =
     let s : SegmentParts = c.segment in
     segment_at ms bytes s h.0
-    ∙ taken ms (Answer s) (ends_of s h.2.ends) (member_of_signed ms s.closing h.2.signed)
+    ∙ taken ms (Answer s) (may_end ms s h.2.version h.2.ends) (member_of_signed ms s.closing h.2.signed)
     (of_signed_in ms s.closing h.2.signed)
 
 -- the refusal that a fault of a segment is; the first two are no answers of a check
@@ -199,20 +205,23 @@ refusal_of fault.TooLong = refusal.Garbage
 -- what its check refuses is refused to its packet
 pub answered : (ms : List Member) (bytes : List ℕ) (f : SegmentFault) → ChecksSegment ms bytes (Err f)
     → Refuses (judged_option ms (content_at 3 bytes)) (refusal_of f)
-answered ms bytes fault.Garbage h = rw h refl
+answered ms bytes fault.Garbage (inl none) = rw none refl
+answered ms bytes fault.Garbage (inr other) =
+    segment_at ms bytes other.0 other.1.0 ∙ cannot_be ms (Answer other.0) (rw other.1.1 refl)
 answered ms bytes fault.BrokenChain h =
-    segment_at ms bytes h.0 h.1.0
-    ∙ cannot_be ms (Answer h.0) (is_false (ends h.0) (λ e. h.1.1 (of_ends h.0 e)))
+    let ends_no = is_false (ends h.0) (λ e. h.1.1 (of_ends h.0 e)) in
+    segment_at ms bytes h.0 h.1.0.0 ∙ cannot_be ms (Answer h.0) (rw (h.1.0.1, ends_no) refl)
 answered ms bytes fault.UnknownNode h =
     let s : SegmentParts = h.0 in
-    segment_at ms bytes s h.1.0
-    ∙ of_strangers ms (Answer s) (ends_of s h.1.1) (unknown ms s.closing.node (closer ms s None h.1.1 h.1.2))
+    segment_at ms bytes s h.1.0.0
+    ∙ of_strangers ms (Answer s) (may_end ms s h.1.0.1 h.1.1)
+    (unknown ms s.closing.node (closer ms s None h.1.1 h.1.2))
 answered ms bytes fault.BadSignature h =
     let s : SegmentParts = h.0 in
     let m : Member = h.1.0 in
     let there : member_of ms s.closing.node ≡ Some m = closer ms s (Some m) h.1.1.1 h.1.1.2 in
-    segment_at ms bytes s h.1.1.0
-    ∙ unsigned ms (Answer s) (ends_of s h.1.1.1) (known ms s.closing.node m there)
+    segment_at ms bytes s h.1.1.0.0
+    ∙ unsigned ms (Answer s) (may_end ms s h.1.1.0.1 h.1.1.1) (known ms s.closing.node m there)
     (unsigned_by_member ms s.closing m there h.1.1.3)
 answered ms bytes fault.NoMemory h = tt
 answered ms bytes fault.OutOfRange h = absurd h

@@ -5,7 +5,8 @@ use Rattle.std.proofs.Common.{Some, None, refl, ap, subst, ◌∙◌, eq-eqb}
 use Rattle.std.specs.Prelude.{◌↔◌, not, is_some, IsSome}
 use Rattle.std.proofs.lemmas.Bool.{and_parts, and_from}
 use Rattle.xdr.specs.Item.{IsBytes, number_spelling}
-use Rattle.envelopes.specs.secure_log.authenticator.Roster.{member_of}
+use Rattle.envelopes.specs.secure_log.authenticator.declared.member.LogVersion.TheVariants.{One}
+use Rattle.envelopes.specs.secure_log.authenticator.Roster.{keeps_version, member_of}
 use Rattle.envelopes.specs.secure_log.authenticator.declared.member.Member.{Member}
 use Rattle.envelopes.specs.secure_log.authenticator.declared.refusal.Refusal.{Refusal}
 use Rattle.envelopes.specs.secure_log.authenticator.declared.refusal.Refusal.TheVariants.{UnknownNode, Garbage, BadSignature}
@@ -13,10 +14,11 @@ use Rattle.envelopes.specs.secure_log.authenticator.declared.refusal.Refusal.The
 use Rattle.packets.specs.Packet.{Delivery, Learn, SendChallenge, Answer, AckIn, Says, IsContent, content_text}
 use Rattle.packets.specs.Packet.{packet_number, packet_text, delivery_of, delivery_shows}
 use Rattle.envelopes.specs.secure_log.authenticator.Signing.{is_signed_in}
-use Rattle.packets.specs.Judging.{may_be, is_member, is_of_members, judged_delivery, judged_option, judged}
+use Rattle.packets.specs.Judging.{ends, may_be, is_member, is_of_members, judged_delivery, judged_option}
+use Rattle.packets.specs.Judging.{judged}
 use Rattle.packets.specs.Taking.{MayBe, IsOfMembers, Means}
 use Rattle.envelopes.proofs.secure_log.authenticator.Signed.{is_false, signed_in_of, of_signed_in}
-use Rattle.packets.proofs.Judged.{of_ends, ends_of, taken, unsigned, of_strangers, between}
+use Rattle.packets.proofs.Judged.{of_ends, may_end, taken, unsigned, of_strangers, between}
 use Rattle.packets.proofs.Spelled.{exact, one_delivery}
 
 -- ---- the tests are what they mean
@@ -25,17 +27,20 @@ differ : (a b : ℕ) → not (a == b) ≡ true → ¬ (a ≡ b)
 differ a b h e = let same : (a == b) ≡ true = eq-eqb a b e in let nay : not true ≡ true =
     subst (λ (t : Bool). not t ≡ true) same h in absurd cc
 
-may_of : (d : Delivery) → may_be d ≡ true → MayBe d
-may_of (Learn a) h = tt
-may_of (SendChallenge e) h = differ e.from e.to h
-may_of (Answer s) h = of_ends s h
-may_of (AckIn a) h = tt
+module _ (ms : List Member) where
+  may_of : (d : Delivery) → may_be ms d ≡ true → MayBe ms d
+  may_of (Learn a) h = tt
+  may_of (SendChallenge e) h = differ e.from e.to h
+  may_of (Answer s) h =
+      let both = and_parts (keeps_version ms s.node One) (ends s) h in
+      (both.0, of_ends s both.1)
+  may_of (AckIn a) h = tt
 
-of_may : (d : Delivery) → MayBe d → may_be d ≡ true
-of_may (Learn a) h = refl
-of_may (SendChallenge e) h = between e h
-of_may (Answer s) h = ends_of s h
-of_may (AckIn a) h = refl
+  of_may : (d : Delivery) → MayBe ms d → may_be ms d ≡ true
+  of_may (Learn a) h = refl
+  of_may (SendChallenge e) h = between ms e h
+  of_may (Answer s) h = may_end ms s h.0 h.1
+  of_may (AckIn a) h = refl
 
 some_of : {A : Type 0} (o : Option A) → is_some o ≡ true → IsSome o
 some_of o h = h
@@ -67,23 +72,23 @@ module _ (ms : List Member) (bytes : List ℕ) (bound : IsBytes bytes) where
   garbage_none none d well = let some = (exact bytes d bound).1 well.says in absurd cc
 
   -- nor where what is said may not be
-  garbage_some : (d : Delivery) → Says bytes d → may_be d ≡ false → Means ms bytes (Err Garbage)
+  garbage_some : (d : Delivery) → Says bytes d → may_be ms d ≡ false → Means ms bytes (Err Garbage)
   garbage_some d says may_not c well =
       let same : c ≡ d = one_delivery bytes c d bound well.says says in
-      let yes : may_be d ≡ true = of_may d (subst MayBe same well.may_be) in
+      let yes : may_be ms d ≡ true = of_may ms d (subst (MayBe ms) same well.may_be) in
       absurd cc
 
   -- a test that fails isn't met
   failed : (b : Bool) → b ≡ false → ¬ (b ≡ true)
   failed b e h = absurd cc
 
-  by_tests : (d : Delivery) → Says bytes d → (may of signed : Bool) → may_be d ≡ may → is_of_members ms d ≡ of
+  by_tests : (d : Delivery) → Says bytes d → (may of signed : Bool) → may_be ms d ≡ may → is_of_members ms d ≡ of
       → is_signed_in ms (delivery_shows d) ≡ signed
       → Means ms bytes (cond may (cond of (cond signed (Ok d) (Err BadSignature)) (Err UnknownNode))
       (Err Garbage))
   by_tests d says true true true may of signed = record {
     of_members = record {
-      well = record { says = says; may_be = may_of d may };
+      well = record { says = says; may_be = may_of ms d may };
       members = members_of ms d of;
     };
     signed = signed_in_of ms (delivery_shows d) signed;
@@ -91,14 +96,14 @@ module _ (ms : List Member) (bytes : List ℕ) (bound : IsBytes bytes) where
   by_tests d says true true false may of signed = (
     d,
     (
-      record { well = record { says = says; may_be = may_of d may }; members = members_of ms d of },
+      record { well = record { says = says; may_be = may_of ms d may }; members = members_of ms d of },
       (λ s. failed (is_signed_in ms (delivery_shows d)) signed (of_signed_in ms (delivery_shows d) s)),
     ),
   )
   by_tests d says true false signed may of s = (
     d,
     (
-      record { says = says; may_be = may_of d may },
+      record { says = says; may_be = may_of ms d may },
       λ m. failed (is_of_members ms d) of
           (of_members ms d m),
     ),
@@ -108,7 +113,7 @@ module _ (ms : List Member) (bytes : List ℕ) (bound : IsBytes bytes) where
   by_delivery : (o : Option Delivery) → delivery_of bytes ≡ o → Means ms bytes (judged_option ms o)
   by_delivery None e = garbage_none e
   by_delivery (Some d) e =
-      by_tests d ((exact bytes d bound).0 e) (may_be d) (is_of_members ms d)
+      by_tests d ((exact bytes d bound).0 e) (may_be ms d) (is_of_members ms d)
       (is_signed_in ms (delivery_shows d)) refl refl refl
 
   -- what they are taken for holds
@@ -133,18 +138,18 @@ module _ (ms : List Member) (bytes : List ℕ) (bound : IsBytes bytes) where
   meant : (r : Result Delivery Refusal) → Means ms bytes r → judged ms bytes ≡ r
   meant (Ok d) h =
       of_said d h.of_members.well.says
-      ∙ taken ms d (of_may d h.of_members.well.may_be) (of_members ms d h.of_members.members)
+      ∙ taken ms d (of_may ms d h.of_members.well.may_be) (of_members ms d h.of_members.members)
       (of_signed_in ms (delivery_shows d) h.signed)
   meant (Err Garbage) h = garbage (judged ms bytes) means h
   meant (Err UnknownNode) h =
       let d : Delivery = h.0 in
       of_said d h.1.0.says
-      ∙ of_strangers ms d (of_may d h.1.0.may_be)
+      ∙ of_strangers ms d (of_may ms d h.1.0.may_be)
       (is_false (is_of_members ms d) (λ t. h.1.1 (members_of ms d t)))
   meant (Err BadSignature) h =
       let d : Delivery = h.0 in
       of_said d h.1.0.well.says
-      ∙ unsigned ms d (of_may d h.1.0.well.may_be) (of_members ms d h.1.0.members)
+      ∙ unsigned ms d (of_may ms d h.1.0.well.may_be) (of_members ms d h.1.0.members)
       (is_false (is_signed_in ms (delivery_shows d)) (λ t. h.1.1 (signed_in_of ms (delivery_shows d) t)))
   meant (Err NoMemory) h = absurd h
 

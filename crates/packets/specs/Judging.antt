@@ -1,7 +1,8 @@
 -- What a packet is taken for under a roster.
 use Rattle.std.specs.Prelude.{◌≡◌, ℕ, ◌+◌, Bool, true, not, ◌&&◌, ◌==◌, List, length, Result, Ok, Err, Option}
 use Rattle.std.specs.Prelude.{Some, None, if◌then◌else◌, is_some}
-use Rattle.envelopes.specs.secure_log.authenticator.Roster.{member_of}
+use Rattle.envelopes.specs.secure_log.authenticator.declared.member.LogVersion.TheVariants.{One}
+use Rattle.envelopes.specs.secure_log.authenticator.Roster.{keeps_version, member_of}
 use Rattle.envelopes.specs.secure_log.authenticator.declared.member.Member.{Member}
 use Rattle.envelopes.specs.secure_log.authenticator.declared.refusal.Refusal.{Refusal}
 use Rattle.envelopes.specs.secure_log.authenticator.declared.refusal.Refusal.TheVariants.{UnknownNode, Garbage, BadSignature}
@@ -17,13 +18,13 @@ ends s =
     (s.closing.node == s.node) && ((s.closing.number + 1 == s.first + length s.entries)
     && is_same s.closing.hash (last_hash s.opening (links_from s.first s.entries)))
 
--- whether what is delivered may be at all: an envelope's sender isn't its receiver, and a segment ends in its
--- closing
-abbrev pub may_be : Delivery → Bool
-may_be (Learn a) = true
-may_be (SendChallenge e) = not (e.from == e.to)
-may_be (Answer s) = ends s
-may_be (AckIn a) = true
+-- whether what is delivered may be at all under a roster: an envelope's sender isn't its receiver, and a segment
+-- is of a log of version 1, as its node's is where that is a member, and ends in its closing
+abbrev pub may_be : List Member → Delivery → Bool
+may_be ms (Learn a) = true
+may_be ms (SendChallenge e) = not (e.from == e.to)
+may_be ms (Answer s) = keeps_version ms s.node One && ends s
+may_be ms (AckIn a) = true
 
 -- a node is a member of the roster
 abbrev pub is_member : List Member → ℕ → Bool
@@ -40,7 +41,7 @@ is_of_members ms (AckIn a) = is_member ms a.by
 -- is of is no member, else BadSignature where who is to sign it didn't.
 abbrev pub judged_delivery : List Member → Delivery → Result Delivery Refusal
 judged_delivery ms d =
-    if may_be d then (
+    if may_be ms d then (
     if is_of_members ms d then (
     if is_signed_in ms (delivery_shows d) then Ok d else Err BadSignature
     ) else Err UnknownNode

@@ -1,6 +1,7 @@
 -- Which packets are taken under a roster, and why others aren't, in a reader's words.
-use Rattle.std.specs.Prelude.{◌≢◌, ℕ, List, IsSome, Result, Ok, Err}
-use Rattle.envelopes.specs.secure_log.authenticator.Roster.{member_of}
+use Rattle.std.specs.Prelude.{◌≢◌, ℕ, List, IsSome, IsTrue, Result, Ok, Err}
+use Rattle.envelopes.specs.secure_log.authenticator.declared.member.LogVersion.TheVariants.{One}
+use Rattle.envelopes.specs.secure_log.authenticator.Roster.{keeps_version, member_of}
 use Rattle.envelopes.specs.secure_log.authenticator.Signed.{IsSignedIn}
 use Rattle.envelopes.specs.secure_log.authenticator.declared.member.Member.{Member}
 use Rattle.envelopes.specs.secure_log.authenticator.declared.refusal.Refusal.{Refusal}
@@ -9,13 +10,13 @@ use Rattle.envelopes.specs.secure_log.authenticator.declared.refusal.Refusal.The
 use Rattle.envelopes.specs.secure_log.Segment.{Ends}
 use Rattle.packets.specs.Packet.{Delivery, Learn, SendChallenge, Answer, AckIn, Says, delivery_shows}
 
--- It may be delivered at all: an envelope's sender isn't its receiver, and a segment's closing is of its
--- node, last number and last hash.
-abbrev pub MayBe : Delivery → Type 0
-MayBe (Learn a) = Unit {0}
-MayBe (SendChallenge e) = e.from ≢ e.to
-MayBe (Answer s) = Ends s
-MayBe (AckIn a) = Unit {0}
+-- It may be delivered at all under a roster: an envelope's sender isn't its receiver; the log of a segment's
+-- node, where that is a member, is of version 1, and its closing is of its node, last number and last hash.
+abbrev pub MayBe : List Member → Delivery → Type 0
+MayBe ms (Learn a) = Unit {0}
+MayBe ms (SendChallenge e) = e.from ≢ e.to
+MayBe ms (Answer s) = IsTrue (keeps_version ms s.node One) × Ends s
+MayBe ms (AckIn a) = Unit {0}
 
 -- Who signs it is a member, and of an envelope its receiver too.
 abbrev pub IsOfMembers : List Member → Delivery → Type 0
@@ -25,12 +26,12 @@ IsOfMembers ms (Answer s) = IsSome (member_of ms s.closing.node)
 IsOfMembers ms (AckIn a) = IsSome (member_of ms a.by)
 
 -- The bytes say what may be delivered; then also, it is of members; and then, who is to sign it did.
-pub record SaysWell (bytes : List ℕ) (d : Delivery) : Type 0 where
+pub record SaysWell (ms : List Member) (bytes : List ℕ) (d : Delivery) : Type 0 where
   pub says : Says bytes d
-  pub may_be : MayBe d
+  pub may_be : MayBe ms d
 
 pub record SaysOfMembers (ms : List Member) (bytes : List ℕ) (d : Delivery) : Type 0 where
-  pub well : SaysWell bytes d
+  pub well : SaysWell ms bytes d
   pub members : IsOfMembers ms d
 
 pub record IsTaken (ms : List Member) (bytes : List ℕ) (d : Delivery) : Type 0 where
@@ -42,8 +43,8 @@ pub record IsTaken (ms : List Member) (bytes : List ℕ) (d : Delivery) : Type 0
 -- they say something of members that isn't signed. No packet is taken for being out of memory.
 abbrev pub Means : List Member → (bytes : List ℕ) → Result Delivery Refusal → Type 0
 Means ms bytes (Ok d) = IsTaken ms bytes d
-Means ms bytes (Err Garbage) = (d : Delivery) → ¬ SaysWell bytes d
-Means ms bytes (Err UnknownNode) = (d : Delivery) × (SaysWell bytes d × (¬ IsOfMembers ms d))
+Means ms bytes (Err Garbage) = (d : Delivery) → ¬ SaysWell ms bytes d
+Means ms bytes (Err UnknownNode) = (d : Delivery) × (SaysWell ms bytes d × (¬ IsOfMembers ms d))
 Means ms bytes (Err BadSignature) =
     (d : Delivery) × (SaysOfMembers ms bytes d × (¬ IsSignedIn ms (delivery_shows d)))
 Means ms bytes (Err NoMemory) = ⊥

@@ -6,7 +6,7 @@ use Rattle.std.specs.FinMap as finite
 use Rattle.std.specs.Ordering.{nat_cmp}
 use Rattle.std.specs.Prelude.{is_some, ◌<◌, IsTrue, nat_lt}
 use Rattle.std.proofs.lemmas.Bool.{and_parts, ltb-true, lt-ltb, true≢false}
-use Rattle.authenticator.specs.Roster.{member_of, roster_value, rises_above}
+use Rattle.authenticator.specs.Roster.{member_of, member_values, rises_above}
 use Rattle.authenticator.specs.declared.member.Kind.{Kind}
 use Rattle.authenticator.specs.declared.member.Kind.TheVariants as kinds
 use Rattle.authenticator.specs.declared.member.Member.{Member}
@@ -28,7 +28,7 @@ use Rattle.witness_laws.specs.witness_spec.Steps.{Ask, OwnStep, Past}
 use Rattle.witness_laws.specs.witness_spec.Whose.{step_of, is_key_of, same_roster, signed_step, sent_step, closed_step}
 use Rattle.witness_laws.specs.witness_spec.Whose.{delivered_step, judged_step, whose}
 use Rattle.witness_laws.specs.witness_spec.Histories.{History, own_step, own, IsHistory, AreOwed, own_of}
-use Rattle.witness_laws.proofs.OwnSteps.{own_owed}
+use Rattle.witness_laws.proofs.OwnSteps.{of_learned, own_owed}
 use Rattle.witness_laws.proofs.Checked.{AreChecked, own_checked}
 use Rattle.witness_laws.proofs.OfEvidence.Told.{Told, Without, With, told}
 use Rattle.witness_book_laws.specs.Books.{book_opening}
@@ -79,7 +79,8 @@ module _ (o : OwnStep) where
   by_closed (Some m) same step done h = by_key same m step done h
 
   by_delivery : (ms : List Member) (d : Delivery) → delivered_step ms d ≡ Ok o → IsDoneStep o.step
-  by_delivery ms (packets.Learn a) h = by_step (member_of ms a.node) (Learn a) tt h
+  by_delivery ms (packets.Learn a) h =
+      by_step (member_of ms a.node) (Learn a) tt (of_learned (member_of ms a.node) _ o h)
   by_delivery ms (packets.SendChallenge e) h = by_step (member_of ms e.to) (SendChallenge e) tt h
   by_delivery ms (packets.Answer s) h =
       by_step (member_of ms s.closing.node) (Answer (record { segment = s; roster = ms })) tt h
@@ -93,7 +94,8 @@ module _ (o : OwnStep) where
   -- the step that an event is has a verdict of its own
   pub done_event : (ms : List Member) (e : Event) → whose ms e ≡ Ok o → IsEvent e → IsDoneStep o.step
   done_event ms (events.Deliver bytes) h is = by_judged ms (judged ms bytes) h
-  done_event ms (events.Learn a key) h is = by_signed (member_of ms a.node) key (Learn a) tt h
+  done_event ms (events.Learn a key) h is =
+      by_signed (member_of ms a.node) key (Learn a) tt (of_learned (member_of ms a.node) _ o h)
   done_event ms (events.SendChallenge e key) h is =
       by_sent (member_of ms e.from) (member_of ms e.to) key (SendChallenge e) tt h
   done_event ms (events.Answer c) h is =
@@ -191,26 +193,26 @@ own_known w history is h =
 
 -- ---- members of a roster
 
-later_node : (low : ℕ) (ms : List Member) (m : Member) → IsTrue (rises_above low (roster_value ms))
+later_node : (low : ℕ) (ms : List Member) (m : Member) → IsTrue (rises_above low (member_values ms))
     → IsAmong m ms → IsTrue (nat_lt low m.node)
 later_node low [] m rise i = absurd i
 later_node low (x ∷ ms) m rise (inl e) =
     subst (λ (y : Member). IsTrue (nat_lt low y.node)) (sym e)
-    (and_parts (nat_lt low x.node) (rises_above x.node (roster_value ms)) rise).0
+    (and_parts (nat_lt low x.node) (rises_above x.node (member_values ms)) rise).0
 later_node low (x ∷ ms) m rise (inr i) =
-    let both = and_parts (nat_lt low x.node) (rises_above x.node (roster_value ms)) rise in
+    let both = and_parts (nat_lt low x.node) (rises_above x.node (member_values ms)) rise in
     lt-ltb low m.node
     (omega (arith, ltb-true low x.node both.0, ltb-true x.node m.node (later_node x.node ms m both.1 i)))
 
 -- each member of a roster is the one with its number
-pub its_member : (low : ℕ) (ms : List Member) (m : Member) → IsTrue (rises_above low (roster_value ms))
+pub its_member : (low : ℕ) (ms : List Member) (m : Member) → IsTrue (rises_above low (member_values ms))
     → IsAmong m ms → member_of ms m.node ≡ Some m
 its_member low [] m rise i = absurd i
 its_member low (x ∷ ms) m rise (inl e) =
     ap (λ (y : Member). cond (x.node == y.node) (Some x) (member_of ms y.node)) e
     ∙ (ap (λ b. cond b (Some x) (member_of ms x.node)) (eq-eqb x.node x.node refl) ∙ ap (λ y. Some y) (sym e))
 its_member low (x ∷ ms) m rise (inr i) =
-    let both = and_parts (nat_lt low x.node) (rises_above x.node (roster_value ms)) rise in
+    let both = and_parts (nat_lt low x.node) (rises_above x.node (member_values ms)) rise in
     let less = ltb-true x.node m.node (later_node x.node ms m both.1 i) in
     ap (λ b. cond b (Some x) (member_of ms m.node)) (differs x.node m.node (x.node == m.node) refl less)
     ∙ its_member x.node ms m both.1 i

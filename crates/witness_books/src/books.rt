@@ -191,9 +191,7 @@ fn books_at_first(alloc: Global, roster: &Roster) -> Result<Vec<Book>, AllocErro
     ensures books { IfOk result (λ b. b.items ≡ map book_opening roster.now) }
     ensures roster { IfOk result (λ _. IsRoster roster.now) }
 {
-    // A roster's text says that its members' numbers rise.
-    let mut text = Vec::new(alloc);
-    roster.write(&mut text)?;
+    roster.is_roster();
     opening_each(alloc, roster.members())
 }
 

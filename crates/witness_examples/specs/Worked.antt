@@ -5,6 +5,7 @@ use Rattle.std.specs.Prelude.{◌+◌}
 use Rattle.merkle_keys.specs.Signing.{SignatureParts}
 use Rattle.authenticator.specs.declared.authenticator.Authenticator.{Authenticator}
 use Rattle.authenticator.specs.declared.member.Kind.TheVariants.{Client}
+use Rattle.authenticator.specs.declared.member.LogVersion.TheVariants.{One}
 use Rattle.authenticator.specs.declared.member.Member.{Member}
 use Rattle.secure_log.specs.LogEntries.Chain.{zeros, links_from, last_hash}
 use Rattle.secure_log.specs.declared.log_entries.entry.Entry.{Entry}
@@ -28,7 +29,7 @@ use Rattle.witness_spec.specs.Steps.{Learn, SendChallenge, Answer, Audit, Begin,
 
 -- a client
 abbrev pub five : Member
-five = record { node = 5; kind = Client; root = 5 ∷ []; height = 1 }
+five = record { node = 5; kind = Client; root = 5 ∷ []; height = 1; log_version = One }
 
 -- its node, under a roster of nobody
 abbrev pub node_five : Watched
@@ -52,7 +53,7 @@ higher_key = record { root = 5 ∷ []; height = 2 }
 
 -- another client, with that other key
 abbrev pub second : Member
-second = record { node = 6; kind = Client; root = 6 ∷ []; height = 1 }
+second = record { node = 6; kind = Client; root = 6 ∷ []; height = 1; log_version = One }
 
 -- its authenticator of a hash at a number
 abbrev pub learned : (number : ℕ) (hash : List ℕ) → Authenticator

@@ -2,10 +2,15 @@
 -- under the roster.
 -- Serves: the laws of `trust` and `evidence`.
 use Rattle.std.proofs.Common.{◌≡◌, ℕ, Bool, true, false, cond, ◌==◌, List, [], ◌∷◌, ◌++◌, Option, Some}
-use Rattle.std.proofs.Common.{arith, None, IsSomeAnd, Result, Ok, Err, refl, sym, ap₂, subst, ◌∙◌, eqb-true}
+use Rattle.std.proofs.Common.{arith, None, IsSomeAnd, Result, Ok, Err, refl, sym, ap, ap₂, subst, ◌∙◌}
+use Rattle.std.proofs.Common.{eqb-true}
+use Rattle.std.specs.Prelude.{◌&&◌, IsTrue}
 use Rattle.std.proofs.lemmas.Bool.{and_parts, true≢false}
 use Rattle.xdr.specs.Item.{Fits, IsBytes}
-use Rattle.authenticator.specs.Roster.{member_of, kind_number}
+use Rattle.authenticator.specs.Roster.{member_of, kind_number, is_of_version, keeps_version, log_number}
+use Rattle.authenticator.specs.Roster.{same_version}
+use Rattle.authenticator.specs.declared.member.LogVersion.{LogVersion}
+use Rattle.authenticator.specs.declared.member.LogVersion.TheVariants.{One, Two}
 use Rattle.authenticator.specs.Signed.{IsSignedBy, IsSignedIn, authenticator_item, authenticator_value}
 use Rattle.authenticator.specs.declared.authenticator.Authenticator.{Authenticator}
 use Rattle.authenticator.specs.declared.member.Kind.{Kind}
@@ -20,7 +25,7 @@ use Rattle.witness_spec.specs.packets.Packet as packets
 use Rattle.witness_spec.specs.packets.Judging.{judged}
 use Rattle.witness_spec.specs.packets.Taking.{IsTaken}
 use Rattle.witness_spec.proofs.packets.Taken.{as_meant}
-use Rattle.witness_spec.specs.Refusals.{Refusal, BadSignature}
+use Rattle.witness_spec.specs.Refusals.{Refusal, Garbage, BadSignature}
 use Rattle.witness_spec.specs.Events.{PublicKey, Event, IsSignedUnder, IsClosedUnder, IsEvent}
 use Rattle.witness_spec.specs.Events as events
 use Rattle.witness_spec.specs.Replies.{Reply, is_want_of_memory}
@@ -28,7 +33,7 @@ use Rattle.witness_spec.specs.Watched.{Watched, watched, IsInRoster}
 use Rattle.witness_spec.specs.Steps.{Step, Learn, SendChallenge, Answer, AckIn, Audit, Begin, File, PutBack}
 use Rattle.witness_spec.specs.Steps.{Forward, Ask, OwnStep, Past}
 use Rattle.witness_spec.specs.Whose.{step_of, is_key_of, same_member, same_roster, signed_step, sent_step}
-use Rattle.witness_spec.specs.Whose.{closed_step, delivered_step, judged_step, whose}
+use Rattle.witness_spec.specs.Whose.{closed_step, delivered_step, judged_step, learned_step, whose}
 use Rattle.witness_spec.specs.Histories.{History, own_step, IsHistory, own_of}
 use Rattle.witness_laws.proofs.OwnSteps.{same_member as member_same}
 
@@ -36,6 +41,8 @@ use Rattle.witness_laws.proofs.OwnSteps.{same_member as member_same}
 pub record IsLearned (w : Watched) (a : Authenticator) : Type 0 where
   -- it is of this node
   pub node : a.node ≡ w.member.node
+  -- the node's log is of version 1
+  pub version : IsTrue (keeps_version w.roster w.member.node One)
   -- it has a text
   pub text : Fits authenticator_item (authenticator_value a)
   -- a member of the roster signed it
@@ -74,21 +81,33 @@ kind_same Server Client h = absurd (omega (arith, h))
 kind_same Client Server h = absurd (omega (arith, h))
 kind_same Client Client h = refl
 
-make : ℕ → Kind → List ℕ → ℕ → Member
-make node kind root height = record { node = node; kind = kind; root = root; height = height }
+version_same : (a b : LogVersion) → log_number a ≡ log_number b → a ≡ b
+version_same One One h = refl
+version_same One Two h = absurd (omega (arith, h))
+version_same Two One h = absurd (omega (arith, h))
+version_same Two Two h = refl
+
+make : ℕ → Kind → List ℕ → ℕ → LogVersion → Member
+make node kind root height version =
+    record { node = node; kind = kind; root = root; height = height; log_version = version }
 
 member_is : (x y : Member) → same_member x y ≡ true → x ≡ y
 unfolding make
 member_is x y h =
     let a = and_parts (x.node == y.node) _ h in
     let b = and_parts (kind_number x.kind == kind_number y.kind) _ a.1 in
-    let c = and_parts _ (x.height == y.height) b.1 in
+    let c = and_parts _ ((x.height == y.height) && same_version x.log_version y.log_version) b.1 in
+    let d = and_parts (x.height == y.height) _ c.1 in
     let node : x.node ≡ y.node = eqb-true x.node y.node a.0 in
     let kind : x.kind ≡ y.kind = kind_same x.kind y.kind
     (eqb-true (kind_number x.kind) (kind_number y.kind) b.0) in
     let root : x.root ≡ y.root = same_list x.root y.root c.0 in
-    let height : x.height ≡ y.height = eqb-true x.height y.height c.1 in
-    ap₂ (λ n k. make n k x.root x.height) node kind ∙ ap₂ (λ r t. make y.node y.kind r t) root height
+    let height : x.height ≡ y.height = eqb-true x.height y.height d.0 in
+    let version : x.log_version ≡ y.log_version = version_same x.log_version y.log_version
+    (eqb-true (log_number x.log_version) (log_number y.log_version) d.1) in
+    ap₂ (λ n k. make n k x.root x.height x.log_version) node kind
+    ∙ (ap₂ (λ r t. make y.node y.kind r t x.log_version) root height
+    ∙ ap (make y.node y.kind y.root y.height) version)
 
 -- rosters that the test finds the same are equal
 pub roster_is : (xs ys : List Member) → same_roster xs ys ≡ true → xs ≡ ys
@@ -125,12 +144,29 @@ to_own : (ms : List Member) (o : OwnStep) (m : Member) (step : Step) → IsCheck
     → ◌≡◌ {A = Result OwnStep Refusal} (Ok (record { member = m; step = step })) (Ok o) → IsCheckedOwn ms o
 to_own ms o m step h e = subst (IsCheckedOwn ms) (own_same o m step e) h
 
+-- what is learned is of a log of version 1
+pub of_learned : (x : Option Member) (r : Result OwnStep Refusal) (o : OwnStep) → learned_step x r ≡ Ok o
+    → (is_of_version One x ≡ true) × (r ≡ Ok o)
+of_learned x r o h = by (is_of_version One x) refl h
+  where
+    by : (b : Bool) → is_of_version One x ≡ b → ◌≡◌ {A = Result OwnStep Refusal} (cond b r (Err Garbage)) (Ok o)
+        → (is_of_version One x ≡ true) × (r ≡ Ok o)
+    by true e h = (e, h)
+    by false e h = absurd (cc)
+
+-- so is its node's, as the roster has it
+its_version : (ms : List Member) (node : ℕ) (m : Member) → member_of ms node ≡ Some m
+    → is_of_version One (Some m) ≡ true → IsTrue (keeps_version ms m.node One)
+its_version ms node m is version =
+    ap (is_of_version One) (ap (member_of ms) (member_node ms node m is) ∙ is) ∙ version
+
 module _ (ms : List Member) (o : OwnStep) where
   learn_at : (a : Authenticator) (key : PublicKey) (x : Option Member) → member_of ms a.node ≡ x
-      → signed_step x key (Learn a) ≡ Ok o → Fits authenticator_item (authenticator_value a)
+      → is_of_version One x ≡ true → signed_step x key (Learn a) ≡ Ok o
+      → Fits authenticator_item (authenticator_value a)
       → IsSignedUnder key a → IsCheckedOwn ms o
-  learn_at a key None is h text signed = absurd (cc)
-  learn_at a key (Some m) is h text signed = by (is_key_of m key) refl h
+  learn_at a key None is version h text signed = absurd (cc)
+  learn_at a key (Some m) is version h text signed = by (is_key_of m key) refl h
     where
       by : (b : Bool) → is_key_of m key ≡ b
           → ◌≡◌ {A = Result OwnStep Refusal}
@@ -140,6 +176,7 @@ module _ (ms : List Member) (o : OwnStep) where
           to_own ms o m (Learn a)
           (record {
             node = sym (member_node ms a.node m is);
+            version = its_version ms a.node m is version;
             text = text;
             signed = in_roster (watched ms m) a is (signed_by m key a e signed);
           })
@@ -203,12 +240,14 @@ module _ (ms : List Member) (o : OwnStep) where
   -- ---- bytes
 
   learned_bytes : (bytes : List ℕ) (a : Authenticator) (x : Option Member) → member_of ms a.node ≡ x
-      → step_of x (Learn a) ≡ Ok o → IsTaken ms bytes (packets.Learn a) → IsCheckedOwn ms o
-  learned_bytes bytes a None is h taken = absurd (cc)
-  learned_bytes bytes a (Some m) is h taken =
+      → is_of_version One x ≡ true → step_of x (Learn a) ≡ Ok o → IsTaken ms bytes (packets.Learn a)
+      → IsCheckedOwn ms o
+  learned_bytes bytes a None is version h taken = absurd (cc)
+  learned_bytes bytes a (Some m) is version h taken =
       to_own ms o m (Learn a)
       (record {
         node = sym (member_node ms a.node m is);
+        version = its_version ms a.node m is version;
         text = taken.of_members.well.says.is_content.0;
         signed = taken.signed;
       })
@@ -225,13 +264,20 @@ module _ (ms : List Member) (o : OwnStep) where
         node = sym (member_node ms s.closing.node m is);
         roster = refl;
         text = (content.0, content.1);
-        closed = record { ends = taken.of_members.well.may_be; signed = taken.signed };
+        closed = record {
+          version = taken.of_members.well.may_be.0;
+          ends = taken.of_members.well.may_be.1;
+          signed = taken.signed;
+        };
       })
       h
 
   delivered_at : (bytes : List ℕ) (d : Delivery) → delivered_step ms d ≡ Ok o → IsTaken ms bytes d
       → IsCheckedOwn ms o
-  delivered_at bytes (packets.Learn a) h taken = learned_bytes bytes a (member_of ms a.node) refl h taken
+  delivered_at bytes (packets.Learn a) h taken =
+      let x = member_of ms a.node in
+      let its = of_learned x (step_of x (Learn a)) o h in
+      learned_bytes bytes a x refl its.0 its.1 taken
   delivered_at bytes (packets.SendChallenge e) h taken =
       other_at (member_of ms e.to) (SendChallenge e) (λ m. tt) h
   delivered_at bytes (packets.Answer s) h taken =
@@ -248,7 +294,10 @@ module _ (ms : List Member) (o : OwnStep) where
   -- where an event that may be handed in is a step of somebody, what it holds was checked
   pub checked_event : (e : Event) → whose ms e ≡ Ok o → IsEvent e → IsCheckedStep (watched ms o.member) o.step
   checked_event (events.Deliver bytes) h is = judged_at bytes (judged ms bytes) is refl h
-  checked_event (events.Learn a key) h is = learn_at a key (member_of ms a.node) refl h is.0 is.1
+  checked_event (events.Learn a key) h is =
+      let x = member_of ms a.node in
+      let its = of_learned x (signed_step x key (Learn a)) o h in
+      learn_at a key x refl its.0 its.1 is.0 is.1
   checked_event (events.SendChallenge e key) h is =
       sent_at (member_of ms e.from) (member_of ms e.to) key (SendChallenge e) (λ m. tt) h
   checked_event (events.Answer c) h is = answer_at c (member_of ms c.segment.closing.node) refl h is

@@ -37,7 +37,7 @@ answered accepted meant w history n first last bytes roster is node key stage h 
     let signed : IsSignedBy w.member closing =
     subst (λ x. IsSomeAnd x (λ k. IsSignedBy k closing)) member closed.signed in
     let good =
-    accepted w history (log_of n) first last part closing roster is (sym node) stage
+    accepted w history (log_of n) first last part closing roster is (sym node) key.version stage
     (h.places, h.few, h.answer.of_log) place signed in
     record {
       segment = s;

@@ -84,7 +84,7 @@ answer_packet meant w history s bytes bound text closed member its =
       of_members = record {
         well = record {
           says = record { content = bytes; whole = refl; is_content = text };
-          may_be = closed.ends;
+          may_be = (closed.version, closed.ends);
         };
         members = some_is w s.closing.node member;
       };

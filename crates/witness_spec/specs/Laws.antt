@@ -5,6 +5,7 @@ use Rattle.sha2.specs.Sha256.{sha256}
 use Rattle.xdr.specs.Item.{Fits}
 use Rattle.merkle_keys.specs.Signing.{SignatureParts}
 use Rattle.authenticator.specs.Roster.{IsRoster}
+use Rattle.authenticator.specs.declared.member.LogVersion.TheVariants.{One}
 use Rattle.authenticator.specs.Signed.{IsSignedBy}
 use Rattle.authenticator.specs.declared.authenticator.Authenticator.{Authenticator}
 use Rattle.authenticator.specs.declared.member.Member.{Member}
@@ -231,13 +232,13 @@ pub record AnswersAudit (w : Watched) (history : History) (c : ClosedParts) : Ty
 abbrev pub answer_of : List Member → OpenSegment → Authenticator → ClosedParts
 answer_of ms s closing = record { segment = with_closing s closing; roster = ms }
 
--- The part of a node's log that was asked for, closed by the node's signature at its last number, answers the
--- audit.
+-- The part of a node's log of version 1 that was asked for, closed by the node's signature at its last number,
+-- answers the audit.
 abbrev pub AnswersAreAccepted : Type 0
 AnswersAreAccepted =
     (w : Watched) (history : History) (log : LogParts) (first last : ℕ) (s : OpenSegment)
     (closing : Authenticator)
-    → IsRoster w.roster → IsInRoster w → log.node ≡ w.member.node
+    → IsRoster w.roster → IsInRoster w → log.node ≡ w.member.node → w.member.log_version ≡ One
     → stage_of (own_of w history) ≡ Wanted first last
     → GivesPart log first last (Ok s) → IsOfPlace log last closing → IsSignedBy w.member closing
     → AnswersAudit w history (answer_of w.roster s closing)

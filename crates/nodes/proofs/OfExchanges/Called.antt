@@ -49,6 +49,7 @@ listed_stays ms kind n t node master height h =
     turned m x = record {
       kind_of = x.kind_of;
       keys = record {
+        version = x.keys.version;
         root = x.keys.root ∙ sym (ap (λ (k : List ℕ). root k t.signer.height) master
             ∙ ap (root n.signer.master) height);
         height = x.keys.height ∙ sym height;

@@ -75,6 +75,7 @@ module _ (secret : List ℕ) where
       refl,
     );
     closed = record {
+      version = refl;
       ends = record { node = refl; number = refl; hash = refl };
       signed = leaf_signs secret 0 (signed_digest 5 2 back_hash) (omega arith);
     };

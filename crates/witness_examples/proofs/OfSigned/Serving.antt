@@ -220,6 +220,7 @@ module _ (secret : List ℕ) where
       refl,
     );
     closed = record {
+      version = refl;
       ends = record { node = refl; number = refl; hash = refl };
       signed = leaf_signs secret 0 (signed_digest 5 3 served_hash) (omega arith);
     };

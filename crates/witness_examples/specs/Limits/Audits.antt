@@ -6,6 +6,7 @@ use Rattle.merkle_keys.specs.Tree.{root}
 use Rattle.authenticator.specs.Signed.{signed_digest}
 use Rattle.authenticator.specs.declared.authenticator.Authenticator.{Authenticator}
 use Rattle.authenticator.specs.declared.member.Kind.TheVariants.{Client}
+use Rattle.authenticator.specs.declared.member.LogVersion.TheVariants.{One}
 use Rattle.authenticator.specs.declared.member.Member.{Member}
 use Rattle.secure_log.specs.LogEntries.Chain.{zeros, hash_after, link_of, links_from, last_hash}
 use Rattle.secure_log.specs.declared.log_entries.entry.Entry.{Entry}
@@ -95,7 +96,7 @@ its_secret = replicate 32 6
 
 -- that client
 abbrev pub six : Member
-six = record { node = 6; kind = Client; root = root its_secret 1; height = 1 }
+six = record { node = 6; kind = Client; root = root its_secret 1; height = 1; log_version = One }
 
 -- both
 abbrev pub clients : List Member

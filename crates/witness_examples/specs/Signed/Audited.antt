@@ -6,6 +6,7 @@ use Rattle.merkle_keys.specs.Tree.{root}
 use Rattle.authenticator.specs.Signed.{signed_digest}
 use Rattle.authenticator.specs.declared.authenticator.Authenticator.{Authenticator}
 use Rattle.authenticator.specs.declared.member.Kind.TheVariants.{Client}
+use Rattle.authenticator.specs.declared.member.LogVersion.TheVariants.{One}
 use Rattle.authenticator.specs.declared.member.Member.{Member}
 use Rattle.secure_log.specs.LogEntries.Chain.{zeros, links_from, last_hash}
 use Rattle.secure_log.specs.declared.log_entries.entry.Entry.{Entry}
@@ -23,7 +24,7 @@ use Rattle.witness_spec.specs.Histories.{History}
 
 -- the client with a secret, as a member
 abbrev pub client : (secret : List ℕ) → Member
-client secret = record { node = 5; kind = Client; root = root secret 1; height = 1 }
+client secret = record { node = 5; kind = Client; root = root secret 1; height = 1; log_version = One }
 
 -- the client's public key
 abbrev pub client_key : (secret : List ℕ) → PublicKey

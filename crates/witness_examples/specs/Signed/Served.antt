@@ -9,6 +9,7 @@ use Rattle.authenticator.specs.Signed.{signed_digest}
 use Rattle.authenticator.specs.Signing.{shown_leaf}
 use Rattle.authenticator.specs.declared.authenticator.Authenticator.{Authenticator}
 use Rattle.authenticator.specs.declared.member.Kind.TheVariants.{Server, Client}
+use Rattle.authenticator.specs.declared.member.LogVersion.TheVariants.{One}
 use Rattle.authenticator.specs.declared.member.Member.{Member}
 use Rattle.secure_log.specs.LogEntries.Chain.{zeros, links_from, last_hash}
 use Rattle.secure_log.specs.LogEntries.Messages.{message_hash}
@@ -75,7 +76,7 @@ caller_root = path_end 0 (shown_leaf (signed_digest 6 1 call_hash) call_signatur
 
 -- the client, as a member
 abbrev pub caller : Member
-caller = record { node = 6; kind = Client; root = caller_root; height = 1 }
+caller = record { node = 6; kind = Client; root = caller_root; height = 1; log_version = One }
 
 -- what the call shows of the client's log
 abbrev pub caller_shown : Authenticator
@@ -85,7 +86,7 @@ caller_shown = sender_shown 5 6 1 zeros call call_signature
 
 -- the server with a secret, as a member
 abbrev pub server : (secret : List ℕ) → Member
-server secret = record { node = 5; kind = Server; root = root secret 1; height = 1 }
+server secret = record { node = 5; kind = Server; root = root secret 1; height = 1; log_version = One }
 
 -- the server's public key
 abbrev pub server_key : (secret : List ℕ) → PublicKey

@@ -5,6 +5,7 @@ use Rattle.sha2.specs.Sha256.{sha256}
 use Rattle.merkle_keys.specs.Signing.{SignatureParts, signature_of}
 use Rattle.authenticator.specs.Signed.{signed_digest}
 use Rattle.authenticator.specs.declared.member.Kind.TheVariants.{Client}
+use Rattle.authenticator.specs.declared.member.LogVersion.TheVariants.{One}
 use Rattle.authenticator.specs.declared.member.Member.{Member}
 use Rattle.merkle_keys.specs.Tree.{root}
 use Rattle.secure_log.specs.LogEntries.Messages.{message_hash, receipt_hash}
@@ -48,7 +49,7 @@ forked_steps secret = (Learn (signed secret 1 1 twos), Noted) ∷ one_step secre
 
 -- another client, whose secret is another
 abbrev pub sender : (secret : List ℕ) → Member
-sender secret = record { node = 6; kind = Client; root = root secret 1; height = 1 }
+sender secret = record { node = 6; kind = Client; root = root secret 1; height = 1; log_version = One }
 
 -- the roster of both clients
 abbrev pub both : (secret other : List ℕ) → List Member

@@ -4,7 +4,8 @@ use Rattle.std.proofs.Common.{◌≡◌, ◌↔◌, inl, inr, ℕ, Bool, true, f
 use Rattle.std.proofs.Common.{List, [], ◌∷◌, ◌++◌, filter, IsSomeAnd, Ok, Err}
 use Rattle.std.proofs.Common.{refl, sym, ap, ap₂, subst, ◌∙◌, eq-eqb}
 use Rattle.std.proofs.lemmas.Bool.{and_from, or_left, or_right, true≢false}
-use Rattle.authenticator.specs.Roster.{member_of, kind_number}
+use Rattle.authenticator.specs.Roster.{member_of, is_of_version, kind_number, log_number, same_version}
+use Rattle.authenticator.specs.declared.member.LogVersion.TheVariants.{One}
 use Rattle.authenticator.specs.Signed.{IsSignedBy}
 use Rattle.authenticator.specs.declared.authenticator.Authenticator.{Authenticator}
 use Rattle.authenticator.specs.declared.member.Member.{Member}
@@ -71,13 +72,15 @@ open_of message e (x ∷ xs) (inr i) same =
 -- a member is the same as itself
 pub member_self : (m : Member) → same_member m m ≡ true
 member_self m =
-    and_from (m.node == m.node)
-    ((kind_number m.kind == kind_number m.kind) && (is_same m.root m.root && (m.height == m.height)))
+    let last = (m.height == m.height) && same_version m.log_version m.log_version in
+    and_from (m.node == m.node) ((kind_number m.kind == kind_number m.kind) && (is_same m.root m.root && last))
     (eq-eqb m.node m.node refl)
-    (and_from (kind_number m.kind == kind_number m.kind) (is_same m.root m.root && (m.height == m.height))
+    (and_from (kind_number m.kind == kind_number m.kind) (is_same m.root m.root && last)
     (eq-eqb (kind_number m.kind) (kind_number m.kind) refl)
-    (and_from (is_same m.root m.root) (m.height == m.height) (list_same m.root m.root refl)
-    (eq-eqb m.height m.height refl)))
+    (and_from (is_same m.root m.root) last (list_same m.root m.root refl)
+    (and_from (m.height == m.height) (same_version m.log_version m.log_version)
+    (eq-eqb m.height m.height refl)
+    (eq-eqb (log_number m.log_version) (log_number m.log_version) refl))))
 
 -- a roster is the same as itself
 pub roster_self : (ms : List Member) → same_roster ms ms ≡ true
@@ -137,16 +140,19 @@ module _ (w : Watched) (history : History) (is : IsInRoster w) where
 
   -- the part of a log that an audit asked for, closed by the node's signature, answers the audit
   pub answers : (log : LogParts) (first last : ℕ) (s : OpenSegment) (closing : Authenticator)
-      → log.node ≡ w.member.node → stage_of (own_of w history) ≡ Wanted first last
+      → log.node ≡ w.member.node → w.member.log_version ≡ One → stage_of (own_of w history) ≡ Wanted first last
       → GivesPart log first last (Ok s) → IsOfPlace log last closing → IsSignedBy w.member closing
       → AnswersAudit w history (answer_of w.roster s closing)
-  answers log first last s closing node stage part place signed =
+  answers log first last s closing node version stage part place signed =
       let c : ClosedParts = answer_of w.roster s closing in
       let here : closing.node ≡ w.member.node = place.node ∙ node in
       let its = answer_its c refl here in
+      let ends = (closed_at_its_last log first last s part.0 part.2 closing).1 place in
       record {
         closed = record {
-          ends = (closed_at_its_last log first last s part.0 part.2 closing).1 place;
+          version = ap (is_of_version One) (ap (member_of w.roster) (sym ends.node ∙ here) ∙ is)
+              ∙ ap (λ v. same_version v One) version;
+          ends = ends;
           signed = subst (λ x. IsSomeAnd x (λ n. IsSignedBy n closing))
               (sym (ap (member_of w.roster) here ∙ is)) signed;
         };

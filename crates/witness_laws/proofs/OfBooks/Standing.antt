@@ -6,7 +6,7 @@ use Rattle.std.proofs.Common.{map, Option, Some, Ok, refl, sym, ap, subst, ◌�
 use Rattle.std.specs.Prelude.{IsTrue, nat_lt}
 use Rattle.std.proofs.lemmas.Bool.{and_parts, ltb-true}
 use Rattle.std.proofs.lemmas.Option.{same_Some}
-use Rattle.authenticator.specs.Roster.{member_of, IsRoster, rises_above, roster_value}
+use Rattle.authenticator.specs.Roster.{member_of, IsRoster, rises_above, member_values}
 use Rattle.authenticator.specs.declared.member.Member.{Member}
 use Rattle.witness_spec.specs.Events.{Event, IsEvent}
 use Rattle.witness_spec.specs.Replies.{Reply}
@@ -123,13 +123,13 @@ module _ (w : Watched) (history : History) (e : Event) (r : Reply)
   where
     -- the members after it have other numbers, and their books stand on
     after_it : (low : ℕ) (members : List Member) (books : List BookParts) → w.member.node ≤ low
-        → IsTrue (rises_above low (roster_value members)) → StandEach w.roster history members books
+        → IsTrue (rises_above low (member_values members)) → StandEach w.roster history members books
         → StandEach w.roster ((e, r) ∷ history) members books
     after_it low [] [] above rise h = tt
     after_it low [] (b ∷ books) above rise h = h
     after_it low (n ∷ members) [] above rise h = h
     after_it low (n ∷ members) (b ∷ books) above rise h =
-        let both = and_parts (nat_lt low n.node) (rises_above n.node (roster_value members)) rise in
+        let both = and_parts (nat_lt low n.node) (rises_above n.node (member_values members)) rise in
         let higher : low < n.node = ltb-true low n.node both.0 in (
           subst (λ x. StandsFor (watched w.roster n) x b)
               (sym (others n.node (not_same (omega (arith, above, higher))))) h.0,
@@ -146,7 +146,7 @@ module _ (w : Watched) (history : History) (e : Event) (r : Reply)
             by false same = refl
 
     step_each : (low : ℕ) (new : BookParts) (members : List Member) (books : List BookParts)
-        → member_of members w.member.node ≡ Some w.member → IsTrue (rises_above low (roster_value members))
+        → member_of members w.member.node ≡ Some w.member → IsTrue (rises_above low (member_values members))
         → StandEach w.roster history members books → StandsFor w (own_of w ((e, r) ∷ history)) new
         → StandEach w.roster ((e, r) ∷ history) members (with_book members w.member.node new books)
     step_each low new [] books is rise h k = absurd (cc)
@@ -154,7 +154,7 @@ module _ (w : Watched) (history : History) (e : Event) (r : Reply)
     step_each low new (n ∷ members) (b ∷ books) is rise h k =
         by (n.node == w.member.node) refl is
         (λ rest. step_each n.node new members books rest
-        (and_parts (nat_lt low n.node) (rises_above n.node (roster_value members)) rise).1 h.1 k)
+        (and_parts (nat_lt low n.node) (rises_above n.node (member_values members)) rise).1 h.1 k)
       where
         turned : (t : Bool) → (n.node == w.member.node) ≡ t → (w.member.node == n.node) ≡ t
         turned true same = eq-eqb w.member.node n.node (sym (eqb-true n.node w.member.node same))
@@ -178,7 +178,7 @@ module _ (w : Watched) (history : History) (e : Event) (r : Reply)
               subst (λ x. StandsFor (watched w.roster x) (own w.roster x.node ((e, r) ∷ history)) new)
                   (sym it) k,
               after_it n.node members books low_enough
-                  (and_parts (nat_lt low n.node) (rises_above n.node (roster_value members)) rise).1 h.1,
+                  (and_parts (nat_lt low n.node) (rises_above n.node (member_values members)) rise).1 h.1,
             )
         by false same at rest = (
           subst (λ x. StandsFor (watched w.roster n) x b) (sym (others n.node (turned false same))) h.0,

@@ -4,10 +4,13 @@
 use Rattle.std.proofs.Common.{◌≡◌, inl, inr, ℕ, ◌+◌, ◌-◌, ◌^◌, ◌<◌, false, List, [], ◌∷◌, ◌++◌, map}
 use Rattle.std.proofs.Common.{length, Some, refl, sym, ap, subst, ◌∙◌, arith, length-append}
 use Rattle.std.proofs.Common.{append_assoc, append-nil}
+use Rattle.std.specs.Prelude.{IsTrue}
 use Rattle.std.specs.List.{AllByRecursion}
 use Rattle.std.proofs.lemmas.List.{length-map}
 use Rattle.xdr.specs.Item.{Fits}
+use Rattle.authenticator.specs.Roster.{keeps_version}
 use Rattle.authenticator.specs.declared.authenticator.Authenticator.{Authenticator}
+use Rattle.authenticator.specs.declared.member.LogVersion.TheVariants.{One}
 use Rattle.authenticator.specs.declared.member.Member.{Member}
 use Rattle.secure_log.specs.declared.log_entries.entry.Entry.{Entry}
 use Rattle.secure_log.specs.LogEntries.Entry.{entry_item, entry_value}
@@ -248,13 +251,18 @@ replay_charge w past j fault number is e a next good v =
     let k = is_joined w past j.segment e a next good in
     let values = length-map (audited w past ++ s.entries) entry_value in
     let node : w.member.node < 2 ^ 32 = omega (arith, good.text.0.0, good.closed.ends.node, good.node) in
+    let version : IsTrue (keeps_version w.roster w.member.node One) =
+    subst (λ n. IsTrue (keeps_version w.roster n One)) (sym good.closed.ends.node ∙ good.node)
+    good.closed.version in
     record {
       small = node;
+      version = version;
       accepted = record {
         of_node = refl;
         first = refl;
         opening = refl;
         closed = record {
+          version = version;
           ends = record { node = good.node; number = omega (arith, k.count); hash = sym k.hash };
           signed = good.closed.signed;
         };

@@ -4,12 +4,14 @@ use Rattle.std.proofs.Common.{◌≡◌, ◌≢◌, ◌⊎◌, inl, inr, ℕ, �
 use Rattle.std.proofs.Common.{◌||◌, ◌==◌}
 use Rattle.std.proofs.Common.{List, [], ◌∷◌, ◌++◌, length, Option, Some, None, refl, sym, ap, ap₂, subst, ◌∙◌}
 use Rattle.std.proofs.Common.{arith, eqb-true, length-append, not, zero, suc}
-use Rattle.std.specs.Prelude.{option_map, option_and_then}
+use Rattle.std.specs.Prelude.{option_map, option_and_then, IsTrue}
 use Rattle.std.proofs.lemmas.Bool.{and_parts, or_cases, or_right, true≢false, ltb-true, lt-ltb}
 use Rattle.std.proofs.lemmas.Option.{same_Some}
 use Rattle.xdr.specs.Item.{Fits, choice}
 use Rattle.authenticator.specs.Numbers.{number_item}
+use Rattle.authenticator.specs.Roster.{keeps_version}
 use Rattle.authenticator.specs.declared.authenticator.Authenticator.{Authenticator}
+use Rattle.authenticator.specs.declared.member.LogVersion.TheVariants.{One}
 use Rattle.secure_log.specs.LogEntries.Chain.{zeros, links_from, IsAmong}
 use Rattle.secure_log.specs.Segment.{SegmentParts, ClosedParts, segment_pairs}
 use Rattle.authenticator.specs.Signing.{is_same}
@@ -138,6 +140,8 @@ positive (suc n) h = omega arith
 pub record IsGoodCharge (w : Watched) (g : Charge) : Type 0 where
   -- the node's number has 32 bits
   pub small : w.member.node < 2 ^ 32
+  -- its log is of version 1
+  pub version : IsTrue (keeps_version w.roster w.member.node One)
   -- the charge is accepted
   pub accepted : AcceptsCharge w.roster w.member.node g
   -- the charge has a text
@@ -152,6 +156,7 @@ pub data Charging (w : Watched) (past : Past) (p : Step × Reply) : Type 0 where
 -- what is shown anew: a showing with its pairs, of one hash at each number
 record IsNew (w : Watched) (new : ShowingParts) (ps : List Pair) : Type 0 where
   good : IsGoodShowing w new ps
+  version : IsTrue (keeps_version w.roster w.member.node One)
   one : (n : ℕ) (x y : List ℕ) → IsAmong (n, x) ps → IsAmong (n, y) ps → x ≡ y
   few : (n : ℕ) (x : List ℕ) → IsAmong (n, x) ps → Fits number_item n
 
@@ -159,6 +164,7 @@ new_authenticator : (w : Watched) (a : Authenticator) → IsLearned w a
     → IsNew w (authenticator_showing a) (pair_of a ∷ [])
 new_authenticator w a good = record {
   good = good_authenticator w a good;
+  version = good.version;
   one = λ n x y i j. its x n i ∙ sym (its y n j);
   few = λ n x i. number n x i;
 }
@@ -181,6 +187,8 @@ new_segment w s good =
     subst (λ k. AreNumbered k links) back (entries_numbered s.first s.entries) in
     record {
       good = good_segment w s good;
+      version = subst (λ n. IsTrue (keeps_version w.roster n One)) (sym good.closed.ends.node ∙ good.node)
+          good.closed.version;
       one = λ n x y i j. one_hash (s.first - 1) s.opening links n x y are i j;
       few = λ n x i.
           let h = behind (s.first - 1) s.opening links n x are i in
@@ -216,6 +224,7 @@ module _ (w : Watched) (past : Past) (p : Step × Reply) (owed : AreOwed w past)
       one_shown w past e 0 f.other zeros f.other_old (first_shown w past) in
       record {
         small = omega (arith, is.good.shows.text.0, is.good.node);
+        version = is.version;
         accepted = record {
           a_node = is.good.node;
           closed = is.good.shows.closed;
@@ -232,6 +241,7 @@ module _ (w : Watched) (past : Past) (p : Step × Reply) (owed : AreOwed w past)
       → IsGoodCharge w (Fork (record { at = n; a = old; b = Some new }))
   at_number n new old ps qs is before f there = record {
     small = omega (arith, is.good.shows.text.0, is.good.node);
+    version = is.version;
     accepted = record {
       a_node = before.node;
       b_node = is.good.node;

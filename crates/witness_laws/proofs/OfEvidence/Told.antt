@@ -156,4 +156,9 @@ proof_of w e law c =
     let f : EvidenceParts = record { node = w.member.node; charge = c.charge } in
     let fits : Fits evidence_item (evidence_value f) = (c.good.small, c.good.text) in
     subst (IsProof w) (sym c.is)
-    (record { node = refl; text = fits; accepted = c.good.accepted; proves = law f fits c.good.accepted })
+    (record {
+      node = refl;
+      text = fits;
+      accepted = (c.good.version, c.good.accepted);
+      proves = law f fits (c.good.version, c.good.accepted);
+    })

@@ -19,4 +19,4 @@ pub returns : goal.returns
 unfolding zeros
 returns c =
     let differs : ¬ (c.in-Some.one ≡ zeros) = λ e. let is : c.is_zeros.result ≡ true = c.is_zeros.ensures.1 e in let both : true ≡ false = sym is ∙ c.if-is_zeros.false in absurd cc in
-    (c.new.ensures, refl, accepts_one c.args.roster.now c.args.node c.args.a.now c.in-Some.one c.requires (c.in-Some.ensures.exact c.requires.closed.first) differs)
+    (c.requires.version, (c.new.ensures, refl, accepts_one c.args.roster.now c.args.node c.args.a.now c.in-Some.one c.requires (c.in-Some.ensures.exact c.requires.closed.first) differs))

@@ -28,9 +28,12 @@ returns-then-is_same c =
 pub returns : goal.returns
 returns c =
     let differ : ¬ (c.in-Some-hash_at.one ≡ c.in-Some-hash_at-2.other) = λ e. let is : c.is_same.result ≡ true = c.is_same.ensures.1 e in let both : true ≡ false = sym is ∙ c.if-is_same.false in absurd cc in (
-      refl,
-      accepts_two c.args.roster.now c.args.node c.args.at c.args.a.now c.args.b.now c.in-Some-hash_at.one c.in-Some-hash_at-2.other c.requires c.in_default.ensures.none
-          (rw c.get.ensures.value at (c.in-Some-hash_at.ensures.exact c.requires.closed.first))
-          (rw c.get-2.ensures.value at (c.in-Some-hash_at-2.ensures.exact c.in_default.ensures.none.closed.first))
-          differ,
+      c.requires.version,
+      (
+        refl,
+        accepts_two c.args.roster.now c.args.node c.args.at c.args.a.now c.args.b.now c.in-Some-hash_at.one c.in-Some-hash_at-2.other c.requires c.in_default.ensures.none
+            (rw c.get.ensures.value at (c.in-Some-hash_at.ensures.exact c.requires.closed.first))
+            (rw c.get-2.ensures.value at (c.in-Some-hash_at-2.ensures.exact c.in_default.ensures.none.closed.first))
+            differ,
+      ),
     )

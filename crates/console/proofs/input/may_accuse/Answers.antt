@@ -4,8 +4,13 @@ use Rattle.console.proofs.input.may_accuse.Goals as goal
 
 pub returns-then-count-gt-MAX_MEMBERS : goal.returns-then-count-gt-MAX_MEMBERS
 returns-then-count-gt-MAX_MEMBERS c is more =
-    too_many c.args.front.now more c.args.count c.requires (search rules)
+    let counted = rw c.count_place-place.ensures.place at c.in-Some.ensures in
+    too_many c.args.front.now more c.args.first c.in-Some.count
+    (record { begins = c.requires; counted = counted }) c.if-count-gt-MAX_MEMBERS.true
 
 pub returns-else-charge-eq1 : goal.returns-else-charge-eq1
 returns-else-charge-eq1 c is more =
-    no_charge c.args.front.now more c.args.count c.in-Some.charge c.requires (search rules) (search rules) is
+    let counted = rw c.count_place-place.ensures.place at c.in-Some.ensures in
+    let charged = rw (c.count_place-place.ensures.place, c.member_size.ensures.size) at c.in-Some-word_at.ensures in
+    no_charge c.args.front.now more c.args.first c.in-Some.count c.in-Some-word_at.charge
+    (record { begins = c.requires; counted = counted }) charged (search rules) is
