@@ -16,12 +16,12 @@ readonly REFUSED=400
 
 # Of each subject one more than the requests that the calls have, and how many what is made first has, which aren't refused.
 declare -rA MOST=(
-    [replies]=29 [files]=36 [keys]=8 [log]=76 [state]=124 [client]=25 [server]=54 [streams]=19 [steps]=28 [entries]=27
+    [replies]=29 [files]=36 [keys]=8 [log]=84 [state]=124 [client]=25 [server]=54 [streams]=19 [steps]=28 [entries]=27
     [segments]=67 [evidence]=107 [books]=34 [filings]=13 [served]=27 [returned]=13 [jobs]=41 [rounds]=64 [stored]=0
 )
 declare -rA MADE=(
     [replies]=0 [files]=8 [keys]=0 [log]=13 [state]=1 [client]=10 [server]=18 [streams]=17 [steps]=20 [entries]=28
-    [segments]=28 [evidence]=1 [books]=91 [filings]=135 [served]=61 [returned]=125 [jobs]=75 [rounds]=101 [stored]=0
+    [segments]=28 [evidence]=1 [books]=86 [filings]=130 [served]=56 [returned]=120 [jobs]=70 [rounds]=96 [stored]=0
 )
 readonly CHECKS=$PWD/checks
 
