@@ -38,14 +38,14 @@ check_whole() {
         cmp -s "$files/out" "$name.said" || fail "$name is explained otherwise" "$files/out"
         count=$((count + 1))
     done
-    [ "$count" -eq 20 ] || fail "$count files were tried"
+    [ "$count" -eq 22 ] || fail "$count files were tried"
 }
 
 # Files that are cut, at each of the first 208 bytes, at each 64th after them, by the last byte and in each part, and one
 # with a byte more.
 check_cuts() {
     local name size cut
-    for name in wrong_reply fork; do
+    for name in wrong_reply fork hidden_entry; do
         size=$(wc -c < "$cases/$name.evidence")
         for cut in $(seq 0 208) $(seq 256 64 "$size") $((size - 1)) $((size - 4)) $((size - 16500)); do
             head -c "$cut" "$cases/$name.evidence" > "$files/case"
@@ -67,7 +67,7 @@ changed() {
 # A bit changed anywhere: in the roster, the evidence's node, the log, its entries and its closing.
 check_changes() {
     local name size at
-    for name in wrong_reply fork; do
+    for name in wrong_reply fork hidden_entry; do
         size=$(wc -c < "$cases/$name.evidence")
         for ((at = 3; at < size; at += size / 60)); do
             changed $name $at
@@ -98,6 +98,46 @@ why() {
 # lacks WORDS FILE: it is told that the file's evidence isn't accepted, and what it lacks.
 lacks() {
     why "nfsacc: .*: the evidence is not accepted: $1" "$2"
+}
+
+# with_byte NAME AT BYTE: the file with another byte at a place, in octal digits.
+with_byte() {
+    cp "$cases/$1.evidence" "$files/case"
+    printf "\\$3" | dd of="$files/case" bs=1 seek="$2" conv=notrunc status=none
+}
+
+# The same of logs of version 2. In hidden_entry.evidence node 1's log version ends at 56, the roster at 152, the charge
+# stands at 156, `at` at 160, the first showing at 168 with `before` at 172, its count of links at 212 and its closing's word
+# at 220; the second showing at 16784 with `before` at 16788, its links at 16832 and 16876, its closing's word at 16924.
+check_gap_reasons() {
+    local cut
+    for cut in 56:56 151:148 156:156 159:156 160:160 172:172 179:172 212:212 16831:16828 16832:16832 16839:16832 \
+        16840:16840 16876:16876 16883:16876 16920:16920 16931:16924; do
+        head -c "${cut%:*}" "$cases/hidden_entry.evidence" > "$files/case"
+        why "nfsacc: $files/case: not a roster .* byte ${cut#*:} does not decode" "$files/case"
+    done
+    # The count in the first link's word, its number, and what stands before it: then the word doesn't follow.
+    for cut in 16835 16839 16795; do
+        changed hidden_entry $cut
+        why "nfsacc: $files/case: not a roster .* byte 16832 does not decode" "$files/case"
+    done
+    # A replay of a log of version 2 isn't read, and no charge is 0.
+    for cut in 0 4; do
+        with_byte hidden_entry 159 $cut
+        why "nfsacc: $files/case: not a roster .* byte 156 does not decode" "$files/case"
+    done
+    changed hidden_entry 155
+    lacks 'what is shown is of another node' "$files/case"
+    with_byte hidden_entry 55 1
+    lacks "the evidence is of another log version than the node's" "$files/case"
+    changed hidden_entry 167
+    lacks 'no two marks are shown at the number' "$files/case"
+    # What the word of a closing without links skips isn't looked at; but it is signed.
+    changed hidden_entry 223
+    lacks "what closes it does not verify by the node's key" "$files/case"
+    changed hidden_entry 16927
+    lacks 'what is shown does not end in what closes it' "$files/case"
+    lacks 'what is shown does not end in what closes it' "$cases/other_before.evidence"
 }
 
 # A file that is no evidence is told as which of three it is: by the byte at which an item begins that doesn't decode, by
@@ -138,6 +178,7 @@ check_reasons() {
     lacks 'the roster has no key of the node, so nobody can tell who signed' "$files/case"
     changed wrong_reply 110
     lacks 'the log is not shown from its first entry on' "$files/case"
+    check_gap_reasons
     why "nfsacc: .*: its roster is not the one that is trusted" --roster "$cases/client_clock.evidence" "$cases/fork.evidence"
     judged 1 'no evidence' --explain "$cases/fork.evidence" --roster "$cases/client_clock.evidence"
     grep -qx 'reason: its roster is not the one that is trusted' "$files/out" || fail 'another roster' "$files/out"
@@ -351,8 +392,8 @@ for program in "${made[@]}"; do
     check_others
     check_endless
 done
-# Under rosters in the second form, and texts that are none.
-checks/gaps.py --version-1 "$(IFS=,; echo "${made[*]}")"
+# Logs of version 2: forks, evidence of logs of version 1 under rosters in the second form, and texts that are none.
+checks/gaps.py --forks "$(IFS=,; echo "${made[*]}")"
 # It takes 2 GiB of memory, so one program is enough.
 program=${made[0]}
 check_longest

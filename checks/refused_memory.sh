@@ -17,11 +17,11 @@ readonly REFUSED=400
 # Of each subject one more than the requests that the calls have, and how many what is made first has, which aren't refused.
 declare -rA MOST=(
     [replies]=29 [files]=36 [keys]=8 [log]=84 [state]=124 [client]=25 [server]=54 [streams]=19 [steps]=28 [entries]=27
-    [segments]=67 [evidence]=107 [books]=34 [filings]=13 [served]=27 [returned]=13 [jobs]=41 [rounds]=64 [stored]=0
+    [segments]=67 [evidence]=107 [fork]=99 [books]=34 [filings]=13 [served]=27 [returned]=13 [jobs]=41 [rounds]=64 [stored]=0
 )
 declare -rA MADE=(
     [replies]=0 [files]=8 [keys]=0 [log]=13 [state]=1 [client]=10 [server]=18 [streams]=17 [steps]=20 [entries]=28
-    [segments]=28 [evidence]=1 [books]=86 [filings]=130 [served]=56 [returned]=120 [jobs]=70 [rounds]=96 [stored]=0
+    [segments]=28 [evidence]=1 [fork]=1 [books]=86 [filings]=130 [served]=56 [returned]=120 [jobs]=70 [rounds]=96 [stored]=0
 )
 readonly CHECKS=$PWD/checks
 
@@ -29,6 +29,7 @@ readonly CHECKS=$PWD/checks
 texts_of() {
     case $1 in
         evidence) cat "$CHECKS/evidence/wrong_checkpoint.evidence" ;;
+        fork) cat "$CHECKS/evidence/hidden_entry.evidence" ;;
         client | server) cat "$work/to_calls" ;;
         log) cat "$work/to_logs" ;;
         steps | entries | segments) cat "$work/to_replays" ;;
@@ -178,6 +179,7 @@ check_subject() {
             # These two copy a signature, and write no text of it.
             least_refused 6 of_authenticator from_start
             ;;
+        fork) least_refused 9 read_case write_case evidence_text read_evidence Evidence::try_clone ;;
         # Nothing else takes memory: neither AckIn, Begin and PutBack, nor Ask of the indication and of evidence at hand.
         books)
             exactly_refused 4 'Deliver of an authenticator' 1 SendChallenge 5 'Ask of the challenges' \
@@ -202,8 +204,8 @@ check_subject() {
 subjects=("$@")
 if [ $# -eq 0 ]; then
     subjects=(
-        replies files keys log state client server streams steps entries segments evidence books filings served returned
-        jobs rounds stored
+        replies files keys log state client server streams steps entries segments evidence fork books filings served
+        returned jobs rounds stored
     )
 fi
 scratch_crate refused_memory checks/refused_memory rpc_streams replay_pool witness_service witness_books node_book packets challenge evidence_showings envelopes replay node_logs checkpoint state_machine gateway service nfs_items rpc commitment secure_log authenticator merkle_keys xdr sha2 anyhow

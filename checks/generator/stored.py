@@ -9,6 +9,7 @@ from verifier.log import SEND, Check, Clock, Send
 from verifier.nfs import ROOT
 from verifier.xdr import opaque, word
 
+from . import gaps
 from .kinds import file_of, nfs_as_user_0
 from .logs import Cast, Log
 from .signer import Signer
@@ -116,5 +117,16 @@ def long_write() -> bytes:
     return replay_of(log)
 
 
+def hidden_entry() -> bytes:
+    """A log of version 2: number 3 is signed, and what is shown of the log skips it."""
+    return gaps.hidden_entry(Random('hidden_entry 0'), 0).data
+
+
+def other_before() -> bytes:
+    """A log of version 2 whose first entry is 6, and the same links after 3, with a first count that fits: it ends in
+    another hash."""
+    return gaps.other_before(Random('other_before 0'), 0).data
+
+
 STORED = [client_clock, check_after_ack, wrong_check_after_ack, second_ack, first_0, other_handle, odd_name,
-          long_write, member_left_out, kind_changed]
+          long_write, member_left_out, kind_changed, hidden_entry, other_before]

@@ -39,17 +39,18 @@ pub fn roster_of(alloc: Global, members: &[Member]) -> Option<Roster> {
     }
 }
 
-/// What a node signs for a hash of its log at a number.
+/// What a node signs for a hash of its log at a number, before which none is skipped.
 pub fn signed(
     signer: &mut Signer,
     node: u32,
     number: Number,
     hash: [u8; 32],
 ) -> Option<Authenticator> {
-    match signer.sign(&signed_digest(node, number, &hash)) {
+    let word = number.word();
+    match signer.sign(&signed_digest(node, word, &hash)) {
         Ok(signature) => Some(Authenticator {
             node,
-            number,
+            word,
             hash,
             signature,
         }),

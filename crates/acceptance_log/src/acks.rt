@@ -2,7 +2,7 @@
 
 use crate::hostile::{Kind, is_garbage_cut, is_refused_changed, refusal_changed};
 use crate::nodes::{ack_text, new_client, new_server, sent};
-use authenticator::{Number, Refusal, Roster};
+use authenticator::{Refusal, Roster, Word};
 use commitment::Receiver;
 use commitment::senders::Sender;
 use envelopes::{Ack, Message, check_ack, check_envelope};
@@ -33,13 +33,13 @@ fn message_of(alloc: Global, roster: &Roster, text: &[u8]) -> Option<Message> {
     }
 }
 
-/// Whether an acknowledgement is of the client's message 1, and not with another number or another digest of
+/// Whether an acknowledgement is of the client's message 1, and not with another word or another digest of
 /// the signature.
 fn matches_first(client: &Sender, mut ack: Ack) -> bool {
     let first = client.matches_ack(&ack);
-    ack.seq = Number::new(2);
+    ack.seq = Word::new(2);
     let second = client.matches_ack(&ack);
-    ack.seq = Number::new(1);
+    ack.seq = Word::new(1);
     ack.signature_hash = [0; 32];
     first && !second && !client.matches_ack(&ack)
 }

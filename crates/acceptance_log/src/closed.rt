@@ -1,7 +1,7 @@
 //! A log's text, closed by its node.
 
 use acceptance_helpers::{MASTER, roster_of, server, signed};
-use authenticator::{Authenticator, Number, Roster};
+use authenticator::{Authenticator, LogVersion, Number, Roster};
 use merkle_keys::Signer;
 use secure_log::Log;
 use std::alloc::Global;
@@ -9,7 +9,8 @@ use std::alloc::Global;
 /// The text of a log's entries from the first on, closed by this authenticator.
 fn text_closed(alloc: Global, log: &Log, closing: &Authenticator) -> Option<Vec<u8>> {
     let mut text = Vec::new(alloc);
-    match log.segment(1, closing.number.get()) {
+    let last = closing.word.number(LogVersion::One);
+    match log.segment(1, last.get()) {
         Ok(segment) => match segment.write(closing, &mut text) {
             Ok(()) => Some(text),
             Err(_) => None,

@@ -1,6 +1,6 @@
 //! Hashes of logs, texts of entries and parts of logs, against an independent program's and the rules.
 
-use authenticator::Number;
+use authenticator::Word;
 use secure_log::log_entries::{Body, Entry, SignatureText};
 use secure_log::{Log, SegmentFault};
 use std::alloc::Global;
@@ -148,7 +148,7 @@ fn recv(alloc: Global) -> Option<Entry> {
     let signature = signature(alloc)?;
     Some(Entry::Recv {
         from: 2,
-        seq: Number::new(7),
+        seq: Word::new(7),
         prev: [1; 32],
         body,
         signature,
@@ -159,9 +159,9 @@ fn ack(alloc: Global) -> Option<Entry> {
     let signature = signature(alloc)?;
     Some(Entry::Ack {
         to: 2,
-        seq: Number::new(1),
+        seq: Word::new(1),
         mine: [1; 32],
-        number: Number::new(8),
+        number: Word::new(8),
         prev: [2; 32],
         signature,
     })

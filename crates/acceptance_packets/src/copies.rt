@@ -3,7 +3,7 @@
 
 use crate::evidence::{Content as Charged, Made as MadeEvidence, holds_of};
 use crate::made::{Content, packet_of};
-use authenticator::{Checked, Number, Roster, Signs};
+use authenticator::{Checked, Roster, Signs, Word};
 use challenge::{AuditedLog, Charge, Evidence, Fork, Showing};
 use envelopes::Envelope;
 use packets::{Packet, read_packet};
@@ -69,7 +69,7 @@ fn recv_is_copied(alloc: Global, body: Option<Body>, signature: Option<Signature
     };
     let entry = Entry::Recv {
         from: 2,
-        seq: Number::new(1),
+        seq: Word::new(1),
         prev: [0; 32],
         body,
         signature,

@@ -3,7 +3,7 @@
 
 use crate::made::{keys_of_two, roster_of_two};
 use acceptance_helpers::signed;
-use authenticator::{Authenticator, Number, Roster};
+use authenticator::{Authenticator, LogVersion, Number, Roster};
 use challenge::{
     AuditedLog, Charge, Evidence, EvidenceFault, Finding, Fork, NotAccepted, Showing,
     check_evidence, examine, read_case, read_evidence, write_case,
@@ -26,22 +26,42 @@ pub enum Content {
 /// What an authenticator of a hash shows.
 fn shown(alloc: Global, signer: &mut Signer, number: u64, hash: [u8; 32]) -> Option<Showing> {
     match signed(signer, 2, Number::new(number.min(5)), hash) {
-        Some(authenticator) => Showing::of_authenticator(alloc, &authenticator).ok(),
+        Some(authenticator) => {
+            Showing::of_authenticator(alloc, LogVersion::One, &authenticator).ok()
+        }
         None => None,
     }
 }
 
 fn two_hashes(alloc: Global, signer: &mut Signer) -> Option<Evidence> {
+    let log_version = LogVersion::One;
     let at = Number::new(5);
     let a = shown(alloc, signer, 5, [1; 32])?;
     let b = shown(alloc, signer, 5, [2; 32])?;
-    Evidence::new(2, Charge::Fork(Fork { at, a, b: Some(b) }))
+    Evidence::new(
+        2,
+        Charge::Fork(Fork {
+            log_version,
+            at,
+            a,
+            b: Some(b),
+        }),
+    )
 }
 
 fn at_zero(alloc: Global, signer: &mut Signer, hash: [u8; 32]) -> Option<Evidence> {
+    let log_version = LogVersion::One;
     let at = Number::new(0);
     let a = shown(alloc, signer, 0, hash)?;
-    Evidence::new(2, Charge::Fork(Fork { at, a, b: None }))
+    Evidence::new(
+        2,
+        Charge::Fork(Fork {
+            log_version,
+            at,
+            a,
+            b: None,
+        }),
+    )
 }
 
 /// The log of one entry, closed by this authenticator.

@@ -3,7 +3,7 @@
 //! exits.
 
 use acceptance_helpers::{MASTER, client, roster_of, server, signed};
-use authenticator::{Authenticator, Number, Roster, signed_digest};
+use authenticator::{Authenticator, LogVersion, Number, Roster, Word, signed_digest};
 use envelopes::{Ack, Envelope};
 use merkle_keys::{Signature, Signer};
 use packets::{write_ack, write_answer_text, write_challenge, write_learn};
@@ -65,9 +65,9 @@ fn bytes_of(alloc: Global, signer: &mut Signer, content: Content) -> Option<Vec<
     }
 }
 
-/// Node 1's signature that its log has this hash at number 1.
+/// Node 1's signature that its log has this hash at the word 1.
 fn signature_of(signer: &mut Signer, hash: &[u8; 32]) -> Option<Signature> {
-    signer.sign(&signed_digest(1, Number::new(1), hash)).ok()
+    signer.sign(&signed_digest(1, Word::new(1), hash)).ok()
 }
 
 fn learn(alloc: Global, signer: &mut Signer) -> Option<Vec<u8>> {
@@ -85,7 +85,7 @@ fn envelope_to(alloc: Global, signer: &mut Signer, to: u32) -> Option<Envelope> 
         return None;
     };
     let body = Body::new(bytes);
-    let seq = Number::new(1);
+    let seq = Word::new(1);
     let hash = message_hash(to, seq, &[0; 32], &body.digest());
     match signature_of(signer, &hash) {
         Some(signature) => Some(Envelope {
@@ -121,7 +121,7 @@ pub fn reads_clock(log: &mut Log) -> bool {
 /// The text of the segment of a log, with the authenticator that closes it.
 fn segment_text(alloc: Global, log: &Log, closing: &Authenticator) -> Option<Vec<u8>> {
     let mut text = Vec::new(alloc);
-    match log.segment(1, closing.number.get()) {
+    match log.segment(1, closing.word.number(LogVersion::One).get()) {
         Ok(segment) => match segment.write(closing, &mut text) {
             Ok(()) => Some(text),
             Err(_) => None,
@@ -175,7 +175,7 @@ fn answer(alloc: Global, signer: &mut Signer) -> Option<Vec<u8>> {
 fn receipt() -> Receipt {
     Receipt {
         from: 2,
-        seq: Number::new(1),
+        seq: Word::new(1),
         sender_prev: [0; 32],
         body: [7; 32],
         signature: [8; 32],
@@ -185,11 +185,11 @@ fn receipt() -> Receipt {
 /// Its acknowledgement.
 fn ack_of(signer: &mut Signer) -> Option<Ack> {
     let receipt = receipt();
-    let hash = receipt_hash(&receipt, Number::new(1), &[0; 32]);
+    let hash = receipt_hash(&receipt, Word::new(1), &[0; 32]);
     match signature_of(signer, &hash) {
         Some(signature) => Some(Ack {
             by: 1,
-            number: Number::new(1),
+            number: Word::new(1),
             prev: [0; 32],
             from: receipt.from,
             seq: receipt.seq,

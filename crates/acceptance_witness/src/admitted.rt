@@ -5,7 +5,7 @@ use crate::answers::spend;
 use crate::logs::{authenticator_text, challenge_packet};
 use crate::members::{HEIGHT, Handed, all_handed, keys_of};
 use acceptance_helpers::signed;
-use authenticator::{Authenticator, Number, Roster};
+use authenticator::{Authenticator, Number, Roster, Word};
 use envelopes::{Ack, Envelope};
 use packets::write_ack;
 use secure_log::log_entries::{Body, Receipt, SignatureText, message_hash, receipt_hash};
@@ -39,7 +39,7 @@ fn packet_of(alloc: Global, body: Body, authenticator: Authenticator) -> Option<
     let envelope = Envelope {
         from: 5,
         to: 1,
-        seq: Number::new(3),
+        seq: Word::new(3),
         prev: [9; 32],
         body,
         signature: SignatureText::new(signature),
@@ -57,7 +57,7 @@ fn joined(packet: Option<Vec<u8>>, text: Option<Vec<u8>>) -> Option<Showing> {
 
 /// A message of node 5 to node 1 with this body.
 fn sent_with(alloc: Global, body: Body) -> Option<Showing> {
-    let hash = message_hash(1, Number::new(3), &[9; 32], &body.digest());
+    let hash = message_hash(1, Word::new(3), &[9; 32], &body.digest());
     match signed_by_five(alloc, hash) {
         Some(authenticator) => {
             let text = authenticator_text(alloc, &authenticator);
@@ -89,7 +89,7 @@ fn ack_packet(alloc: Global, receipt: &Receipt, authenticator: Authenticator) ->
     let Authenticator { signature, .. } = authenticator;
     let ack = Ack {
         by: 5,
-        number: Number::new(3),
+        number: Word::new(3),
         prev: [9; 32],
         from: receipt.from,
         seq: receipt.seq,
@@ -105,12 +105,12 @@ fn ack_packet(alloc: Global, receipt: &Receipt, authenticator: Authenticator) ->
 pub fn acknowledged(alloc: Global) -> Option<Showing> {
     let receipt = Receipt {
         from: 1,
-        seq: Number::new(1),
+        seq: Word::new(1),
         sender_prev: [8; 32],
         body: [7; 32],
         signature: [6; 32],
     };
-    let hash = receipt_hash(&receipt, Number::new(3), &[9; 32]);
+    let hash = receipt_hash(&receipt, Word::new(3), &[9; 32]);
     match signed_by_five(alloc, hash) {
         Some(authenticator) => {
             let text = authenticator_text(alloc, &authenticator);

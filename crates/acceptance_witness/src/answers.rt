@@ -2,7 +2,7 @@
 //! question to the verdict, with the evidence after it.
 
 use crate::logs::{closing_at, segment_text};
-use authenticator::{Authenticator, Roster, check};
+use authenticator::{Authenticator, LogVersion, Roster, check};
 use challenge::{Evidence, ReplayFault};
 use envelopes::check_envelope;
 use merkle_keys::Signer;
@@ -117,7 +117,10 @@ pub fn answer_of(reply: Reply) -> Answer {
         ReplyOf::Job(job) => Answer::Job(spend_job(job)),
         ReplyOf::Filed => Answer::Filed,
         ReplyOf::Returned => Answer::Returned,
-        ReplyOf::Forwarded(shown) => Answer::Forwarded(shown.node, shown.number.get()),
+        ReplyOf::Forwarded(shown) => Answer::Forwarded(
+            shown.node,
+            shown.word.number(LogVersion::One).get(),
+        ),
         ReplyOf::Empty => Answer::Empty,
         ReplyOf::Told(indication) => Answer::Told(indication),
         ReplyOf::OpenList(list) => Answer::OpenList(list.len()),
@@ -213,7 +216,7 @@ pub fn audited(alloc: Global, books: &mut Books, text: &[u8], answer: Answer) ->
 
 /// Whether a node that signed this is asked for its log from a number on, up to it.
 pub fn is_asked(alloc: Global, books: &mut Books, first: u64, closing: &Authenticator) -> bool {
-    let asked = Answer::Asked(first, closing.number.get());
+    let asked = Answer::Asked(first, closing.word.number(LogVersion::One).get());
     learns(alloc, books, closing, Answer::Noted)
         && answers(alloc, books, EventOf::Audit(closing.node), asked)
 }

@@ -5,7 +5,7 @@ use crate::members::{
     CLIENT, Handed, Shown, delivered, handed_in, keys, keys_of, roster_with, shown_of_log,
 };
 use acceptance_helpers::client;
-use authenticator::{Number, Roster};
+use authenticator::{Roster, Word};
 use merkle_keys::Signer;
 use secure_log::Log;
 use std::alloc::Global;
@@ -46,7 +46,7 @@ fn keep(packets: &mut Vec<Vec<u8>>, packet: Option<Vec<u8>>) {
 /// The packet of a challenge to node 1, with node 2's message of a number.
 fn challenge(alloc: Global, client: &mut Signer, number: u32) -> Option<Vec<u8>> {
     let body = call_body(alloc, number)?;
-    match message(client, 2, 1, Number::new(number as u64), body) {
+    match message(client, 2, 1, Word::new(number as u64), body) {
         Some(message) => challenge_packet(alloc, &message),
         None => None,
     }

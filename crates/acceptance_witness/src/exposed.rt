@@ -9,7 +9,7 @@ use crate::logs::{
 };
 use crate::members::{Parties, new_parties};
 use acceptance_helpers::signed;
-use authenticator::{Authenticator, Number};
+use authenticator::{Authenticator, Number, Word};
 use challenge::Evidence;
 use envelopes::Envelope;
 use merkle_keys::Signer;
@@ -133,7 +133,7 @@ fn goes_on_signed(alloc: Global, parties: &mut Parties, log: &Log, message: &[u8
 
 /// The server's empty message to the client.
 fn empty_message(alloc: Global, server: &mut Signer) -> Option<Envelope> {
-    message(server, 1, 2, Number::new(1), Body::new(Vec::new(alloc)))
+    message(server, 1, 2, Word::new(1), Body::new(Vec::new(alloc)))
 }
 
 /// The text of a message, if there is one.

@@ -7,7 +7,7 @@ use crate::admitted::{Admission, admitted_as};
 use crate::logs::{answer_packet, authenticator_text, closing_at, segment_text};
 use crate::members::{CLIENT, keys, member};
 use acceptance_helpers::{roster_of, signed};
-use authenticator::{Authenticator, Number, Roster, check};
+use authenticator::{Authenticator, Number, Roster, Word, check};
 use merkle_keys::Signer;
 use secure_log::Log;
 use secure_log::log_entries::{Body, Entry, SignatureText};
@@ -77,7 +77,7 @@ fn received(alloc: Global, body: &Body, signature: &SignatureText) -> Option<Ent
     match (body.try_clone(alloc), signature.try_clone(alloc)) {
         (Ok(body), Ok(signature)) => Some(Entry::Recv {
             from: 6,
-            seq: Number::new(1),
+            seq: Word::new(1),
             prev: [0; 32],
             body,
             signature,

@@ -3,7 +3,7 @@
 //! refused.
 
 use acceptance_helpers::{of_words, signed};
-use authenticator::{Authenticator, Number, signed_digest};
+use authenticator::{Authenticator, LogVersion, Number, Word, signed_digest};
 use envelopes::Envelope;
 use merkle_keys::Signer;
 use packets::{write_answer_text, write_challenge, write_learn};
@@ -29,12 +29,12 @@ pub fn reply_body(alloc: Global, transaction: u32, last: u32) -> Option<Body> {
     body(alloc, &[transaction, 1, 0, 0, 0, last])
 }
 
-/// A node's signature of a message to another, which its log has at a number after a hash of zeros.
+/// A node's signature of a message to another, which its log has at a word after a hash of zeros.
 fn message_signature(
     signer: &mut Signer,
     from: u32,
     to: u32,
-    seq: Number,
+    seq: Word,
     body: &Body,
 ) -> Option<SignatureText> {
     let hash = message_hash(to, seq, &[0; 32], &body.digest());
@@ -45,13 +45,7 @@ fn message_signature(
 }
 
 /// That message.
-pub fn message(
-    signer: &mut Signer,
-    from: u32,
-    to: u32,
-    seq: Number,
-    body: Body,
-) -> Option<Envelope> {
+pub fn message(signer: &mut Signer, from: u32, to: u32, seq: Word, body: Body) -> Option<Envelope> {
     match message_signature(signer, from, to, seq, &body) {
         Some(signature) => Some(Envelope {
             from,
@@ -68,7 +62,7 @@ pub fn message(
 /// The client's first message, a call with this transaction.
 pub fn first_call(alloc: Global, client: &mut Signer, transaction: u32) -> Option<Envelope> {
     match call_body(alloc, transaction) {
-        Some(body) => message(client, 2, 1, Number::new(1), body),
+        Some(body) => message(client, 2, 1, Word::new(1), body),
         None => None,
     }
 }
@@ -166,7 +160,7 @@ pub fn segment_text(
     closing: &Authenticator,
 ) -> Option<Vec<u8>> {
     let mut text = Vec::new(alloc);
-    match log.segment(first, closing.number.get()) {
+    match log.segment(first, closing.word.number(LogVersion::One).get()) {
         Ok(segment) => match segment.write(closing, &mut text) {
             Ok(()) => Some(text),
             Err(_) => None,

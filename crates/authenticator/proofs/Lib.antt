@@ -1,3 +1,4 @@
 pub mod Forms
 pub mod Members
 pub mod Signed
+pub mod Words

@@ -64,12 +64,12 @@ module _ (root : List ℕ) (height : ℕ) (digest : List ℕ) (signature : Signa
 signed_by_of : (o : Option Member) (a : Authenticator) → is_signed_by o a ≡ true
     → IsSomeAnd o (λ m. IsSignedBy m a)
 signed_by_of None a h = absurd (cc)
-signed_by_of (Some m) a h = signed_of m.root m.height (signed_digest a.node a.number a.hash) a.signature h
+signed_by_of (Some m) a h = signed_of m.root m.height (signed_digest a.node a.word a.hash) a.signature h
 
 of_signed_by : (o : Option Member) (a : Authenticator) → IsSomeAnd o (λ m. IsSignedBy m a)
     → is_signed_by o a ≡ true
 of_signed_by None a h = absurd h
-of_signed_by (Some m) a h = of_signed m.root m.height (signed_digest a.node a.number a.hash) a.signature h
+of_signed_by (Some m) a h = of_signed m.root m.height (signed_digest a.node a.word a.hash) a.signature h
 
 -- the test of the member that an authenticator names, by both
 pub signed_in_of : (ms : List Member) (a : Authenticator) → is_signed_in ms a ≡ true → IsSignedIn ms a

@@ -1,4 +1,4 @@
--- What holds of signatures and rosters: each law is the contract of a function in src/laws.rt.
+-- What holds of signatures, rosters and words: each law is the contract of a function in src/laws.rt.
 use Rattle.std.specs.Prelude.{◌≡◌, ◌↔◌, ℕ, IsTrue, List, false}
 use Rattle.xdr.specs.Item.{array, spelling}
 use Rattle.merkle_keys.specs.Signing.{SignatureParts, Signed}
@@ -6,6 +6,8 @@ use Rattle.authenticator.specs.Signed.{IsSignedIn}
 use Rattle.authenticator.specs.Signing.{is_signed, is_signed_in}
 use Rattle.authenticator.specs.Roster.{IsRoster, member_item, member_values, roster_item, roster_value, some_gaps}
 use Rattle.authenticator.specs.declared.roster.TheConstants.{MAX_MEMBERS}
+use Rattle.authenticator.specs.declared.member.LogVersion.{LogVersion}
+use Rattle.authenticator.specs.Numbers.{IsNumber, number_in, skipped_in, word_of}
 use Rattle.authenticator.specs.declared.member.Member.{Member}
 use Rattle.authenticator.specs.declared.authenticator.Authenticator.{Authenticator}
 
@@ -25,3 +27,9 @@ abbrev pub RostersWithoutGaps : Type 0
 RostersWithoutGaps =
     (ms : List Member) → IsRoster ms → some_gaps ms ≡ false
     → spelling roster_item (roster_value ms) ≡ spelling (array MAX_MEMBERS member_item) (member_values ms)
+
+-- A word has one number, and skips one count.
+abbrev pub WordsAreRead : Type 0
+WordsAreRead =
+    (v : LogVersion) (skipped number : ℕ) → IsNumber v skipped number
+    → (number_in v (word_of skipped number) ≡ number) × (skipped_in v (word_of skipped number) ≡ skipped)

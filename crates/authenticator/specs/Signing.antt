@@ -29,7 +29,7 @@ is_signed root height digest signature =
 -- whether an authenticator is signed by a member; by none it isn't
 abbrev pub is_signed_by : Option Member → Authenticator → Bool
 is_signed_by None a = false
-is_signed_by (Some m) a = is_signed m.root m.height (signed_digest a.node a.number a.hash) a.signature
+is_signed_by (Some m) a = is_signed m.root m.height (signed_digest a.node a.word a.hash) a.signature
 
 -- whether an authenticator is signed by the member of a roster that it names
 abbrev pub is_signed_in : List Member → Authenticator → Bool

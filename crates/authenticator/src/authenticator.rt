@@ -10,35 +10,35 @@ ghost use Rattle.authenticator.specs.Signed.{IsSignedBy, signed_digest, authenti
 ghost use Rattle.authenticator.specs.Signed.{authenticator_value, authenticator_text};
 
 use crate::member::Member;
-use crate::number::Number;
+use crate::number::Word;
 use merkle_keys::{Signature, verify};
 use sha2::{Digest, Sha256};
 use std::alloc::{AllocError, Global};
 use xdr::texts::FromText;
 use xdr::{FromXdr, ReadFault, Reader, Writer, put_back_on_err};
 
-/// A node's word, by its signature, that its log has this hash at this number. Nothing is checked of it:
-/// `check` makes a `Checked` value of one that is a member's and signed.
+/// What a node says by its signature: that its log has this hash at the entry with this word. Nothing is checked
+/// of it: `check` makes a `Checked` value of one that is a member's and signed.
 #[derive(Drop)]
 pub struct Authenticator {
     /// The number of the node that signs.
     pub node: u32,
-    /// The place in its log.
-    pub number: Number,
+    /// The word of the entry in its log.
+    pub word: Word,
     /// The hash of its log there.
     pub hash: [u8; 32],
     /// Its signature of `signed_digest` of these.
     pub signature: Signature,
 }
 
-/// The digest that a node signs for a number and the hash there. Takes no memory.
+/// The digest that a node signs for an entry's word and the hash there. Takes no memory.
 #[tactic(auto, unfolding(crate::specs::Signed::signed_digest))]
-pub fn signed_digest(node: u32, number: Number, hash: &[u8; 32]) -> [u8; 32]
-    ensures { result ≡ signed_digest node number hash.now }
+pub fn signed_digest(node: u32, word: Word, hash: &[u8; 32]) -> [u8; 32]
+    ensures { result ≡ signed_digest node word hash.now }
 {
     let mut text = Sha256::new();
     text.update(word_text(node));
-    text.update(hyper_text(number.get()));
+    text.update(hyper_text(word.get()));
     text.update(hash);
     text.finalize()
 }
@@ -66,25 +66,25 @@ pub fn is_signed_by(member: &Member, authenticator: &Authenticator) -> bool
     is_signed(
         member,
         authenticator.node,
-        authenticator.number,
+        authenticator.word,
         &authenticator.hash,
         &authenticator.signature,
     )
 }
 
-/// Whether a member signed that the log of this node has this hash at this number, as `is_signed_by` of an
+/// Whether a member signed that the log of this node has this hash at this word, as `is_signed_by` of an
 /// authenticator of these. Takes no memory.
 pub fn is_signed(
     member: &Member,
     node: u32,
-    number: Number,
+    word: Word,
     hash: &[u8; 32],
     signature: &Signature,
 ) -> bool
     ensures { IsTrue result ↔
-        Signed member.now.root member.now.height (signed_digest node number hash.now) signature.now }
+        Signed member.now.root member.now.height (signed_digest node word hash.now) signature.now }
 {
-    let digest = signed_digest(node, number, hash);
+    let digest = signed_digest(node, word, hash);
     verify(&member.root, member.height, &digest, signature)
 }
 
@@ -104,12 +104,12 @@ fn read_fields<'a>(alloc: Global, reader: &mut Reader<'a>) -> Result<Authenticat
     ensures { GivesUnless xdr_fault authenticator_item authenticator_value reader.old result reader.new }
 {
     let node = reader.u32()?;
-    let number = Number::read(alloc, reader)?;
+    let word = Word::read(alloc, reader)?;
     let hash = *reader.fixed::<32>()?;
     let signature = Signature::read(alloc, reader)?;
     Ok(Authenticator {
         node,
-        number,
+        word,
         hash,
         signature,
     })
@@ -153,7 +153,7 @@ fn add_fields(authenticator: &Authenticator, out: &mut Vec<u8>) -> Result<(), Al
         out.old.items result out.new.items }
 {
     out.put_u32(authenticator.node)?;
-    authenticator.number.write(out)?;
+    authenticator.word.write(out)?;
     out.put_fixed(&authenticator.hash)?;
     authenticator.signature.write(out)
 }

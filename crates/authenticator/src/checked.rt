@@ -60,14 +60,14 @@ impl Signs for Authenticator {
 
     fn fits(&self) {
         let _node = self.node;
-        self.number.fits();
+        self.word.fits();
         let _hash = self.hash;
         self.signature.fits();
     }
 
     fn is_same(&self, other: &Authenticator) -> bool {
         self.node == other.node
-            && self.number == other.number
+            && self.word == other.word
             && is_same_hash(&self.hash, &other.hash)
             && self.signature.is_same(&other.signature)
     }
@@ -76,7 +76,7 @@ impl Signs for Authenticator {
         let signature = self.signature.try_clone(alloc)?;
         Ok(Authenticator {
             node: self.node,
-            number: self.number,
+            word: self.word,
             hash: self.hash,
             signature,
         })

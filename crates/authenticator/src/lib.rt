@@ -17,6 +17,6 @@ pub use hash::is_same_hash;
 pub use listed::ListedRoster;
 pub use member::{Kind, LogVersion, MAX_NODE, Member};
 pub use merkle_keys::Signature;
-pub use number::Number;
+pub use number::{Number, Word};
 pub use refusal::{Refusal, RosterFault};
 pub use roster::{MAX_MEMBERS, Roster, SECOND_FORM};

@@ -4,6 +4,7 @@ use Rattle.std.proofs.Common.{◌≡◌, ℕ, Bool, List, Option, Some, None, Re
 use Rattle.std.proofs.Common.{◌∙◌, inl, inr}
 use Rattle.std.specs.Prelude.{◌↔◌, IsFalse, IsTrue, IfOk}
 use Rattle.std.proofs.lemmas.Bool.{true≢false}
+use Rattle.authenticator.specs.declared.member.LogVersion.{LogVersion}
 use Rattle.authenticator.specs.declared.member.LogVersion.TheVariants.{One}
 use Rattle.authenticator.specs.declared.member.Member.{Member}
 use Rattle.authenticator.specs.Roster.{keeps_version}
@@ -16,14 +17,15 @@ use Rattle.replay.specs.Verdicts.{IsOutcome}
 use Rattle.replay.specs.Faults.{fault_in}
 use Rattle.replay.specs.declared.outcome.Outcome.{Outcome}
 use Rattle.replay.specs.declared.outcome.Outcome.TheVariants as outcomes
+use Rattle.evidence_showings.specs.declared.mark.Mark.{Mark}
 use Rattle.evidence_showings.specs.evidence_spec.Showing.{ShowingParts, Shows}
 use Rattle.evidence_showings.specs.evidence_spec.Evidence.{Charge, Fork, Replay, EvidenceParts, AcceptsFork}
-use Rattle.evidence_showings.specs.evidence_spec.Evidence.{AcceptsReplay, AcceptsCharge, Accepts}
+use Rattle.evidence_showings.specs.evidence_spec.Evidence.{AcceptsReplay, AcceptsCharge, Accepts, charge_version}
 use Rattle.challenge.specs.declared.finding.Finding.{Finding}
 use Rattle.challenge.specs.declared.finding.Finding.TheVariants as found
 use Rattle.challenge.specs.declared.finding.NotAccepted.{NotAccepted}
 use Rattle.challenge.specs.declared.finding.NotAccepted.TheVariants as reasons
-use Rattle.challenge.specs.Findings.{is_accepted, finding_in, AcceptsHashes, AcceptsTwo, AcceptsOne}
+use Rattle.challenge.specs.Findings.{is_accepted, finding_in, AcceptsMarks, AcceptsTwo, AcceptsOne}
 use Rattle.challenge.specs.Findings.{ShowingLacks, HasNoTwo, ForkLacks, LogLacks, IsClosedOf, IsAudited}
 use Rattle.challenge.specs.Findings.{Finds, FindsInFork, FindsInLog, FindsInCharge}
 
@@ -34,34 +36,34 @@ pub not_true : {b : Bool} → IsFalse b → ¬ IsTrue b
 not_true isnt is = true≢false (sym is ∙ isnt)
 
 -- a closed showing of a node lacks nothing
-pub showing_lacks : (ms : List Member) (node : ℕ) (s : ShowingParts) (reason : NotAccepted)
-    → IsClosedOf ms node s → ShowingLacks ms node s reason → ⊥
-showing_lacks ms node s reasons.AnotherNode closed lack = lack closed.of_node
-showing_lacks ms node s reasons.OtherVersion closed lack = not_true lack.1 closed.version
-showing_lacks ms node s reasons.NotClosed closed lack =
+pub showing_lacks : (v : LogVersion) (ms : List Member) (node : ℕ) (s : ShowingParts) (reason : NotAccepted)
+    → IsClosedOf v ms node s → ShowingLacks v ms node s reason → ⊥
+showing_lacks v ms node s reasons.AnotherNode closed lack = lack closed.of_node
+showing_lacks v ms node s reasons.OtherVersion closed lack = not_true lack.1 closed.version
+showing_lacks v ms node s reasons.NotClosed closed lack =
     let c = closed.closed in
-    lack.2 (record { first = c.first; node = c.node; number = c.number; hash = c.hash })
-showing_lacks ms node s reasons.NotSigned closed lack = lack.3 closed.closed.signed
-showing_lacks ms node s reasons.NotFromStart closed lack = lack
-showing_lacks ms node s reasons.NoTwoHashes closed lack = lack
-showing_lacks ms node s reasons.NoFault closed lack = lack
+    lack.2 (record { first = c.first; skips = c.skips; node = c.node; last = c.last; hash = c.hash })
+showing_lacks v ms node s reasons.NotSigned closed lack = lack.3 closed.closed.signed
+showing_lacks v ms node s reasons.NotFromStart closed lack = lack
+showing_lacks v ms node s reasons.NoTwoMarks closed lack = lack
+showing_lacks v ms node s reasons.NoFault closed lack = lack
 
 -- a fork that is accepted lacks nothing
-fork_lacks : (ms : List Member) (node at : ℕ) (a : ShowingParts) (b : Option ShowingParts)
-    (reason : NotAccepted) → ForkLacks ms node at a b reason → IsTrue (keeps_version ms node One)
-    → AcceptsFork ms node at a b → ⊥
-fork_lacks ms node at a (Some b) reason (inl lack) version accepted =
-    showing_lacks ms node a reason
+fork_lacks : (v : LogVersion) (ms : List Member) (node at : ℕ) (a : ShowingParts) (b : Option ShowingParts)
+    (reason : NotAccepted) → ForkLacks v ms node at a b reason → IsTrue (keeps_version ms node v)
+    → AcceptsFork v ms node at a b → ⊥
+fork_lacks v ms node at a (Some b) reason (inl lack) version accepted =
+    showing_lacks v ms node a reason
     (record { of_node = accepted.a_node; version = version; closed = accepted.a_closed }) lack
-fork_lacks ms node at a (Some b) reason (inr (closed, inl lack)) version accepted =
-    showing_lacks ms node b reason
+fork_lacks v ms node at a (Some b) reason (inr (closed, inl lack)) version accepted =
+    showing_lacks v ms node b reason
     (record { of_node = accepted.b_node; version = version; closed = accepted.b_closed }) lack
-fork_lacks ms node at a (Some b) reason (inr (closed, inr lack)) version accepted =
+fork_lacks v ms node at a (Some b) reason (inr (closed, inr lack)) version accepted =
     accepted.differ (lack.2 accepted.one accepted.other accepted.one_shown accepted.other_shown)
-fork_lacks ms node at a None reason (inl lack) version accepted =
-    showing_lacks ms node a reason
+fork_lacks v ms node at a None reason (inl lack) version accepted =
+    showing_lacks v ms node a reason
     (record { of_node = accepted.a_node; version = version; closed = accepted.closed }) lack
-fork_lacks ms node at a None reason (inr (closed, lack)) version accepted =
+fork_lacks v ms node at a None reason (inr (closed, lack)) version accepted =
     accepted.differs (lack.1 accepted.hash accepted.shown)
 
 -- a log that is accepted is of version 1
@@ -79,7 +81,7 @@ log_lacks ms node s reasons.NotFromStart lack accepted =
     lack.2 (record { first = accepted.first; opening = accepted.opening })
 log_lacks ms node s reasons.NotClosed lack accepted = lack.3 accepted.closed.ends
 log_lacks ms node s reasons.NotSigned lack accepted = lack.4 accepted.closed.signed
-log_lacks ms node s reasons.NoTwoHashes lack accepted = lack
+log_lacks ms node s reasons.NoTwoMarks lack accepted = lack
 log_lacks ms node s reasons.NoFault lack accepted =
     let same : Some lack.member ≡ Some accepted.member = sym lack.audited.is_member ∙ accepted.is_member in
     let one : lack.member ≡ accepted.member = cc in
@@ -88,43 +90,45 @@ log_lacks ms node s reasons.NoFault lack accepted =
 
 -- ---- what is found tells whether evidence is accepted
 
--- a fork with two hashes is accepted
-fork_accepts : (ms : List Member) (node fork_at : ℕ) (a : ShowingParts) (b : Option ShowingParts) (at : ℕ)
-    (one other : List ℕ) → AcceptsHashes ms node fork_at a b at one other → AcceptsFork ms node fork_at a b
-fork_accepts ms node fork_at a (Some b) at one other h = h.1.accepted
-fork_accepts ms node fork_at a None at one other h = h.2.accepted
+-- a fork with two marks is accepted
+fork_accepts : (v : LogVersion) (ms : List Member) (node fork_at : ℕ) (a : ShowingParts) (b : Option ShowingParts)
+    (at : ℕ) (one other : Mark) → AcceptsMarks v ms node fork_at a b at one other
+    → AcceptsFork v ms node fork_at a b
+fork_accepts v ms node fork_at a (Some b) at one other h = h.1.accepted
+fork_accepts v ms node fork_at a None at one other h = h.2.accepted
 
--- something is accepted against a node, whose log is of version 1 where it is a member
-abbrev AcceptsVersion : List Member → (node : ℕ) → (accepts : Type 0) → Type 0
-AcceptsVersion ms node accepts = IsTrue (keeps_version ms node One) × accepts
+-- something is accepted against a node, whose log is of this version where it is a member
+abbrev AcceptsVersion : LogVersion → List Member → (node : ℕ) → (accepts : Type 0) → Type 0
+AcceptsVersion v ms node accepts = IsTrue (keeps_version ms node v) × accepts
 
--- two hashes aren't found in a fork that lacks something
-pub fork_has_two : (ms : List Member) (node fork_at : ℕ) (a : ShowingParts) (b : Option ShowingParts) (at : ℕ)
-    (one other : List ℕ) (reason : NotAccepted) → ForkLacks ms node fork_at a b reason
-    → FindsInFork ms node fork_at a b (found.TwoHashes at one other) → ⊥
-fork_has_two ms node fork_at a b at one other reason lack h =
-    fork_lacks ms node fork_at a b reason lack h.0 (fork_accepts ms node fork_at a b at one other h.1)
+-- two marks aren't found in a fork that lacks something
+pub fork_has_two : (v : LogVersion) (ms : List Member) (node fork_at : ℕ) (a : ShowingParts)
+    (b : Option ShowingParts) (at : ℕ) (one other : Mark) (reason : NotAccepted)
+    → ForkLacks v ms node fork_at a b reason
+    → FindsInFork v ms node fork_at a b (found.TwoMarks at one other) → ⊥
+fork_has_two v ms node fork_at a b at one other reason lack h =
+    fork_lacks v ms node fork_at a b reason lack h.0 (fork_accepts v ms node fork_at a b at one other h.3)
 
-fork_exact : (ms : List Member) (node at : ℕ) (a : ShowingParts) (b : Option ShowingParts) (f : Finding)
-    → FindsInFork ms node at a b f
-    → IsTrue (is_accepted f) ↔ AcceptsVersion ms node (AcceptsFork ms node at a b)
-fork_exact ms node fork_at a b (found.TwoHashes at one other) h =
-    ((λ t. (h.0, fork_accepts ms node fork_at a b at one other h.1)), (λ accepted. refl))
-fork_exact ms node fork_at a b (found.Fault fault number) h = absurd h
-fork_exact ms node fork_at a b (found.NotAccepted reason) h =
-    ((λ t. absurd cc), (λ accepted. absurd (fork_lacks ms node fork_at a b reason h accepted.0 accepted.1)))
+fork_exact : (v : LogVersion) (ms : List Member) (node at : ℕ) (a : ShowingParts) (b : Option ShowingParts)
+    (f : Finding) → FindsInFork v ms node at a b f
+    → IsTrue (is_accepted f) ↔ AcceptsVersion v ms node (AcceptsFork v ms node at a b)
+fork_exact v ms node fork_at a b (found.TwoMarks at one other) h =
+    ((λ t. (h.0, fork_accepts v ms node fork_at a b at one other h.3)), (λ accepted. refl))
+fork_exact v ms node fork_at a b (found.Fault fault number) h = absurd h
+fork_exact v ms node fork_at a b (found.NotAccepted reason) h =
+    ((λ t. absurd cc), (λ accepted. absurd (fork_lacks v ms node fork_at a b reason h accepted.0 accepted.1)))
 
 log_exact : (ms : List Member) (node : ℕ) (s : SegmentParts) (f : Finding) → FindsInLog ms node s f
-    → IsTrue (is_accepted f) ↔ AcceptsVersion ms node (AcceptsReplay ms node s)
-log_exact ms node s (found.TwoHashes at one other) h = absurd h
+    → IsTrue (is_accepted f) ↔ AcceptsVersion One ms node (AcceptsReplay ms node s)
+log_exact ms node s (found.TwoMarks at one other) h = absurd h
 log_exact ms node s (found.Fault fault number) h =
     ((λ t. (log_version ms node s h.accepted, h.accepted)), (λ accepted. refl))
 log_exact ms node s (found.NotAccepted reason) h =
     ((λ t. absurd cc), (λ accepted. absurd (log_lacks ms node s reason h accepted.1)))
 
 charge_exact : (ms : List Member) (node : ℕ) (c : Charge) (f : Finding) → FindsInCharge ms node c f
-    → IsTrue (is_accepted f) ↔ AcceptsVersion ms node (AcceptsCharge ms node c)
-charge_exact ms node (Fork fork) f h = fork_exact ms node fork.at fork.a fork.b f h
+    → IsTrue (is_accepted f) ↔ AcceptsVersion (charge_version c) ms node (AcceptsCharge ms node c)
+charge_exact ms node (Fork fork) f h = fork_exact fork.log_version ms node fork.at fork.a fork.b f h
 charge_exact ms node (Replay s) f h = log_exact ms node s f h
 
 -- evidence is accepted exactly where what is found says so
@@ -139,18 +143,18 @@ pub result_exact : {E : Type 0} (ms : List Member) (e : EvidenceParts) (r : Resu
 result_exact ms e (Ok f) h = finds_exact ms e f h
 result_exact ms e (Err error) h = tt
 
--- ---- hashes at a number
+-- ---- marks at a number
 
 -- what a showing's call answers for a number
 abbrev pub Answers : ShowingParts → (number : ℕ) → Option (List ℕ) → Type 0
-Answers s number answer = (hash : List ℕ) → (answer ≡ Some hash) ↔ Shows s number hash
+Answers s number answer = (mark : List ℕ) → (answer ≡ Some mark) ↔ Shows s number mark
 
--- a showing without a hash there shows no two
+-- a showing without a mark there shows no two
 pub no_first : (at : ℕ) (a b : ShowingParts) → Answers a at None → HasNoTwo at a (Some b)
 no_first at a b answers one other shown shown_other = let none : None ≡ Some one =
     (answers one).1 shown in absurd cc
 
--- nor do two showings of which the second has no hash there
+-- nor do two showings of which the second has no mark there
 pub no_second : (at : ℕ) (a b : ShowingParts) → Answers b at None → HasNoTwo at a (Some b)
 no_second at a b answers one other shown shown_other = let none : None ≡ Some other =
     (answers other).1 shown_other in absurd cc
@@ -160,9 +164,9 @@ pub no_hash : (at : ℕ) (a : ShowingParts) → Answers a 0 None → HasNoTwo at
 no_hash at a answers hash shown = let none : None ≡ Some hash = (answers hash).1 shown in absurd cc
 
 -- nor do two that show the same
-pub same_hashes : (at : ℕ) (a b : ShowingParts) (one other : List ℕ) → Answers a at (Some one)
+pub same_marks : (at : ℕ) (a b : ShowingParts) (one other : List ℕ) → Answers a at (Some one)
     → Answers b at (Some other) → one ≡ other → HasNoTwo at a (Some b)
-same_hashes at a b one other first second same x y shown shown_other =
+same_marks at a b one other first second same x y shown shown_other =
     let is_one : Some one ≡ Some x = (first x).1 shown in
     let is_other : Some other ≡ Some y = (second y).1 shown_other in
     cc
@@ -171,15 +175,14 @@ same_hashes at a b one other first second same x y shown shown_other =
 pub same_zeros : (at : ℕ) (a : ShowingParts) (one : List ℕ) → Answers a 0 (Some one) → one ≡ zeros
     → HasNoTwo at a None
 same_zeros at a one answers same x shown =
-    let is_one : Some one ≡ Some x = (answers x).1 shown in
-    cc
+    let is : Some one ≡ Some x = (answers x).1 shown in cc
 
--- two that differ are accepted
-pub accepts_two : (ms : List Member) (node at : ℕ) (a b : ShowingParts) (one other : List ℕ)
-    → IsClosedOf ms node a → IsClosedOf ms node b
+-- two closed showings of two marks at a number are accepted
+pub accepts_two : (v : LogVersion) (ms : List Member) (node at : ℕ) (a b : ShowingParts) (one other : List ℕ)
+    → IsClosedOf v ms node a → IsClosedOf v ms node b
     → Answers a at (Some one) → Answers b at (Some other) → ¬ (one ≡ other)
-    → AcceptsTwo ms node at a b one other
-accepts_two ms node at a b one other closed closed_other first second differ = record {
+    → AcceptsTwo v ms node at a b one other
+accepts_two v ms node at a b one other closed closed_other first second differ = record {
   accepted = record {
     a_node = closed.of_node;
     b_node = closed_other.of_node;
@@ -196,9 +199,9 @@ accepts_two ms node at a b one other closed closed_other first second differ = r
 }
 
 -- a closed showing of another hash at 0 is accepted
-pub accepts_one : (ms : List Member) (node : ℕ) (a : ShowingParts) (one : List ℕ) → IsClosedOf ms node a
-    → Answers a 0 (Some one) → ¬ (one ≡ zeros) → AcceptsOne ms node a one
-accepts_one ms node a one closed answers differs = record {
+pub accepts_one : (v : LogVersion) (ms : List Member) (node : ℕ) (a : ShowingParts) (one : List ℕ)
+    → IsClosedOf v ms node a → Answers a 0 (Some one) → ¬ (one ≡ zeros) → AcceptsOne v ms node a one
+accepts_one v ms node a one closed answers differs = record {
   accepted = record {
     a_node = closed.of_node;
     closed = closed.closed;

@@ -1,8 +1,9 @@
 -- Evidence has one finding at most: it lacks one thing first, or it is accepted with one fault or one pair of
--- hashes.
+-- marks.
 -- Serves: one_finding.
-use Rattle.std.proofs.Common.{◌≡◌, ℕ, ◌+◌, ◌-◌, List, Option, Some, None, refl, sym, ap, ◌∙◌, inl, inr, arith}
+use Rattle.std.proofs.Common.{◌≡◌, ℕ, ◌-◌, List, length, Option, Some, None, refl, sym, ap, ◌∙◌, inl, inr}
 use Rattle.std.specs.Prelude.{◌⊎◌, IsTrue}
+use Rattle.authenticator.specs.declared.member.LogVersion.{LogVersion}
 use Rattle.authenticator.specs.declared.member.LogVersion.TheVariants.{One}
 use Rattle.authenticator.specs.declared.member.Member.{Member}
 use Rattle.authenticator.specs.Roster.{keeps_version}
@@ -16,17 +17,21 @@ use Rattle.replay.specs.replay_spec.Stepping as spec
 use Rattle.replay.specs.replay_spec.Replay.{verdict_of}
 use Rattle.replay.specs.replay_spec.Placed.{placed_in}
 use Rattle.replay.specs.replay_spec.Opening.{opening_of}
+use Rattle.secure_log.proofs.OfLogEntries.Marks.{one_mark}
+use Rattle.evidence_showings.specs.Marks.{mark_in}
+use Rattle.evidence_showings.specs.declared.mark.Mark.{Mark}
+use Rattle.evidence_showings.specs.declared.mark.Mark.TheVariants.{Hash, NoEntry}
 use Rattle.evidence_showings.specs.Showings.{Ends}
-use Rattle.evidence_showings.specs.evidence_spec.Showing.{ShowingParts, IsClosedShowing, Shows, numbered}
+use Rattle.evidence_showings.specs.evidence_spec.Showing.{ShowingParts, Shows, links_in}
 use Rattle.evidence_showings.specs.evidence_spec.Evidence.{Charge, Fork, Replay}
-use Rattle.evidence_showings.proofs.evidence_spec.Places.{AreNumbered, shown_numbered, one_hash}
+use Rattle.evidence_showings.proofs.evidence_spec.Gaps.{shown_after}
 use Rattle.challenge.specs.declared.finding.Finding.{Finding}
 use Rattle.challenge.specs.declared.finding.Finding.TheVariants as found
 use Rattle.challenge.specs.declared.finding.NotAccepted.{NotAccepted}
 use Rattle.challenge.specs.declared.finding.NotAccepted.TheVariants as reasons
 use Rattle.challenge.specs.Findings.{ShowingLacks, LacksAfterFirst, ForkLacks, IsFromStart, LogLacks}
-use Rattle.challenge.specs.Findings.{AcceptsHashes, AcceptsFault, FindsInFork, FindsInLog, FindsInCharge}
-use Rattle.challenge.specs.Findings.{OneFinding}
+use Rattle.challenge.specs.Findings.{AcceptsMarks, AcceptsFault, FindsInFork, FindsInLog, FindsInCharge}
+use Rattle.challenge.specs.Findings.{IsMark, OneFinding}
 use Rattle.challenge.proofs.Found.{not_true, showing_lacks, log_lacks, fork_has_two}
 
 -- ---- what is lacking first
@@ -55,54 +60,54 @@ only_is_one name one other x y = x ∙ sym y
 
 -- ---- in a showing
 
-module _ (ms : List Member) (node : ℕ) (s : ShowingParts) where
+module _ (v : LogVersion) (ms : List Member) (node : ℕ) (s : ShowingParts) where
   abbrev Signed : NotAccepted → Type 0
   Signed = First (IsSignedIn ms s.closing) reasons.NotSigned (λ reason. ⊥)
 
   abbrev Ended : NotAccepted → Type 0
-  Ended = First (Ends s) reasons.NotClosed Signed
+  Ended = First (Ends v s) reasons.NotClosed Signed
 
   abbrev OfVersion : NotAccepted → Type 0
-  OfVersion = First (IsTrue (keeps_version ms node One)) reasons.OtherVersion Ended
+  OfVersion = First (IsTrue (keeps_version ms node v)) reasons.OtherVersion Ended
 
   abbrev OfNode : NotAccepted → Type 0
   OfNode = First (s.node ≡ node) reasons.AnotherNode OfVersion
 
-  in_order : (reason : NotAccepted) → ShowingLacks ms node s reason → OfNode reason
+  in_order : (reason : NotAccepted) → ShowingLacks v ms node s reason → OfNode reason
   in_order reasons.AnotherNode lack = inl (refl, lack)
   in_order reasons.OtherVersion lack = inr (lack.0, inl (refl, not_true lack.1))
   in_order reasons.NotClosed lack = inr (lack.0, inr (lack.1, inl (refl, lack.2)))
   in_order reasons.NotSigned lack = inr (lack.0, inr (lack.1, inr (lack.2, inl (refl, lack.3))))
   in_order reasons.NotFromStart lack = absurd lack
-  in_order reasons.NoTwoHashes lack = absurd lack
+  in_order reasons.NoTwoMarks lack = absurd lack
   in_order reasons.NoFault lack = absurd lack
 
   order_is_one : IsOne OfNode
   order_is_one =
       first_is_one (s.node ≡ node) reasons.AnotherNode OfVersion
-      (first_is_one (IsTrue (keeps_version ms node One)) reasons.OtherVersion Ended
-      (first_is_one (Ends s) reasons.NotClosed Signed
+      (first_is_one (IsTrue (keeps_version ms node v)) reasons.OtherVersion Ended
+      (first_is_one (Ends v s) reasons.NotClosed Signed
       (first_is_one (IsSignedIn ms s.closing) reasons.NotSigned (λ reason. ⊥) (λ one other x y. absurd x))))
 
-  showing_lacks_one : IsOne (ShowingLacks ms node s)
+  showing_lacks_one : IsOne (ShowingLacks v ms node s)
   showing_lacks_one one other x y = order_is_one one other (in_order one x) (in_order other y)
 
 -- ---- in a fork
 
-module _ (ms : List Member) (node at : ℕ) (a : ShowingParts) where
-  after_lacks_one : (b : Option ShowingParts) → IsOne (LacksAfterFirst ms node at a b)
-  after_lacks_one (Some b) one other (inl x) (inl y) = showing_lacks_one ms node b one other x y
+module _ (v : LogVersion) (ms : List Member) (node at : ℕ) (a : ShowingParts) where
+  after_lacks_one : (b : Option ShowingParts) → IsOne (LacksAfterFirst v ms node at a b)
+  after_lacks_one (Some b) one other (inl x) (inl y) = showing_lacks_one v ms node b one other x y
   after_lacks_one (Some b) one other (inl x) (inr y) =
-      absurd (showing_lacks ms node b one y.0 x)
+      absurd (showing_lacks v ms node b one y.0 x)
   after_lacks_one (Some b) one other (inr x) (inl y) =
-      absurd (showing_lacks ms node b other x.0 y)
+      absurd (showing_lacks v ms node b other x.0 y)
   after_lacks_one (Some b) one other (inr x) (inr y) = x.1 ∙ sym y.1
   after_lacks_one None one other x y = x.0 ∙ sym y.0
 
-  fork_lacks_one : (b : Option ShowingParts) → IsOne (ForkLacks ms node at a b)
-  fork_lacks_one b one other (inl x) (inl y) = showing_lacks_one ms node a one other x y
-  fork_lacks_one b one other (inl x) (inr y) = absurd (showing_lacks ms node a one y.0 x)
-  fork_lacks_one b one other (inr x) (inl y) = absurd (showing_lacks ms node a other x.0 y)
+  fork_lacks_one : (b : Option ShowingParts) → IsOne (ForkLacks v ms node at a b)
+  fork_lacks_one b one other (inl x) (inl y) = showing_lacks_one v ms node a one other x y
+  fork_lacks_one b one other (inl x) (inr y) = absurd (showing_lacks v ms node a one y.0 x)
+  fork_lacks_one b one other (inr x) (inl y) = absurd (showing_lacks v ms node a other x.0 y)
   fork_lacks_one b one other (inr x) (inr y) = after_lacks_one b one other x.1 y.1
 
 -- ---- in a log
@@ -130,7 +135,7 @@ module _ (ms : List Member) (node : ℕ) (s : SegmentParts) where
   log_in_order reasons.NotClosed lack = inr (lack.0, inr (lack.1, inr (lack.2, inl (refl, lack.3))))
   log_in_order reasons.NotSigned lack =
       inr (lack.0, inr (lack.1, inr (lack.2, inr (lack.3, inl (refl, lack.4)))))
-  log_in_order reasons.NoTwoHashes lack = absurd lack
+  log_in_order reasons.NoTwoMarks lack = absurd lack
   log_in_order reasons.NoFault lack =
       let a = lack.audited in
       inr (a.of_node, inr (a.version, inr (a.start, inr (a.closed.ends, inr (a.closed.signed, refl)))))
@@ -149,35 +154,48 @@ module _ (ms : List Member) (node : ℕ) (s : SegmentParts) where
 
 -- ---- what is accepted
 
--- a closed showing shows one hash at a number
-one_shown : (ms : List Member) (s : ShowingParts) (number : ℕ) (one other : List ℕ) → IsClosedShowing ms s
-    → Shows s number one → Shows s number other → one ≡ other
-one_shown ms s number one other closed i j =
-    let first : s.first - 1 + 1 ≡ s.first = omega (arith, closed.first) in
-    let rising : AreNumbered (s.first - 1 + 1) (numbered s.first s.links) =
-    rw first (shown_numbered s.first s.links) in
-    one_hash (s.first - 1) s.opening (numbered s.first s.links) number one other rising i j
+-- a showing shows one mark at a number
+one_shown : (s : ShowingParts) (number : ℕ) (one other : List ℕ) → Shows s number one → Shows s number other
+    → one ≡ other
+one_shown s number one other i j =
+    one_mark (s.first - 1) s.opening (links_in s) number one other (shown_after (s.first - 1) s.links) i j
 
-same_hashes : (ms : List Member) (node fork_at : ℕ) (a : ShowingParts) (b : Option ShowingParts) (at at' : ℕ)
-    (one one' other other' : List ℕ) → AcceptsHashes ms node fork_at a b at one other
-    → AcceptsHashes ms node fork_at a b at' one' other'
-    → found.TwoHashes at one other ≡ found.TwoHashes at' one' other'
-same_hashes ms node fork_at a (Some b) at at' one one' other other' x y =
+-- a mark has its bytes alone
+one_in_bytes : (one other : Mark) → IsMark one → IsMark other → mark_in one ≡ mark_in other → one ≡ other
+one_in_bytes (Hash h) (Hash k) m n e = ap Hash e
+one_in_bytes (Hash h) NoEntry m n e = absurd (no_length (sym m ∙ ap (λ (x : List ℕ). length x) e))
+  where
+    no_length : ¬ ◌≡◌ {A = ℕ} 32 0
+    no_length e = absurd cc
+one_in_bytes NoEntry (Hash h) m n e = absurd (no_length (sym n ∙ ap (λ (x : List ℕ). length x) (sym e)))
+  where
+    no_length : ¬ ◌≡◌ {A = ℕ} 32 0
+    no_length e = absurd cc
+one_in_bytes NoEntry NoEntry m n e = refl
+
+same_marks : (v : LogVersion) (ms : List Member) (node fork_at : ℕ) (a : ShowingParts) (b : Option ShowingParts)
+    (at at' : ℕ) (one one' other other' : Mark) → IsMark one → IsMark one' → IsMark other → IsMark other'
+    → AcceptsMarks v ms node fork_at a b at one other
+    → AcceptsMarks v ms node fork_at a b at' one' other'
+    → found.TwoMarks at one other ≡ found.TwoMarks at' one' other'
+same_marks v ms node fork_at a (Some b) at at' one one' other other' m m' n n' x y =
     let p = x.1.accepted in
     let q = y.1.accepted in
     let places : at ≡ at' = x.0 ∙ sym y.0 in
     let ones : one ≡ one' =
-    sym x.1.is_one ∙ one_shown ms a fork_at p.one q.one p.a_closed p.one_shown q.one_shown ∙ y.1.is_one in
+    one_in_bytes one one' m m'
+    (sym x.1.is_one ∙ one_shown a fork_at p.one q.one p.one_shown q.one_shown ∙ y.1.is_one) in
     let others : other ≡ other' =
-    sym x.1.is_other
-    ∙ one_shown ms b fork_at p.other q.other p.b_closed p.other_shown q.other_shown ∙ y.1.is_other in
+    one_in_bytes other other' n n'
+    (sym x.1.is_other ∙ one_shown b fork_at p.other q.other p.other_shown q.other_shown ∙ y.1.is_other) in
     cc
-same_hashes ms node fork_at a None at at' one one' other other' x y =
+same_marks v ms node fork_at a None at at' one one' other other' m m' n n' x y =
     let p = x.2.accepted in
     let q = y.2.accepted in
     let places : at ≡ at' = x.0 ∙ sym y.0 in
     let ones : one ≡ one' =
-    sym x.2.is_one ∙ one_shown ms a 0 p.hash q.hash p.closed p.shown q.shown ∙ y.2.is_one in
+    one_in_bytes one one' m m'
+    (sym x.2.is_one ∙ one_shown a 0 p.hash q.hash p.shown q.shown ∙ y.2.is_one) in
     let others : other ≡ other' = x.1 ∙ sym y.1 in
     cc
 
@@ -218,30 +236,30 @@ same_faults ms node s fault fault' number number' x y =
 
 -- ---- findings
 
-one_in_fork : (ms : List Member) (node fork_at : ℕ) (a : ShowingParts) (b : Option ShowingParts)
-    (one other : Finding) → FindsInFork ms node fork_at a b one → FindsInFork ms node fork_at a b other
+one_in_fork : (v : LogVersion) (ms : List Member) (node fork_at : ℕ) (a : ShowingParts) (b : Option ShowingParts)
+    (one other : Finding) → FindsInFork v ms node fork_at a b one → FindsInFork v ms node fork_at a b other
     → one ≡ other
-one_in_fork ms node fork_at a b (found.TwoHashes at h k) (found.TwoHashes at' h' k') x y =
-    same_hashes ms node fork_at a b at at' h h' k k' x.1 y.1
-one_in_fork ms node fork_at a b (found.TwoHashes at h k) (found.Fault fault number) x y = absurd y
-one_in_fork ms node fork_at a b (found.TwoHashes at h k) (found.NotAccepted reason) x y =
-    absurd (fork_has_two ms node fork_at a b at h k reason y x)
-one_in_fork ms node fork_at a b (found.Fault fault number) other x y = absurd x
-one_in_fork ms node fork_at a b (found.NotAccepted reason) (found.TwoHashes at h k) x y =
-    absurd (fork_has_two ms node fork_at a b at h k reason x y)
-one_in_fork ms node fork_at a b (found.NotAccepted reason) (found.Fault fault number) x y = absurd y
-one_in_fork ms node fork_at a b (found.NotAccepted reason) (found.NotAccepted reason') x y =
-    ap found.NotAccepted (fork_lacks_one ms node fork_at a b reason reason' x y)
+one_in_fork v ms node fork_at a b (found.TwoMarks at h k) (found.TwoMarks at' h' k') x y =
+    same_marks v ms node fork_at a b at at' h h' k k' x.1 y.1 x.2 y.2 x.3 y.3
+one_in_fork v ms node fork_at a b (found.TwoMarks at h k) (found.Fault fault number) x y = absurd y
+one_in_fork v ms node fork_at a b (found.TwoMarks at h k) (found.NotAccepted reason) x y =
+    absurd (fork_has_two v ms node fork_at a b at h k reason y x)
+one_in_fork v ms node fork_at a b (found.Fault fault number) other x y = absurd x
+one_in_fork v ms node fork_at a b (found.NotAccepted reason) (found.TwoMarks at h k) x y =
+    absurd (fork_has_two v ms node fork_at a b at h k reason x y)
+one_in_fork v ms node fork_at a b (found.NotAccepted reason) (found.Fault fault number) x y = absurd y
+one_in_fork v ms node fork_at a b (found.NotAccepted reason) (found.NotAccepted reason') x y =
+    ap found.NotAccepted (fork_lacks_one v ms node fork_at a b reason reason' x y)
 
 one_in_log : (ms : List Member) (node : ℕ) (s : SegmentParts) (one other : Finding) → FindsInLog ms node s one
     → FindsInLog ms node s other → one ≡ other
-one_in_log ms node s (found.TwoHashes at h k) other x y = absurd x
-one_in_log ms node s (found.Fault fault number) (found.TwoHashes at h k) x y = absurd y
+one_in_log ms node s (found.TwoMarks at h k) other x y = absurd x
+one_in_log ms node s (found.Fault fault number) (found.TwoMarks at h k) x y = absurd y
 one_in_log ms node s (found.Fault fault number) (found.Fault fault' number') x y =
     same_faults ms node s fault fault' number number' x y
 one_in_log ms node s (found.Fault fault number) (found.NotAccepted reason) x y =
     absurd (log_lacks ms node s reason y x.accepted)
-one_in_log ms node s (found.NotAccepted reason) (found.TwoHashes at h k) x y = absurd y
+one_in_log ms node s (found.NotAccepted reason) (found.TwoMarks at h k) x y = absurd y
 one_in_log ms node s (found.NotAccepted reason) (found.Fault fault number) x y =
     absurd (log_lacks ms node s reason x y.accepted)
 one_in_log ms node s (found.NotAccepted reason) (found.NotAccepted reason') x y =
@@ -249,7 +267,7 @@ one_in_log ms node s (found.NotAccepted reason) (found.NotAccepted reason') x y 
 
 one_in_charge : (ms : List Member) (node : ℕ) (c : Charge) (one other : Finding) → FindsInCharge ms node c one
     → FindsInCharge ms node c other → one ≡ other
-one_in_charge ms node (Fork f) one other x y = one_in_fork ms node f.at f.a f.b one other x y
+one_in_charge ms node (Fork f) one other x y = one_in_fork f.log_version ms node f.at f.a f.b one other x y
 one_in_charge ms node (Replay s) one other x y = one_in_log ms node s one other x y
 
 -- evidence has one finding at most

@@ -7,7 +7,7 @@ use Rattle.challenge.specs.declared.evidence.Charge.TheVariants as charges
 
 -- a fork, as evidence has it
 abbrev pub fork_in : Fork → ForkParts
-fork_in f = record { at = f.at; a = f.a; b = f.b }
+fork_in f = record { log_version = f.log_version; at = f.at; a = f.a; b = f.b }
 
 -- a charge, as evidence has it
 abbrev pub charge_in : Charge → spec.Charge

@@ -1,5 +1,7 @@
 -- What is found in evidence.
-use Rattle.std.specs.Prelude.{◌≡◌, ◌⊎◌, ℕ, Bool, true, false, IsFalse, IsTrue, List, Option, Some, None}
+use Rattle.std.specs.Prelude.{◌≡◌, ◌⊎◌, ℕ, Bool, true, false, IsFalse, IsTrue, List, length}
+use Rattle.std.specs.Prelude.{Option, Some, None}
+use Rattle.authenticator.specs.declared.member.LogVersion.{LogVersion}
 use Rattle.authenticator.specs.declared.member.LogVersion.TheVariants.{One}
 use Rattle.authenticator.specs.declared.member.Member.{Member}
 use Rattle.authenticator.specs.Roster.{keeps_version, member_of}
@@ -15,7 +17,10 @@ use Rattle.replay.specs.Faults.{fault_in}
 use Rattle.replay.specs.declared.fault.ReplayFault.{ReplayFault}
 use Rattle.replay.specs.declared.outcome.Outcome.{Outcome}
 use Rattle.replay.specs.declared.outcome.Outcome.TheVariants as outcomes
+use Rattle.evidence_showings.specs.Marks.{mark_in}
 use Rattle.evidence_showings.specs.Showings.{Ends}
+use Rattle.evidence_showings.specs.declared.mark.Mark.{Mark}
+use Rattle.evidence_showings.specs.declared.mark.Mark.TheVariants.{Hash, NoEntry}
 use Rattle.evidence_showings.specs.evidence_spec.Showing.{ShowingParts, IsClosedShowing, Shows}
 use Rattle.evidence_showings.specs.evidence_spec.Evidence.{Charge, Fork, Replay, EvidenceParts}
 use Rattle.evidence_showings.specs.evidence_spec.Evidence.{ShowsTwo, ShowsNoOpening, AcceptsReplay}
@@ -26,31 +31,37 @@ use Rattle.challenge.specs.declared.finding.NotAccepted.TheVariants as reasons
 
 -- whether what is found says that evidence is accepted
 abbrev pub is_accepted : Finding → Bool
-is_accepted (found.TwoHashes at one other) = true
+is_accepted (found.TwoMarks at one other) = true
 is_accepted (found.Fault fault number) = true
 is_accepted (found.NotAccepted reason) = false
 
 -- ---- what is accepted shows
 
--- Two showings are accepted with these two hashes at a number.
-pub record AcceptsTwo (ms : List Member) (node at : ℕ) (a b : ShowingParts) (one other : List ℕ)
-    : Type 0 where
-  pub accepted : ShowsTwo ms node at a b
+-- Two showings of a log of a version are accepted with these two marks at a number.
+pub record AcceptsTwo (v : LogVersion) (ms : List Member) (node at : ℕ) (a b : ShowingParts)
+    (one other : List ℕ) : Type 0 where
+  pub accepted : ShowsTwo v ms node at a b
   pub is_one : accepted.one ≡ one
   pub is_other : accepted.other ≡ other
 
 -- One showing is accepted with a hash at 0.
-pub record AcceptsOne (ms : List Member) (node : ℕ) (a : ShowingParts) (one : List ℕ) : Type 0 where
-  pub accepted : ShowsNoOpening ms node a
+pub record AcceptsOne (v : LogVersion) (ms : List Member) (node : ℕ) (a : ShowingParts) (one : List ℕ)
+    : Type 0 where
+  pub accepted : ShowsNoOpening v ms node a
   pub is_one : accepted.hash ≡ one
 
--- A fork is accepted with two hashes at a number.
-abbrev pub AcceptsHashes : List Member → (node fork_at : ℕ) → ShowingParts → Option ShowingParts
-    → (at : ℕ) (one other : List ℕ) → Type 0
-AcceptsHashes ms node fork_at a (Some b) at one other =
-    (at ≡ fork_at) × AcceptsTwo ms node fork_at a b one other
-AcceptsHashes ms node fork_at a None at one other =
-    (at ≡ 0) × (other ≡ zeros) × AcceptsOne ms node a one
+-- A mark is a hash of 32 bytes, or that no entry has a number.
+abbrev pub IsMark : Mark → Type 0
+IsMark (Hash hash) = length hash ≡ 32
+IsMark NoEntry = Unit {0}
+
+-- A fork is accepted with two marks at a number.
+abbrev pub AcceptsMarks : LogVersion → List Member → (node fork_at : ℕ) → ShowingParts → Option ShowingParts
+    → (at : ℕ) (one other : Mark) → Type 0
+AcceptsMarks v ms node fork_at a (Some b) at one other =
+    (at ≡ fork_at) × AcceptsTwo v ms node fork_at a b (mark_in one) (mark_in other)
+AcceptsMarks v ms node fork_at a None at one other =
+    (at ≡ 0) × (other ≡ Hash zeros) × AcceptsOne v ms node a (mark_in one)
 
 -- A log is accepted with a fault of the entry with a number.
 pub record AcceptsFault (ms : List Member) (node : ℕ) (s : SegmentParts) (fault : ReplayFault) (number : ℕ)
@@ -63,43 +74,44 @@ pub record AcceptsFault (ms : List Member) (node : ℕ) (s : SegmentParts) (faul
 -- What is asked is asked in one order, and what is lacking first is lacking after all that is asked before
 -- it: one answer is right, and no other.
 
--- A showing is of a node, whose log is of version 1 where it is a member, and closed.
-pub record IsClosedOf (ms : List Member) (node : ℕ) (s : ShowingParts) : Type 0 where
+-- A showing is of a node, whose log is of this version where it is a member, and closed.
+pub record IsClosedOf (v : LogVersion) (ms : List Member) (node : ℕ) (s : ShowingParts) : Type 0 where
   pub of_node : s.node ≡ node
-  pub version : IsTrue (keeps_version ms node One)
-  pub closed : IsClosedShowing ms s
+  pub version : IsTrue (keeps_version ms node v)
+  pub closed : IsClosedShowing v ms s
 
--- A showing lacks something first, by name: it is to be of the node, whose log is to be of version 1 where it
+-- A showing lacks something first, by name: it is to be of the node, whose log is to be of this version where it
 -- is a member, to end in its closing, and that is to be signed.
-abbrev pub ShowingLacks : List Member → (node : ℕ) → ShowingParts → NotAccepted → Type 0
-ShowingLacks ms node s reasons.AnotherNode = ¬ (s.node ≡ node)
-ShowingLacks ms node s reasons.OtherVersion = (s.node ≡ node) × IsFalse (keeps_version ms node One)
-ShowingLacks ms node s reasons.NotFromStart = ⊥
-ShowingLacks ms node s reasons.NotClosed =
-    (s.node ≡ node) × IsTrue (keeps_version ms node One) × (¬ Ends s)
-ShowingLacks ms node s reasons.NotSigned =
-    (s.node ≡ node) × IsTrue (keeps_version ms node One) × Ends s × (¬ IsSignedIn ms s.closing)
-ShowingLacks ms node s reasons.NoTwoHashes = ⊥
-ShowingLacks ms node s reasons.NoFault = ⊥
+abbrev pub ShowingLacks : LogVersion → List Member → (node : ℕ) → ShowingParts → NotAccepted → Type 0
+ShowingLacks v ms node s reasons.AnotherNode = ¬ (s.node ≡ node)
+ShowingLacks v ms node s reasons.OtherVersion = (s.node ≡ node) × IsFalse (keeps_version ms node v)
+ShowingLacks v ms node s reasons.NotFromStart = ⊥
+ShowingLacks v ms node s reasons.NotClosed =
+    (s.node ≡ node) × IsTrue (keeps_version ms node v) × (¬ Ends v s)
+ShowingLacks v ms node s reasons.NotSigned =
+    (s.node ≡ node) × IsTrue (keeps_version ms node v) × Ends v s × (¬ IsSignedIn ms s.closing)
+ShowingLacks v ms node s reasons.NoTwoMarks = ⊥
+ShowingLacks v ms node s reasons.NoFault = ⊥
 
--- Showings show no two hashes at a number; one alone shows none but 32 zero bytes at 0.
+-- Showings show no two marks at a number; one alone shows none but 32 zero bytes at 0.
 abbrev pub HasNoTwo : (at : ℕ) → ShowingParts → Option ShowingParts → Type 0
 HasNoTwo at a (Some b) = (one other : List ℕ) → Shows a at one → Shows b at other → one ≡ other
-HasNoTwo at a None = (hash : List ℕ) → Shows a 0 hash → hash ≡ zeros
+HasNoTwo at a None = (mark : List ℕ) → Shows a 0 mark → mark ≡ zeros
 
 -- After a first showing that is closed a fork lacks something first, by name: in its second showing, if it
--- has one; after that two hashes.
-abbrev pub LacksAfterFirst : List Member → (node at : ℕ) → ShowingParts → Option ShowingParts → NotAccepted
-    → Type 0
-LacksAfterFirst ms node at a (Some b) reason =
-    ShowingLacks ms node b reason
-    ⊎ (IsClosedOf ms node b × (reason ≡ reasons.NoTwoHashes) × HasNoTwo at a (Some b))
-LacksAfterFirst ms node at a None reason = (reason ≡ reasons.NoTwoHashes) × HasNoTwo at a None
+-- has one; after that two marks.
+abbrev pub LacksAfterFirst : LogVersion → List Member → (node at : ℕ) → ShowingParts → Option ShowingParts
+    → NotAccepted → Type 0
+LacksAfterFirst v ms node at a (Some b) reason =
+    ShowingLacks v ms node b reason
+    ⊎ (IsClosedOf v ms node b × (reason ≡ reasons.NoTwoMarks) × HasNoTwo at a (Some b))
+LacksAfterFirst v ms node at a None reason = (reason ≡ reasons.NoTwoMarks) × HasNoTwo at a None
 
 -- A fork lacks something first, by name.
-abbrev pub ForkLacks : List Member → (node at : ℕ) → ShowingParts → Option ShowingParts → NotAccepted → Type 0
-ForkLacks ms node at a b reason =
-    ShowingLacks ms node a reason ⊎ (IsClosedOf ms node a × LacksAfterFirst ms node at a b reason)
+abbrev pub ForkLacks : LogVersion → List Member → (node at : ℕ) → ShowingParts → Option ShowingParts
+    → NotAccepted → Type 0
+ForkLacks v ms node at a b reason =
+    ShowingLacks v ms node a reason ⊎ (IsClosedOf v ms node a × LacksAfterFirst v ms node at a b reason)
 
 -- A log is shown from its first entry on.
 pub record IsFromStart (s : SegmentParts) : Type 0 where
@@ -134,27 +146,28 @@ LogLacks ms node s reasons.NotClosed =
 LogLacks ms node s reasons.NotSigned =
     (s.node ≡ node) × IsTrue (keeps_version ms node One) × IsFromStart s × segments.Ends s
     × (¬ IsSignedIn ms s.closing)
-LogLacks ms node s reasons.NoTwoHashes = ⊥
+LogLacks ms node s reasons.NoTwoMarks = ⊥
 LogLacks ms node s reasons.NoFault = HasNoFault ms node s
 
 -- ---- findings
 
--- what is found in a fork: two hashes alone of a node whose log is of version 1, where it is a member
-abbrev pub FindsInFork : List Member → (node at : ℕ) → ShowingParts → Option ShowingParts → Finding → Type 0
-FindsInFork ms node fork_at a b (found.TwoHashes at one other) =
-    IsTrue (keeps_version ms node One) × AcceptsHashes ms node fork_at a b at one other
-FindsInFork ms node fork_at a b (found.Fault fault number) = ⊥
-FindsInFork ms node fork_at a b (found.NotAccepted reason) = ForkLacks ms node fork_at a b reason
+-- what is found in a fork: two marks alone of a node whose log is of this version, where it is a member
+abbrev pub FindsInFork : LogVersion → List Member → (node at : ℕ) → ShowingParts → Option ShowingParts
+    → Finding → Type 0
+FindsInFork v ms node fork_at a b (found.TwoMarks at one other) =
+    IsTrue (keeps_version ms node v) × IsMark one × IsMark other × AcceptsMarks v ms node fork_at a b at one other
+FindsInFork v ms node fork_at a b (found.Fault fault number) = ⊥
+FindsInFork v ms node fork_at a b (found.NotAccepted reason) = ForkLacks v ms node fork_at a b reason
 
 -- what is found in a log
 abbrev pub FindsInLog : List Member → (node : ℕ) → SegmentParts → Finding → Type 0
-FindsInLog ms node s (found.TwoHashes at one other) = ⊥
+FindsInLog ms node s (found.TwoMarks at one other) = ⊥
 FindsInLog ms node s (found.Fault fault number) = AcceptsFault ms node s fault number
 FindsInLog ms node s (found.NotAccepted reason) = LogLacks ms node s reason
 
 -- what is found in what is shown against a node
 abbrev pub FindsInCharge : List Member → (node : ℕ) → Charge → Finding → Type 0
-FindsInCharge ms node (Fork f) finding = FindsInFork ms node f.at f.a f.b finding
+FindsInCharge ms node (Fork f) finding = FindsInFork f.log_version ms node f.at f.a f.b finding
 FindsInCharge ms node (Replay s) finding = FindsInLog ms node s finding
 
 -- What is found in evidence: with what it is accepted, or what it lacks first.

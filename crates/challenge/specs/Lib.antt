@@ -7,3 +7,4 @@ pub mod Findings
 pub mod Cases
 pub mod Readings
 pub mod Taking
+pub mod ReadCharges

@@ -53,12 +53,15 @@ impl Charge {
 }
 
 impl Fork {
-    /// Whether another fork is the same: its number and both its showings are. It compares
+    /// Whether another fork is the same: its log's version, its number and both its showings are. It compares
     /// bytes, and takes no memory.
     pub fn is_same(&self, other: &Fork) -> bool
         ensures { IsTrue result ↔ (fork_in self.now ≡ fork_in other.now) }
     {
-        self.at == other.at && self.a.is_same(&other.a) && are_same(&self.b, &other.b)
+        self.log_version == other.log_version
+            && self.at == other.at
+            && self.a.is_same(&other.a)
+            && are_same(&self.b, &other.b)
     }
 
     /// A copy. No text is written for it, and nothing is hashed. `AllocError` comes only where a growth was
@@ -71,7 +74,12 @@ impl Fork {
             Some(b) => Some(b.try_clone(alloc)?),
             None => None,
         };
-        Ok(Fork { at: self.at, a, b })
+        Ok(Fork {
+            log_version: self.log_version,
+            at: self.at,
+            a,
+            b,
+        })
     }
 }
 

@@ -1,14 +1,16 @@
 //! Evidence.
 
-ghost use Rattle.std.specs.Prelude.{◌≡◌, ◌<◌, ◌^◌, IfNone, IfSome, IsTrue, false};
-ghost use Rattle.xdr.specs.Item.{Fits, choice};
+ghost use Rattle.std.specs.Prelude.{◌≡◌, ◌<◌, ◌^◌, IfNone, IfSome, IsTrue, false, option_map};
+ghost use Rattle.xdr.specs.Item.{Fits, choice, optional};
+ghost use Rattle.authenticator.specs.declared.member.LogVersion.TheVariants.{One, Two};
+ghost use Rattle.evidence_showings.specs.evidence_spec.Showing.{links_follow, showing_item, showing_value};
 ghost use Rattle.evidence_showings.specs.evidence_spec.Evidence.{evidence_item, evidence_value};
 ghost use Rattle.evidence_showings.specs.evidence_spec.Evidence.{charge_value, evidence_text};
-ghost use Rattle.evidence_showings.specs.evidence_spec.Evidence.{is_whole_charge};
+ghost use Rattle.evidence_showings.specs.evidence_spec.Evidence.{fork_charge, is_whole_charge, second_follows};
 ghost use Rattle.evidence_showings.specs.evidence_spec.Evidence as spec;
 ghost use Rattle.challenge.specs.Charges.{charge_in, fork_in};
 
-use authenticator::Number;
+use authenticator::{LogVersion, Number};
 use evidence_showings::{MAX_AUDITED, Showing};
 use secure_log::BoundedSegment;
 use std::marker::Model;
@@ -16,13 +18,16 @@ use std::marker::Model;
 /// A log that was audited: as a segment, but of at most `MAX_AUDITED` entries (65,536).
 pub type AuditedLog = BoundedSegment<MAX_AUDITED>;
 
-/// Two hashes at one number: one showing shows each. With one showing alone, it shows another hash than 32
-/// zero bytes at 0, whatever `at` is.
+/// Two marks at one number of a log: one showing shows each. A mark is a hash, or in a log of version 2 also
+/// that no entry has the number. With one showing alone, it shows another hash than 32 zero bytes at 0,
+/// whatever `at` is.
 #[derive(Drop)]
 pub struct Fork {
+    /// The version of the log.
+    pub log_version: LogVersion,
     /// The number.
     pub at: Number,
-    /// What shows a hash there.
+    /// What shows a mark there.
     pub a: Showing,
     /// What shows another, if `a` alone isn't enough.
     pub b: Option<Showing>,
@@ -61,7 +66,8 @@ impl Model for Evidence {
 
 impl Evidence {
     /// Evidence against this node. None where it would have no text: where a log is shown that has no
-    /// entry, or that begins at 0.
+    /// entry, or that begins at 0, or a link of a log of version 2 that skips more than
+    /// `evidence_showings::MAX_SKIPPED` numbers, or whose number has more than 32 bits.
     pub fn new(node: u32, charge: Charge) -> Option<Evidence>
         ensures some { IfSome result (λ e. e ≡ record { node = node; charge = charge_in charge }) }
         ensures whole { IfSome result (λ _. IsTrue (is_whole_charge (charge_value (charge_in charge)))) }
@@ -106,18 +112,19 @@ impl Evidence {
 }
 
 impl Charge {
-    /// Whether evidence of it has a text: a log has an entry and begins at 1 or later. Every fork passes.
+    /// Whether evidence of it has a text: a log has an entry and begins at 1 or later, and a fork has one.
     fn is_whole(&self) -> bool
         ensures { result ≡ is_whole_charge (charge_value (charge_in self.now)) }
     {
         match self {
-            Charge::Fork(_) => true,
+            Charge::Fork(fork) => fork.is_whole(),
             Charge::Replay(log) => log.is_whole(),
         }
     }
 
     /// Each part has a spelling, as the types of its parts keep it: does nothing, and tells a caller's proof.
     fn fits(&self)
+        requires { IsTrue (is_whole_charge (charge_value (charge_in self.now))) }
         ensures { Fits (choice spec.is_charge spec.charge_item) (charge_value (charge_in self.now)) }
     {
         match self {
@@ -128,15 +135,60 @@ impl Charge {
 }
 
 impl Fork {
+    /// Whether it has a text of its log's version. Every fork of a log of version 1 has one.
+    fn is_whole(&self) -> bool
+        ensures { result ≡ is_whole_charge (fork_charge self.now.log_version (fork_in self.now)) }
+    {
+        match self.log_version {
+            LogVersion::One => true,
+            LogVersion::Two => self.a.has_words() && second_has_words(&self.b),
+        }
+    }
+
     /// Each part has a spelling, as the types of its parts keep it: does nothing, and tells a caller's proof.
     fn fits(&self)
-        ensures { Fits spec.fork_item (spec.fork_value (fork_in self.now)) }
+        requires { IsTrue (is_whole_charge (fork_charge self.now.log_version (fork_in self.now))) }
+        ensures { Fits (choice spec.is_charge spec.charge_item)
+            (fork_charge self.now.log_version (fork_in self.now)) }
+    {
+        match self.log_version {
+            LogVersion::One => self.has_text(),
+            LogVersion::Two => self.has_words(),
+        }
+    }
+
+    /// As `fits`, of a log of version 1.
+    fn has_text(&self)
+        ensures { Fits (spec.fork_item One) (spec.fork_value One (fork_in self.now)) }
     {
         let _at = self.at.get();
         self.a.has_text();
         if let Some(b) = &self.b {
             b.has_text();
         }
+    }
+
+    /// As `fits`, of a log of version 2.
+    fn has_words(&self)
+        requires a { IsTrue (links_follow Two (showing_value Two self.now.a)) }
+        requires b { IsTrue (second_follows (option_map (showing_value Two) self.now.b)) }
+        ensures { Fits (spec.fork_item Two) (spec.fork_value Two (fork_in self.now)) }
+    {
+        let _at = self.at.get();
+        let _a = self.a.has_words();
+        let _b = second_has_words(&self.b);
+    }
+}
+
+/// Whether a second showing has a text of a log of version 2, if there is one.
+fn second_has_words(second: &Option<Showing>) -> bool
+    ensures follow { result ≡ second_follows (option_map (showing_value Two) second.now) }
+    ensures text { IsTrue result →
+        Fits (optional (showing_item Two)) (option_map (showing_value Two) second.now) }
+{
+    match second {
+        Some(showing) => showing.has_words(),
+        None => true,
     }
 }
 

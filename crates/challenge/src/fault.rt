@@ -1,5 +1,6 @@
 //! Why bytes are no evidence.
 
+use std::alloc::AllocError;
 use thiserror::Error;
 use xdr::ReadFault;
 
@@ -25,6 +26,17 @@ impl From<ReadFault> for EvidenceFault {
             ReadFault::NoMemory => EvidenceFault::NoMemory,
             ReadFault::Fault(_) => EvidenceFault::Garbage,
         }
+    }
+}
+
+impl From<AllocError> for EvidenceFault {
+    ghost use Rattle.std.specs.Prelude.{◌≡◌};
+    ghost use Rattle.challenge.specs.declared.fault.EvidenceFault.TheVariants.{NoMemory};
+
+    ghost from_gives = { λ e f. f ≡ NoMemory };
+
+    fn from(_: AllocError) -> EvidenceFault {
+        EvidenceFault::NoMemory
     }
 }
 

@@ -1,16 +1,16 @@
 //! What is found in evidence.
 
-ghost use Rattle.std.specs.Prelude.{◌≡◌, ◌↔◌, IfErr, IfNone, IfOk, IfSome, IsTrue, None, Some};
+ghost use Rattle.std.specs.Prelude.{◌≡◌, ◌↔◌, IfErr, IfNone, IfOk, IfSome, IsTrue, None, Some, length};
 ghost use Rattle.secure_log.specs.LogEntries.Chain.{zeros};
 ghost use Rattle.evidence_showings.specs.evidence_spec.Evidence.{Accepts};
 ghost use Rattle.challenge.specs.Findings.{Finds, FindsInFork, FindsInLog, LogLacks, ShowingLacks};
-ghost use Rattle.challenge.specs.Findings.{IsAudited, IsClosedOf, IsFromStart, OneFinding};
+ghost use Rattle.challenge.specs.Findings.{IsAudited, IsClosedOf, IsFromStart, IsMark, OneFinding};
 ghost use Rattle.challenge.specs.Findings.{finding_in, is_accepted};
 
 use crate::evidence::{AuditedLog, Charge, Evidence, Fork};
 use crate::finding::{Finding, NotAccepted};
-use authenticator::{LogVersion, Member, Number, Roster, is_signed_by};
-use evidence_showings::{Showing, is_signed_in};
+use authenticator::{LogVersion, Member, Number, Roster, is_same_hash, is_signed_by};
+use evidence_showings::{Mark, Showing, is_signed_in};
 use replay::{Outcome, opening_state, replay_outcome};
 use secure_log::chain_fits;
 use std::alloc::{AllocError, Global};
@@ -42,68 +42,95 @@ fn finding_of(alloc: Global, roster: &Roster, evidence: &Evidence) -> Result<Fin
 
 /// What is found in a fork.
 fn find_in_fork(roster: &Roster, node: u32, fork: &Fork) -> Finding
-    ensures { FindsInFork roster.now node fork.now.at fork.now.a fork.now.b result }
+    ensures { FindsInFork fork.now.log_version roster.now node fork.now.at fork.now.a fork.now.b result }
 {
-    if let Some(reason) = find_lack(roster, node, &fork.a) {
+    if let Some(reason) = find_lack(roster, node, fork.log_version, &fork.a) {
         return Finding::NotAccepted(reason);
     }
     match &fork.b {
-        Some(b) => find_in_two(roster, node, fork.at, &fork.a, b),
-        None => find_in_one(roster, node, fork.at, &fork.a),
+        Some(b) => find_in_two(roster, node, fork, b),
+        None => find_in_one(roster, node, fork),
     }
 }
 
-/// What is found in two showings, of which the first is closed.
-fn find_in_two(roster: &Roster, node: u32, at: Number, a: &Showing, b: &Showing) -> Finding
-    requires { IsClosedOf roster.now node a.now }
-    ensures { FindsInFork roster.now node at a.now (Some b.now) result }
+/// What is found in a fork's first showing, which is closed, and a second.
+fn find_in_two(roster: &Roster, node: u32, fork: &Fork, b: &Showing) -> Finding
+    requires { IsClosedOf fork.now.log_version roster.now node fork.now.a }
+    ensures { FindsInFork fork.now.log_version roster.now node fork.now.at fork.now.a (Some b.now) result }
 {
-    if let Some(reason) = find_lack(roster, node, b) {
+    if let Some(reason) = find_lack(roster, node, fork.log_version, b) {
         return Finding::NotAccepted(reason);
     }
-    let Some(one) = a.hash_at(at.get()) else {
-        return Finding::NotAccepted(NotAccepted::NoTwoHashes);
+    let at = fork.at;
+    let Some(one) = fork.a.mark_at(fork.log_version, at.get()) else {
+        return Finding::NotAccepted(NotAccepted::NoTwoMarks);
     };
-    let Some(other) = b.hash_at(at.get()) else {
-        return Finding::NotAccepted(NotAccepted::NoTwoHashes);
+    let Some(other) = b.mark_at(fork.log_version, at.get()) else {
+        return Finding::NotAccepted(NotAccepted::NoTwoMarks);
     };
-    if is_same(&one, &other) {
-        return Finding::NotAccepted(NotAccepted::NoTwoHashes);
+    if one.is_same(&other) {
+        return Finding::NotAccepted(NotAccepted::NoTwoMarks);
     }
-    Finding::TwoHashes { at, one, other }
+    is_mark(&one);
+    is_mark(&other);
+    Finding::TwoMarks { at, one, other }
 }
 
-/// What is found in one showing alone, which is closed.
+/// What is found in a fork's first showing alone, which is closed.
 #[tactic(auto, unfolding(secure_log::specs::LogEntries::Chain::zeros))]
-fn find_in_one(roster: &Roster, node: u32, at: Number, a: &Showing) -> Finding
-    requires { IsClosedOf roster.now node a.now }
-    ensures { FindsInFork roster.now node at a.now None result }
+fn find_in_one(roster: &Roster, node: u32, fork: &Fork) -> Finding
+    requires { IsClosedOf fork.now.log_version roster.now node fork.now.a }
+    ensures { FindsInFork fork.now.log_version roster.now node fork.now.at fork.now.a None result }
 {
-    let Some(one) = a.hash_at(0) else {
-        return Finding::NotAccepted(NotAccepted::NoTwoHashes);
+    let zeros = Mark::Hash([0; 32]);
+    let Some(one) = fork.a.mark_at(fork.log_version, 0) else {
+        return Finding::NotAccepted(NotAccepted::NoTwoMarks);
     };
-    if is_zeros(&one) {
-        return Finding::NotAccepted(NotAccepted::NoTwoHashes);
+    if one.is_same(&zeros) {
+        return Finding::NotAccepted(NotAccepted::NoTwoMarks);
     }
-    Finding::TwoHashes {
+    is_mark(&one);
+    is_mark(&zeros);
+    Finding::TwoMarks {
         at: Number::new(0),
         one,
-        other: [0; 32],
+        other: zeros,
     }
 }
 
-/// What a showing lacks first.
-fn find_lack(roster: &Roster, node: u32, showing: &Showing) -> Option<NotAccepted>
-    ensures none { IfNone result (IsClosedOf roster.now node showing.now) }
-    ensures some { IfSome result (λ reason. ShowingLacks roster.now node showing.now reason) }
+/// A mark that is a hash has 32 bytes: does nothing, and tells a caller's proof.
+fn is_mark(mark: &Mark)
+    ensures { IsMark mark.now }
+{
+    if let Mark::Hash(hash) = mark {
+        is_hash(hash);
+    }
+}
+
+/// A hash has 32 bytes: does nothing, and tells a caller's proof.
+fn is_hash(hash: &[u8; 32])
+    ensures { length hash.now ≡ 32 }
+{
+    let _bytes = hash;
+}
+
+/// What a showing of a log of this version lacks first.
+fn find_lack(
+    roster: &Roster,
+    node: u32,
+    version: LogVersion,
+    showing: &Showing,
+) -> Option<NotAccepted>
+    ensures none { IfNone result (IsClosedOf version roster.now node showing.now) }
+    ensures some { IfSome result (λ reason. ShowingLacks version roster.now node showing.now reason) }
 {
     if showing.node() != node {
         return Some(NotAccepted::AnotherNode);
     }
-    if !roster.keeps_version(node, LogVersion::One) {
+    if !roster.keeps_version(node, version) {
         return Some(NotAccepted::OtherVersion);
     }
-    if !showing.ends() {
+    if !showing.ends(version) {
         return Some(NotAccepted::NotClosed);
     }
     if !is_signed_in(roster, showing.closing()) {
@@ -112,19 +139,12 @@ fn find_lack(roster: &Roster, node: u32, showing: &Showing) -> Option<NotAccepte
     None
 }
 
-/// Whether two hashes are the same.
-fn is_same(one: &[u8; 32], other: &[u8; 32]) -> bool
-    ensures { IsTrue result ↔ (one.now ≡ other.now) }
-{
-    one.as_slice() == other.as_slice()
-}
-
 /// Whether a hash is 32 zero bytes, as before a log's first entry.
 #[tactic(auto, unfolding(secure_log::specs::LogEntries::Chain::zeros))]
 fn is_zeros(hash: &[u8; 32]) -> bool
     ensures { IsTrue result ↔ (hash.now ≡ zeros) }
 {
-    is_same(hash, &[0; 32])
+    is_same_hash(hash, &[0; 32])
 }
 
 /// What is found in a log.

@@ -1,19 +1,16 @@
 //! What is found in evidence.
 
 use authenticator::Number;
+use evidence_showings::Mark;
 use replay::ReplayFault;
 use thiserror::Error;
 
 /// What evidence shows, if it is accepted; else why it isn't.
 #[derive(Clone, Copy, Debug, PartialEq, Eq)]
 pub enum Finding {
-    /// Two hashes are shown at a number. Where one showing is enough, the number is 0 and the other hash is
-    /// 32 zero bytes.
-    TwoHashes {
-        at: Number,
-        one: [u8; 32],
-        other: [u8; 32],
-    },
+    /// Two marks are shown at a number. Where one showing is enough, the number is 0 and the other mark is a
+    /// hash of 32 zero bytes.
+    TwoMarks { at: Number, one: Mark, other: Mark },
     /// What a replay finds that the entry with a number has wrong.
     Fault(ReplayFault, Number),
     /// Evidence that isn't accepted.
@@ -32,15 +29,16 @@ pub enum NotAccepted {
     /// The log doesn't begin with the first entry, after 32 zero bytes.
     #[error("the log is not shown from its first entry on")]
     NotFromStart,
-    /// A showing begins at 0, or what is shown doesn't end in its closing's node, number and hash.
+    /// A showing begins at 0, or skips what a log of its version may not, or what is shown doesn't end in its
+    /// closing's node, word and hash.
     #[error("what is shown does not end in what closes it")]
     NotClosed,
     /// A closing isn't signed by a member of the roster.
     #[error("what closes it is not signed by the node")]
     NotSigned,
-    /// No two hashes are shown at the number.
+    /// No two marks are shown at the number.
     #[error("no two hashes are shown at the number")]
-    NoTwoHashes,
+    NoTwoMarks,
     /// A replay finds no fault.
     #[error("the log has no fault")]
     NoFault,

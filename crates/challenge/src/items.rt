@@ -1,22 +1,22 @@
 //! The items of evidence and of cases, taken from the front of what is left of their bytes.
 
 ghost use Rattle.std.specs.Prelude.{map, option_map};
-ghost use Rattle.xdr.specs.Item.{array, fixed, optional, word};
+ghost use Rattle.xdr.specs.Item.{array, fixed, optional, pair, word};
 ghost use Rattle.xdr.specs.Reading.{GivesUnless};
 ghost use Rattle.xdr.specs.ReadFault.{xdr_fault};
 ghost use Rattle.authenticator.specs.Roster.{listed_value, roster_item};
-ghost use Rattle.challenge.specs.Charges.{fork_in};
-ghost use Rattle.evidence_showings.specs.evidence_spec.Showing.{showing_item, showing_value};
-ghost use Rattle.evidence_showings.specs.evidence_spec.Evidence.{MAX_AUDITED, fork_item, fork_value};
+ghost use Rattle.evidence_showings.specs.Worded.{worded_value};
+ghost use Rattle.evidence_showings.specs.evidence_spec.Showing.{showing_value};
+ghost use Rattle.evidence_showings.specs.evidence_spec.Evidence.{MAX_AUDITED, fork_item};
 ghost use Rattle.authenticator.specs.Numbers.{number_item};
+ghost use Rattle.authenticator.specs.declared.member.LogVersion.TheVariants.{One, Two};
 ghost use Rattle.authenticator.specs.Signed.{authenticator_item, authenticator_value};
 ghost use Rattle.secure_log.specs.LogEntries.Entry.{entry_item, entry_value};
 ghost use Rattle.challenge.specs.Taking.{LeavesOf};
 
-use crate::evidence::Fork;
 use crate::source::Source;
 use authenticator::{Authenticator, ListedRoster, Number};
-use evidence_showings::{MAX_AUDITED, Showing};
+use evidence_showings::{MAX_AUDITED, Showing, WordedShowing};
 use secure_log::log_entries::Entry;
 use std::alloc::Global;
 use xdr::{FromXdr, ReadFault, Reader, XdrFault};
@@ -30,31 +30,43 @@ fn front<'a, T: FromXdr<'a>>(alloc: Global, bytes: &'a [u8]) -> Result<(T, usize
     Ok((item, reader.rest().len()))
 }
 
-/// A fork. After an `Err` the reader may stand within it.
-fn read_fork<'a>(alloc: Global, reader: &mut Reader<'a>) -> Result<Fork, ReadFault>
-    ensures { GivesUnless xdr_fault fork_item (λ f. fork_value (fork_in f)) reader.old result reader.new }
+/// A number of a log and one showing or two, as they stand in a text. After an `Err` the reader may stand
+/// within them.
+fn read_fork<'a, S: FromXdr<'a>>(
+    alloc: Global,
+    reader: &mut Reader<'a>,
+) -> Result<(Number, S, Option<S>), ReadFault>
+    ensures { GivesUnless xdr_fault (pair number_item (pair S.item (optional S.item)))
+        (λ f. (f.0, (S.value f.1, option_map S.value f.2))) reader.old result reader.new }
 {
     let at = Number::read(alloc, reader)?;
-    let a = Showing::read(alloc, reader)?;
+    let a = S::read(alloc, reader)?;
     let b = read_second(alloc, reader)?;
-    Ok(Fork { at, a, b })
+    Ok((at, a, b))
 }
 
 #[tactic(auto, unfolding(xdr::specs::Reading::optional_at))]
-fn read_second<'a>(alloc: Global, reader: &mut Reader<'a>) -> Result<Option<Showing>, ReadFault>
-    ensures { GivesUnless xdr_fault (optional showing_item) (λ b. option_map showing_value b)
+fn read_second<'a, S: FromXdr<'a>>(
+    alloc: Global,
+    reader: &mut Reader<'a>,
+) -> Result<Option<S>, ReadFault>
+    ensures { GivesUnless xdr_fault (optional S.item) (λ b. option_map S.value b)
         reader.old result reader.new }
 {
     if !reader.bool()? {
         return Ok(None);
     }
-    let showing = Showing::read(alloc, reader)?;
+    let showing = S::read(alloc, reader)?;
     Ok(Some(showing))
 }
 
-/// The fork in front of some bytes, and how many are left after it.
-fn fork_in_front(alloc: Global, bytes: &[u8]) -> Result<(Fork, usize), ReadFault>
-    ensures { LeavesOf xdr_fault fork_item (λ x. fork_value (fork_in x.0)) (λ x. x.1) bytes.now result }
+/// A number and its showings in front of some bytes, and how many are left after them.
+fn fork_in_front<'a, S: FromXdr<'a>>(
+    alloc: Global,
+    bytes: &'a [u8],
+) -> Result<((Number, S, Option<S>), usize), ReadFault>
+    ensures { LeavesOf xdr_fault (pair number_item (pair S.item (optional S.item)))
+        (λ x. (x.0.0, (S.value x.0.1, option_map S.value x.0.2))) (λ x. x.1) bytes.now result }
 {
     let mut reader = Reader::new(bytes);
     let fork = read_fork(alloc, &mut reader)?;
@@ -127,11 +139,36 @@ pub(crate) fn take_authenticator(
     Ok(authenticator)
 }
 
-/// Takes a fork.
-pub(crate) fn take_fork(alloc: Global, source: &mut Source) -> Result<Fork, ReadFault>
-    ensures { GivesUnless xdr_fault fork_item (λ f. fork_value (fork_in f)) source.old result source.new }
+/// Takes the number and the showings of a fork of a log of version 1.
+pub(crate) fn take_fork(
+    alloc: Global,
+    source: &mut Source,
+) -> Result<(Number, Showing, Option<Showing>), ReadFault>
+    ensures { GivesUnless xdr_fault (fork_item One)
+        (λ f. (f.0, (showing_value One f.1, option_map (showing_value One) f.2)))
+        source.old result source.new }
 {
-    let (fork, left) = fork_in_front(alloc, source.rest())?;
+    let (fork, left): ((Number, Showing, Option<Showing>), usize) = fork_in_front(
+        alloc,
+        source.rest(),
+    )?;
+    source.keep(left);
+    Ok(fork)
+}
+
+/// Takes those of a fork of a log of version 2, whose words aren't checked.
+pub(crate) fn take_worded_fork(
+    alloc: Global,
+    source: &mut Source,
+) -> Result<(Number, WordedShowing, Option<WordedShowing>), ReadFault>
+    ensures { GivesUnless xdr_fault (fork_item Two)
+        (λ f. (f.0, (worded_value f.1, option_map worded_value f.2)))
+        source.old result source.new }
+{
+    let (fork, left): ((Number, WordedShowing, Option<WordedShowing>), usize) = fork_in_front(
+        alloc,
+        source.rest(),
+    )?;
     source.keep(left);
     Ok(fork)
 }

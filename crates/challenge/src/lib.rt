@@ -3,6 +3,7 @@
 
 mod case;
 mod challenge;
+mod charges;
 mod check;
 mod copies;
 mod evidence;
@@ -18,7 +19,7 @@ pub use case::{Case, read_case, write_case};
 pub use challenge::Challenge;
 pub use check::check_evidence;
 pub use evidence::{AuditedLog, Charge, Evidence, Fork};
-pub use evidence_showings::{EntryKind, Showing, ShownLink, accepted_evidence_proves};
+pub use evidence_showings::{EntryKind, Mark, Showing, ShownLink, accepted_evidence_proves};
 pub use fault::EvidenceFault;
 pub use find::{examine, one_finding};
 pub use finding::{Finding, NotAccepted};

@@ -7,17 +7,19 @@ ghost use Rattle.xdr.specs.ReadFault.{xdr_fault};
 ghost use Rattle.xdr.specs.Texts.Text.{GivesText, IsText};
 ghost use Rattle.secure_log.specs.Segment.{bounded_item, segment_value};
 ghost use Rattle.evidence_showings.specs.evidence_spec.Evidence.{MAX_AUDITED};
-ghost use Rattle.evidence_showings.specs.evidence_spec.Evidence.{charge_item, charge_value, is_charge};
+ghost use Rattle.evidence_showings.specs.evidence_spec.Evidence.{charge_item, is_charge};
 ghost use Rattle.evidence_showings.specs.evidence_spec.Evidence.{evidence_item, evidence_text};
 ghost use Rattle.evidence_showings.specs.evidence_spec.Evidence.{evidence_value};
-ghost use Rattle.challenge.specs.Charges.{charge_in};
 ghost use Rattle.challenge.specs.FaultNumbers.{is_garbage};
+ghost use Rattle.challenge.specs.ReadCharges.{read_value};
 ghost use Rattle.challenge.specs.declared.fault.EvidenceFault.TheVariants.{NoMemory};
 
-use crate::evidence::{AuditedLog, Charge, Evidence};
+use crate::charges::ReadCharge;
+use crate::evidence::{AuditedLog, Evidence};
 use crate::fault::EvidenceFault;
 use crate::items::{
     take_authenticator, take_entries, take_fork, take_hash, take_number, take_word,
+    take_worded_fork,
 };
 use crate::source::Source;
 use secure_log::are_bytes;
@@ -46,15 +48,18 @@ pub(crate) fn evidence_of(alloc: Global, mut source: Source) -> Result<Evidence,
     if !source.rest().is_empty() {
         return Err(EvidenceFault::Garbage);
     }
+    let Some(charge) = charge.into_charge(alloc)? else {
+        return Err(EvidenceFault::Garbage);
+    };
     match Evidence::new(node, charge) {
         Some(evidence) => Ok(evidence),
         None => Err(EvidenceFault::Garbage),
     }
 }
 
-/// Takes the parts of evidence, of which a log may be empty or begin at 0.
-fn take_parts(alloc: Global, source: &mut Source) -> Result<(u32, Charge), ReadFault>
-    ensures { GivesUnless xdr_fault evidence_item (λ x. (x.0, charge_value (charge_in x.1)))
+/// Takes the parts of evidence.
+fn take_parts(alloc: Global, source: &mut Source) -> Result<(u32, ReadCharge), ReadFault>
+    ensures { GivesUnless xdr_fault evidence_item (λ x. (x.0, read_value x.1))
         source.old result source.new }
 {
     let node = take_word(alloc, source)?;
@@ -63,18 +68,21 @@ fn take_parts(alloc: Global, source: &mut Source) -> Result<(u32, Charge), ReadF
 }
 
 /// Takes what is shown against a node.
-fn take_charge(alloc: Global, source: &mut Source) -> Result<Charge, ReadFault>
-    ensures { GivesUnless xdr_fault (choice is_charge charge_item) (λ g. charge_value (charge_in g))
-        source.old result source.new }
+fn take_charge(alloc: Global, source: &mut Source) -> Result<ReadCharge, ReadFault>
+    ensures { GivesUnless xdr_fault (choice is_charge charge_item) read_value source.old result source.new }
 {
     match take_word(alloc, source)? {
         1 => {
-            let fork = take_fork(alloc, source)?;
-            Ok(Charge::Fork(fork))
+            let (at, a, b) = take_fork(alloc, source)?;
+            Ok(ReadCharge::Fork(at, a, b))
         }
         2 => {
             let log = take_log(alloc, source)?;
-            Ok(Charge::Replay(log))
+            Ok(ReadCharge::Replay(log))
+        }
+        3 => {
+            let (at, a, b) = take_worded_fork(alloc, source)?;
+            Ok(ReadCharge::WordedFork(at, a, b))
         }
         _ => Err(ReadFault::Fault(XdrFault::BadEnum)),
     }

@@ -1,6 +1,6 @@
 -- What the first words of bytes tell of all bytes that begin so.
 -- Serves: may_accuse, may_hold.
-use Rattle.std.proofs.Common.{◌≡◌, ◌∙◌, ℕ, zero, suc, ◌+◌, ◌*◌, ◌<◌, ◌≤◌, Bool, true, false, cond, eqb, ◌||◌}
+use Rattle.std.proofs.Common.{◌≡◌, ◌∙◌, ℕ, zero, suc, ◌+◌, ◌*◌, ◌<◌, ◌≤◌, Bool, true, false, cond}
 use Rattle.std.proofs.Common.{ltb, List}
 use Rattle.std.proofs.Common.{[], ◌∷◌, ◌++◌, ◌==◌, length, drop, Ok, Err, Some, None, refl, sym, ap, ap₂}
 use Rattle.std.proofs.Common.{subst, arith}
@@ -304,8 +304,8 @@ too_many front more first count b many = (
 -- a charge that is none, after the members and the node
 pub no_charge : (front more : List ℕ) (first count charge : ℕ) → BeginsWith front first count
     → IsWordAt front (count_place first + count * member_size first + 8) charge
-    → eqb charge 1 ≡ false → eqb charge 2 ≡ false → HoldsNone (front ++ more)
-no_charge front more first count charge b there one two = (
+    → is_charge charge ≡ false → HoldsNone (front ++ more)
+no_charge front more first count charge b there none = (
   none_unless _ (λ v e.
       let r = roster_of_text (front ++ more) v e in
       let same = end_more front more [] first count b r.0 in
@@ -318,15 +318,11 @@ no_charge front more first count charge b there one two = (
       let charged = ap (λ i. number_at 4 (drop i (front ++ more))) at ∙ r.charged in
       let its = word_more front more (end + 8) charge r.charge r.rest there charged in
       let known : is_charge charge ≡ true = ap is_charge its ∙ r.known in
-      absurd (true_is_not_false (sym known ∙ neither (eqb charge 1) (eqb charge 2) one two))),
+      absurd (true_is_not_false (sym known ∙ none))),
 )
   where
     true_is_not_false : true ≡ false → ⊥
     true_is_not_false e = absurd cc
-
-    neither : (a b : Bool) → a ≡ false → b ≡ false → (a || b) ≡ false
-    neither true b one two = one
-    neither false b one two = two
 
 -- more bytes than evidence has
 pub too_long : (front more : List ℕ) → longest_case < length front → HoldsNone (front ++ more)

@@ -26,6 +26,7 @@ use Rattle.authenticator.specs.Roster as rosters
 use Rattle.authenticator.specs.Roster.{member_item, members_item, roster_item, versioned_item, is_node}
 use Rattle.authenticator.specs.Roster.{is_height, is_log, is_roster_word}
 use Rattle.authenticator.specs.declared.roster.TheConstants.{SECOND_FORM}
+use Rattle.authenticator.specs.declared.member.LogVersion.TheVariants.{One, Two}
 use Rattle.challenge.specs.evidence_spec.Showing.{link_item, showing_item}
 use Rattle.challenge.specs.evidence_spec.Evidence.{fork_item, is_charge, charge_item, evidence_item}
 use Rattle.challenge.specs.Cases.{case_item}
@@ -264,32 +265,49 @@ optional_up {A} read n up bytes x e =
         let same = ap (λ (r : Option A × List ℕ). length r.1) (ok_is (None, after) x e) in
         omega (arith, same)
 
-link_up : IsWithin 36 link_item
+link_up : IsWithin 36 (link_item One)
 link_up = within_pair 4 32 (record { takes = at_most 4 (tested_at 4 is_kind) (tested_just 4 is_kind) })
     hash_up
+
+worded_link_up : IsWithin 44 (link_item Two)
+worded_link_up = within_pair 8 36 number_up link_up
 
 hyper_up : IsWithin 8 hyper
 hyper_up = record { takes = at_most 8 (number_at 8) (number_just 8) }
 
-showing_up : IsWithin 164452 showing_item
+showing_up : IsWithin 164452 (showing_item One)
 showing_up =
     within_pair 4 164448 word_up (within_pair 8 164440 hyper_up (within_pair 32 164408 hash_up
     (within_pair 147460 16948 (within_array 4096 36 link_up) authenticator_up)))
 
-fork_up : IsWithin 328916 fork_item
+worded_showing_up : IsWithin 197220 (showing_item Two)
+worded_showing_up =
+    within_pair 4 197216 word_up (within_pair 8 197208 number_up (within_pair 32 197176 hash_up
+    (within_pair 180228 16948 (within_array 4096 44 worded_link_up) authenticator_up)))
+
+fork_up : IsWithin 328916 (fork_item One)
 fork_up =
     within_pair 8 328908 number_up
     (within_pair 164452 164456 showing_up
-    (record { takes = optional_up (read_at showing_item) 164452 showing_up.takes }))
+    (record { takes = optional_up (read_at (showing_item One)) 164452 showing_up.takes }))
 
-charge_up : (is_fork : Bool) → IsWithin 1916551780 (cond is_fork fork_item (bounded_item 65536))
-charge_up true = within 328916 1916551780 (lit≤ tt) fork_up
-charge_up false = segment_up
+worded_fork_up : IsWithin 394452 (fork_item Two)
+worded_fork_up =
+    within_pair 8 394444 number_up
+    (within_pair 197220 197224 worded_showing_up
+    (record { takes = optional_up (read_at (showing_item Two)) 197220 worded_showing_up.takes }))
+
+charge_up : (is_fork is_replay : Bool)
+    → IsWithin 1916551780
+    (cond is_fork (fork_item One) (cond is_replay (bounded_item 65536) (fork_item Two)))
+charge_up true is_replay = within 328916 1916551780 (lit≤ tt) fork_up
+charge_up false true = segment_up
+charge_up false false = within 394452 1916551780 (lit≤ tt) worded_fork_up
 
 evidence_up : IsWithin 1916551788 evidence_item
 evidence_up =
     within_pair 4 1916551784 word_up
-    (record { takes = choice_up is_charge charge_item 1916551780 (λ n known. (charge_up (eqb n 1)).takes) })
+    (record { takes = choice_up is_charge charge_item 1916551780 (λ n known. (charge_up (eqb n 1) (eqb n 2)).takes) })
 
 -- ---- rosters
 

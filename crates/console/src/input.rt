@@ -2,6 +2,7 @@
 
 ghost use Rattle.std.specs.Prelude.{◌≡◌, ◌≤◌, ◌++◌, ℕ, List, IfErr, IfOk, IfSome, IsErrOf, OnOk, false};
 ghost use Rattle.rpc.specs.Records.Count.{Rises};
+ghost use Rattle.challenge.specs.evidence_spec.Evidence.{is_charge};
 ghost use Rattle.console.specs.Checking.{HoldsNone, IsRead};
 ghost use Rattle.console.specs.Contents.{IsContents, IsWordAt, count_place, member_size};
 ghost use Rattle.console.specs.declared.fault.CheckFault.TheVariants.{NoMemory, Write};
@@ -61,6 +62,13 @@ fn member_size(first: u32) -> usize
     if first == SECOND_FORM { 48 } else { 44 }
 }
 
+/// Whether a word is the number of a charge.
+fn is_charge(word: u32) -> bool
+    ensures { result ≡ is_charge word }
+{
+    word > 0 && word < 4
+}
+
 /// Whether a file that begins with a word may hold a roster or evidence, by the count of members and the
 /// charge after them.
 fn may_accuse(front: &[u8], first: u32) -> bool
@@ -76,7 +84,7 @@ fn may_accuse(front: &[u8], first: u32) -> bool
     }
     let members = count as usize * member_size(first);
     match word_at(front, place + members + 8) {
-        Some(charge) => charge == 1 || charge == 2,
+        Some(charge) => is_charge(charge),
         None => true,
     }
 }

@@ -10,12 +10,12 @@ use Rattle.envelopes.specs.declared.acknowledgement.Ack.{Ack}
 use Rattle.envelopes.specs.declared.acknowledgement.AckRef.{AckRef}
 use Rattle.envelopes.specs.declared.message.Message.{Message}
 
--- What an acknowledgement says of the message, in a text (RFC 4506): its sender, its number in the sender's
+-- What an acknowledgement says of the message, in a text (RFC 4506): its sender, its word in the sender's
 -- log, the hash before it there, and the digests of its body and of its signature's text.
 abbrev pub acked_item : Item
 acked_item = pair word (pair number_item (pair (fixed 32) (pair (fixed 32) (pair (fixed 32) signature_item))))
 
--- An acknowledgement in a text (RFC 4506): who has the message, the number of its RECV there, the hash before
+-- An acknowledgement in a text (RFC 4506): who has the message, the word of its RECV there, the hash before
 -- that, what it says of the message, and the signature of the RECV.
 abbrev pub ack_item : Item
 ack_item = pair word (pair number_item (pair (fixed 32) acked_item))
@@ -33,17 +33,17 @@ ack_value a = (a.by, (a.number, (a.prev, acked_value a)))
 abbrev pub ack_text : Text
 ack_text = record { item = ack_item; test = λ _. true }
 
--- The message that was received: its sender, its number there, and the hash of the sender's log after its
+-- The message that was received: its sender, its word there, and the hash of the sender's log after its
 -- SEND to this node.
 abbrev pub acked_message : Ack → Message
 acked_message a =
     record { from = a.from; seq = a.seq; hash = message_hash a.by a.seq a.sender_prev a.body_hash }
 
--- The authenticator of the receiver that an acknowledgement shows: that its log has the RECV at this number.
+-- The authenticator of the receiver that an acknowledgement shows: that its log has the RECV at this word.
 abbrev pub ack_shows : Ack → Authenticator
 ack_shows a = record {
   node = a.by;
-  number = a.number;
+  word = a.number;
   hash = receipt_hash a.from a.seq a.sender_prev a.body_hash a.signature_hash a.number a.prev;
   signature = a.signature;
 }

@@ -12,7 +12,7 @@ use Rattle.envelopes.specs.declared.envelope.Envelope.{Envelope}
 use Rattle.envelopes.specs.declared.envelope.EnvelopeRef.{EnvelopeRef}
 use Rattle.envelopes.specs.declared.message.Message.{Message}
 
--- An envelope in a text (RFC 4506): its sender, its receiver, its number in the sender's log, the hash before
+-- An envelope in a text (RFC 4506): its sender, its receiver, its word in the sender's log, the hash before
 -- that, the body, and the sender's signature.
 abbrev pub envelope_item : Item
 envelope_item =
@@ -26,16 +26,16 @@ envelope_value e = (e.from, (e.to, (e.seq, (e.prev, (e.body, signature_value e.s
 abbrev pub envelope_text : Text
 envelope_text = record { item = envelope_item; test = λ _. true }
 
--- The message in it: its sender, its number there, and the hash of the sender's log after its SEND.
+-- The message in it: its sender, its word there, and the hash of the sender's log after its SEND.
 abbrev pub envelope_message : Envelope → Message
 envelope_message e =
     record { from = e.from; seq = e.seq; hash = message_hash e.to e.seq e.prev (sha256 e.body) }
 
--- The authenticator of its sender that an envelope shows: that its log has the SEND at this number.
+-- The authenticator of its sender that an envelope shows: that its log has the SEND at this word.
 abbrev pub envelope_shows : Envelope → Authenticator
 envelope_shows e = record {
   node = e.from;
-  number = e.seq;
+  word = e.seq;
   hash = message_hash e.to e.seq e.prev (sha256 e.body);
   signature = e.signature;
 }

@@ -5,7 +5,7 @@ ghost use Rattle.envelopes.specs.Acknowledgement.{ack_in, ack_item, ack_shows, a
 
 use crate::message::Message;
 use secure_log::log_entries::{Receipt, SignatureText, message_hash, receipt_hash};
-use secure_log::{Authenticator, Number, Signs, is_same_hash};
+use secure_log::{Authenticator, Signs, Word, is_same_hash};
 use std::alloc::{AllocError, Global};
 
 /// That a node logged a message, with its signature of the RECV. Nothing is checked of it: `check_ack` makes
@@ -14,21 +14,21 @@ use std::alloc::{AllocError, Global};
 pub struct Ack {
     /// Who has the message.
     pub by: u32,
-    /// The number of its RECV there.
-    pub number: Number,
+    /// The word of its RECV there.
+    pub number: Word,
     /// The hash before that.
     pub prev: [u8; 32],
     /// The message's sender.
     pub from: u32,
-    /// The message's number in the sender's log.
-    pub seq: Number,
+    /// The message's word in the sender's log.
+    pub seq: Word,
     /// The hash before it there.
     pub sender_prev: [u8; 32],
     /// The digest of its body.
     pub body_hash: [u8; 32],
     /// The digest of the sender's signature's text.
     pub signature_hash: [u8; 32],
-    /// The signature of who has the message, of its log's hash at the RECV's number.
+    /// The signature of who has the message, of its log's hash at the RECV.
     pub signature: SignatureText,
 }
 
@@ -37,21 +37,21 @@ pub struct Ack {
 pub struct AckRef<'a> {
     /// Who has the message.
     pub by: u32,
-    /// The number of its RECV there.
-    pub number: Number,
+    /// The word of its RECV there.
+    pub number: Word,
     /// The hash before that.
     pub prev: [u8; 32],
     /// The message's sender.
     pub from: u32,
-    /// The message's number in the sender's log.
-    pub seq: Number,
+    /// The message's word in the sender's log.
+    pub seq: Word,
     /// The hash before it there.
     pub sender_prev: [u8; 32],
     /// The digest of its body.
     pub body_hash: [u8; 32],
     /// The digest of the sender's signature's text.
     pub signature_hash: [u8; 32],
-    /// The signature of who has the message, of its log's hash at the RECV's number.
+    /// The signature of who has the message, of its log's hash at the RECV.
     pub signature: &'a SignatureText,
 }
 
@@ -105,7 +105,7 @@ impl Ack {
         let signature = self.signature.signature().try_clone(alloc)?;
         Ok(Authenticator {
             node: self.by,
-            number: self.number,
+            word: self.number,
             hash: self.hash(),
             signature,
         })

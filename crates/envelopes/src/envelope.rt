@@ -6,7 +6,7 @@ ghost use Rattle.envelopes.specs.Envelope.{envelope_value};
 
 use crate::message::Message;
 use secure_log::log_entries::{Body, SignatureText, message_hash};
-use secure_log::{Number, Signs, is_same_hash};
+use secure_log::{Signs, Word, is_same_hash};
 use std::alloc::{AllocError, Global};
 
 /// A message from one node to another, with its sender's signature of the SEND that it logged for it. Nothing
@@ -17,13 +17,13 @@ pub struct Envelope {
     pub from: u32,
     /// The receiver.
     pub to: u32,
-    /// The message's number in the sender's log.
-    pub seq: Number,
+    /// The message's word in the sender's log.
+    pub seq: Word,
     /// The hash before it there.
     pub prev: [u8; 32],
     /// The message.
     pub body: Body,
-    /// The sender's signature of its log's hash at this number.
+    /// The sender's signature of its log's hash at the SEND.
     pub signature: SignatureText,
 }
 
@@ -34,13 +34,13 @@ pub struct EnvelopeRef<'a> {
     pub from: u32,
     /// The receiver.
     pub to: u32,
-    /// The message's number in the sender's log.
-    pub seq: Number,
+    /// The message's word in the sender's log.
+    pub seq: Word,
     /// The hash before it there.
     pub prev: [u8; 32],
     /// The message.
     pub body: &'a Body,
-    /// The sender's signature of its log's hash at this number.
+    /// The sender's signature of its log's hash at the SEND.
     pub signature: &'a SignatureText,
 }
 

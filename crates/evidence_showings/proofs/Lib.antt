@@ -1,3 +1,4 @@
 pub use Rattle.evidence_spec.proofs as evidence_spec
 pub mod Texts
-pub mod Hashes
+pub mod Words
+pub mod Marks

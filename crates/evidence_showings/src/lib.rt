@@ -6,13 +6,18 @@ mod closing;
 mod copies;
 mod kind;
 mod link;
+mod mark;
 mod read;
 mod showing;
+mod worded;
 mod write;
 
+pub use chain::MAX_SKIPPED;
 pub use closing::is_signed_in;
 pub use evidence_spec::MAX_AUDITED;
 pub use evidence_spec::laws::accepted_evidence_proves;
 pub use kind::EntryKind;
 pub use link::ShownLink;
+pub use mark::Mark;
 pub use showing::Showing;
+pub use worded::WordedShowing;

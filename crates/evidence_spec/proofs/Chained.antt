@@ -1,9 +1,10 @@
--- A chain whose last pair is one of a log is a part of the log's chain, and its pairs are the log's.
+-- A chain without gaps whose last pair is one of a log is a part of the log's chain, and its pairs are the log's.
 -- Serves: what_is_shown_is_of_the_log.
 use Rattle.std.proofs.Common.{◌≡◌, ℕ, ◌+◌, ◌-◌, ◌<◌, List, [], ◌∷◌, ◌++◌, length, refl, sym, ap, subst, ◌∙◌}
 use Rattle.std.proofs.Common.{arith, append_assoc, length-append}
 use Rattle.std.proofs.lemmas.List.{length-replicate}
 use Rattle.std.specs.List.{AllByRecursion}
+use Rattle.replay_spec.specs.authenticator.declared.member.LogVersion.TheVariants.{One}
 use Rattle.replay_spec.specs.secure_log.LogEntries.Chain.{Link, IsLink, IsChain, IsEndOf, zeros, hash_after, last_hash}
 use Rattle.replay_spec.specs.secure_log.LogEntries.Chain.{pairs, chain_texts, NoCollision, IsAmong}
 use Rattle.replay_spec.proofs.secure_log.OfLogEntries.Chains.{chain_end}
@@ -28,25 +29,26 @@ pub zeros-length : length zeros ≡ 32
 unfolding zeros
 zeros-length = length-replicate {A = ℕ} 32 0
 
-last_hash-append : (opening : List ℕ) (xs ys : List Link)
+-- the hash after links in two parts
+pub last_hash-append : (opening : List ℕ) (xs ys : List Link)
     → last_hash opening (xs ++ ys) ≡ last_hash (last_hash opening xs) ys
 last_hash-append opening [] ys = refl
 last_hash-append opening (x ∷ xs) ys = last_hash-append (hash_after opening x) xs ys
 
 -- the first links of a chain are a chain
 front_chain : (opening : List ℕ) (links front rest : List Link) → links ≡ front ++ rest
-    → IsChain opening links
-    → IsChain opening front
+    → IsChain One opening links
+    → IsChain One opening front
 front_chain opening links front rest whole chain =
     record {
       opened = chain.opened;
-      each = all_front IsLink front rest (subst (AllByRecursion IsLink) whole chain.each);
+      each = all_front (IsLink One) front rest (subst (AllByRecursion (IsLink One)) whole chain.each);
     }
 
 module _ (log links : List Link) (first : ℕ) (opening : List ℕ) where
   -- a chain that ends in a pair of a log's is a part of it
-  pub ends_in_log : (number : ℕ) (hash : List ℕ) → AreNumbered 1 log → IsChain zeros log
-      → IsChain opening links
+  pub ends_in_log : (number : ℕ) (hash : List ℕ) → AreNumbered 1 log → IsChain One zeros log
+      → IsChain One opening links
       → 0 < first → number + 1 ≡ first + length links → hash ≡ last_hash opening links
       → NoCollision (chain_texts zeros log ++ chain_texts opening links)
       → IsAmong (number, hash) (pairs 0 zeros log) → IsPartOfChain log first opening links
@@ -60,7 +62,7 @@ module _ (log links : List Link) (first : ℕ) (opening : List ℕ) where
       let within : Within (bs ++ as') (cs ++ bs) =
       both bs as' (cs ++ bs) (right cs bs) (λ t k. left cs bs t (begins t k)) in
       let end : IsEndOf opening links zeros b.front =
-      chain_end opening zeros links b.front chain (front_chain zeros log b.front b.rest b.whole log_chain)
+      chain_end One opening zeros links b.front chain (front_chain zeros log b.front b.rest b.whole log_chain)
       (fewer (bs ++ as') (cs ++ bs) within unlike) (sym is ∙ b.is) (omega (arith, count, some, b.count)) in
       record {
         before = end.before;

@@ -2,6 +2,8 @@ pub use Rattle.replay_spec.proofs.secure_log as secure_log
 pub use Rattle.replay_spec.proofs as replay_spec
 pub mod Places
 pub mod Chained
+pub mod Gaps
+pub mod ShownMarks
 pub mod Contents
 pub mod Parts
 pub mod Shown

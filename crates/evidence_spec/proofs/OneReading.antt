@@ -9,28 +9,30 @@ use Rattle.replay_spec.specs.authenticator.declared.authenticator.Authenticator.
 use Rattle.replay_spec.specs.authenticator.declared.member.Member.{Member}
 use Rattle.replay_spec.specs.authenticator.declared.member.Kind.TheVariants.{Client}
 use Rattle.replay_spec.specs.authenticator.Roster.{member_of}
-use Rattle.replay_spec.specs.secure_log.declared.log_entries.entry.Entry.{Entry}
+use Rattle.replay_spec.specs.authenticator.declared.member.LogVersion.{LogVersion}
+use Rattle.replay_spec.specs.authenticator.declared.member.LogVersion.TheVariants.{One, Two}
+use Rattle.replay_spec.specs.authenticator.Numbers.{number_in}
 use Rattle.replay_spec.specs.secure_log.declared.log_entries.entry.Entry.TheVariants.{Clock}
 use Rattle.replay_spec.specs.secure_log.LogEntries.Entry.{content}
-use Rattle.replay_spec.specs.secure_log.LogEntries.Chain.{zeros, chain_text, link_of, NoCollision}
+use Rattle.replay_spec.specs.secure_log.LogEntries.Chain.{Logged, zeros, chain_text, link_of, without_gaps, NoCollision}
 use Rattle.replay_spec.specs.secure_log.Log.{log_hash}
 use Rattle.replay_spec.specs.state_spec.State.{State, opening_client}
 use Rattle.replay_spec.specs.Steps.{after_entry}
 use Rattle.replay_spec.specs.Opening.{opening_of, opening_by}
-use Rattle.replay_spec.specs.HonestLogs.{IsHonestLog}
+use Rattle.replay_spec.specs.HonestLogs.{IsHonestWithGaps}
 use Rattle.evidence_spec.specs.Evidence.{Replay}
-use Rattle.evidence_spec.specs.Proving.{IsLog, log_texts, Proves}
+use Rattle.evidence_spec.specs.Proving.{HasNumbers, IsLogOf, texts_of, Proves}
 use Rattle.evidence_spec.specs.Laws.{one_reading}
 use Rattle.evidence_spec.proofs.Nothing.{own_texts}
 
-abbrev reading : List Entry
-reading = Clock 1 0 ∷ []
+abbrev reading : List Logged
+reading = without_gaps (Clock 1 0 ∷ [])
 
 -- the state after it
 abbrev read_once : (node : ℕ) → State
 read_once node = after_entry (opening_client node) 1 zeros (Clock 1 0)
 
-reading_honest : (ms : List Member) (node : ℕ) → IsHonestLog ms (opening_client node) reading (read_once node)
+reading_honest : (ms : List Member) (node : ℕ) → IsHonestWithGaps ms (opening_client node) reading (read_once node)
 reading_honest ms node = record {
   states = read_once node ∷ [];
   honest = (record { stands = record { turn = tt; valid = omega arith; late = refl }; after = refl }, tt);
@@ -44,7 +46,7 @@ unfolding first_words schedule rounds compress sha.hash_after digest_bytes sha25
 two_digests e = absurd (omega (arith, ap (λ xs. slice_index xs 0) e))
 
 -- so no two of them have one
-pub reading_texts : NoCollision (log_texts reading)
+pub reading_texts : NoCollision (texts_of reading)
 reading_texts s t (inl a) (inl b) e = a ∙ sym b
 reading_texts s t (inl a) (inr (inl b)) e = absurd (two_digests (ap sha256 (sym a) ∙ e ∙ ap sha256 b))
 reading_texts s t (inl a) (inr (inr j)) e = absurd j
@@ -53,23 +55,32 @@ reading_texts s t (inr (inl a)) (inr (inl b)) e = a ∙ sym b
 reading_texts s t (inr (inl a)) (inr (inr j)) e = absurd j
 reading_texts s t (inr (inr i)) j e = absurd i
 
-reading_log : IsLog reading
-reading_log = record {
+reading_numbers : (v : LogVersion) → HasNumbers v reading
+reading_numbers One = ((refl, tt), omega arith)
+reading_numbers Two = omega arith
+
+reading_log : (v : LogVersion) → IsLogOf v reading
+reading_log v = record {
   each = ((omega arith, refl, (omega arith, omega arith)), tt);
   bytes = (tt, tt);
-  few = omega arith;
+  numbers = reading_numbers v;
 }
+
+first_number : (v : LogVersion) (w : ℕ) → w ≡ 1 → number_in v w ≡ 1
+first_number One w h = h
+first_number Two w h = omega (arith, h)
 
 -- a client's segment of one clock reading proves nothing, whatever signature closes it
 pub reading_proves_nothing : (ms : List Member) (member : Member) (node : ℕ) (closing : Authenticator)
-    → member_of ms node ≡ Some member → member.kind ≡ Client → closing.number ≡ 1
-    → closing.hash ≡ log_hash reading
+    → member_of ms node ≡ Some member → member.kind ≡ Client → closing.word ≡ 1
+    → closing.hash ≡ log_hash (Clock 1 0 ∷ [])
     → ¬ Proves ms (record { node = node; charge = Replay (one_reading node closing) })
 reading_proves_nothing ms member node closing there kind number hash =
     let opening : opening_client member.node ≡ opening_of member =
     sym (ap (λ k. opening_by k member.node) kind) in
     own_texts ms member (record { node = node; charge = Replay (one_reading node closing) }) reading
     (read_once member.node)
-    there reading_log (subst (λ o. IsHonestLog ms o reading (read_once member.node)) opening
-    (reading_honest ms member.node))
-    ((λ of signed. inr (inl (ap₂ (λ n h. (n, h)) number hash))), tt) (λ t i. i) reading_texts
+    there (reading_log member.log_version)
+    (subst (λ o. IsHonestWithGaps ms o reading (read_once member.node)) opening (reading_honest ms member.node))
+    ((λ of signed. inr (inl (ap₂ (λ n h. (n, h)) (first_number member.log_version closing.word number) hash))), tt)
+    (λ t i. i) reading_texts

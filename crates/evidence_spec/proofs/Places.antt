@@ -5,7 +5,6 @@ use Rattle.std.proofs.Common.{subst, ◌∙◌, arith}
 use Rattle.std.specs.List.{AllByRecursion}
 use Rattle.replay_spec.specs.secure_log.declared.log_entries.entry.Entry.{Entry}
 use Rattle.replay_spec.specs.secure_log.LogEntries.Chain.{Link, hash_after, last_hash, pairs, links_from, IsAmong}
-use Rattle.evidence_spec.specs.Showing.{ShownLink, numbered}
 
 -- links are numbered one after the other, from `first` on
 abbrev pub AreNumbered : (first : ℕ) → List Link → Type 0
@@ -16,16 +15,6 @@ AreNumbered first (l ∷ links) = (l.number ≡ first) × AreNumbered (first + 1
 pub entries_numbered : (first : ℕ) (es : List Entry) → AreNumbered first (links_from first es)
 entries_numbered first [] = tt
 entries_numbered first (e ∷ es) = (refl, entries_numbered (first + 1) es)
-
--- the links of a showing are numbered one after the other
-pub shown_numbered : (first : ℕ) (ls : List ShownLink) → AreNumbered first (numbered first ls)
-shown_numbered first [] = tt
-shown_numbered first (l ∷ ls) = (refl, shown_numbered (first + 1) ls)
-
--- numbering keeps how many there are
-pub length-numbered : (first : ℕ) (ls : List ShownLink) → length (numbered first ls) ≡ length ls
-length-numbered first [] = refl
-length-numbered first (l ∷ ls) = ap suc (length-numbered (first + 1) ls)
 
 -- there is a link for each entry
 pub length-links : (first : ℕ) (es : List Entry) → length (links_from first es) ≡ length es

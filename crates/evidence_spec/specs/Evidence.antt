@@ -1,9 +1,10 @@
 -- Evidence against a node: that it keeps two logs, or that its log isn't honest; and what is accepted.
-use Rattle.std.specs.Prelude.{◌≡◌, ◌≢◌, ℕ, Bool, true, false, ◌==◌, ◌||◌, if◌then◌else◌, IsTrue, List}
+use Rattle.std.specs.Prelude.{◌≡◌, ◌≢◌, ℕ, Bool, true, false, ◌==◌, ◌&&◌, nat_lt, if◌then◌else◌, IsTrue, List}
 use Rattle.std.specs.Prelude.{Option, Some, None, option_map}
 use Rattle.xdr.specs.Item.{Item, Value, word, pair, choice, optional}
 use Rattle.xdr.specs.Texts.Text.{Text}
-use Rattle.replay_spec.specs.authenticator.declared.member.LogVersion.TheVariants.{One}
+use Rattle.replay_spec.specs.authenticator.declared.member.LogVersion.{LogVersion}
+use Rattle.replay_spec.specs.authenticator.declared.member.LogVersion.TheVariants.{One, Two}
 use Rattle.replay_spec.specs.authenticator.declared.member.Member.{Member}
 use Rattle.replay_spec.specs.authenticator.Roster.{keeps_version, member_of}
 use Rattle.replay_spec.specs.authenticator.Numbers.{number_item}
@@ -15,14 +16,16 @@ use Rattle.replay_spec.specs.Replay.{Fault, verdict_of}
 use Rattle.replay_spec.specs.Opening.{opening_of}
 use Rattle.evidence_spec.specs.declared.limits.TheConstants as limits
 use Rattle.evidence_spec.specs.Showing.{ShowingParts, IsClosedShowing, Shows, showing_item, showing_value}
+use Rattle.evidence_spec.specs.Showing.{links_follow}
 
 -- the entries that a replay of a node's log may take up: those that are audited
 abbrev pub MAX_AUDITED : ℕ
 MAX_AUDITED = limits.MAX_AUDITED
 
--- A fork: at a number two hashes are shown, by one showing each. With one showing alone, it shows another
--- hash than 32 zero bytes before the first entry.
+-- A fork of a log of a version: at a number two marks are shown, by one showing each. With one showing alone, it
+-- shows another hash than 32 zero bytes before the first entry.
 pub record ForkParts : Type 0 where
+  pub log_version : LogVersion
   pub at : ℕ
   pub a : ShowingParts
   pub b : Option ShowingParts
@@ -33,6 +36,11 @@ pub data Charge : Type 0 where
   -- a segment from the first entry on, in which a replay finds a fault
   Replay : SegmentParts → Charge
 
+-- the version of the log that is shown; a segment's is 1
+abbrev pub charge_version : Charge → LogVersion
+charge_version (Fork f) = f.log_version
+charge_version (Replay s) = One
+
 -- what a node is charged with
 pub record EvidenceParts : Type 0 where
   pub node : ℕ
@@ -41,56 +49,73 @@ pub record EvidenceParts : Type 0 where
 -- ---- texts (RFC 4506)
 
 -- a fork in a text: the number, a showing, and another one if there is one
-abbrev pub fork_item : Item
-fork_item = pair number_item (pair showing_item (optional showing_item))
+abbrev pub fork_item : LogVersion → Item
+fork_item v = pair number_item (pair (showing_item v) (optional (showing_item v)))
 
 -- a fork, as its text's value
-abbrev pub fork_value : ForkParts → Value fork_item
-fork_value f = (f.at, (showing_value f.a, option_map showing_value f.b))
+abbrev pub fork_value : (v : LogVersion) → ForkParts → Value (fork_item v)
+fork_value v f = (f.at, (showing_value v f.a, option_map (showing_value v) f.b))
 
--- the charges' numbers: a fork 1, a replay 2
+-- the charges' numbers: a fork of a log of version 1 is 1, a replay 2, a fork of a log of version 2 is 3
 abbrev pub is_charge : ℕ → Bool
-is_charge n = (n == 1) || (n == 2)
+is_charge n = nat_lt 0 n && nat_lt n 4
 
 -- what stands after a charge's number: a fork, or a segment of at most MAX_AUDITED entries
 abbrev pub charge_item : ℕ → Item
-charge_item n = if n == 1 then fork_item else bounded_item MAX_AUDITED
+charge_item n =
+    if n == 1 then fork_item One
+    else if n == 2 then bounded_item MAX_AUDITED
+    else fork_item Two
 
 -- evidence in a text: the node, and the charge
 abbrev pub evidence_item : Item
 evidence_item = pair word (choice is_charge charge_item)
 
+-- a fork, after the number of its charge
+abbrev pub fork_charge : LogVersion → ForkParts → Value (choice is_charge charge_item)
+fork_charge One f = (1, fork_value One f)
+fork_charge Two f = (3, fork_value Two f)
+
 -- a charge, as its text's value
 abbrev pub charge_value : Charge → Value (choice is_charge charge_item)
-charge_value (Fork f) = (1, fork_value f)
+charge_value (Fork f) = fork_charge f.log_version f
 charge_value (Replay s) = (2, segment_value s)
 
 -- evidence, as its text's value
 abbrev pub evidence_value : EvidenceParts → Value evidence_item
 evidence_value e = (e.node, charge_value e.charge)
 
--- what stands after a charge's number is a fork, or a segment that is whole, as each segment's text asks
-abbrev pub is_whole_after : (is_fork : Bool)
-    → Value (if is_fork then fork_item else bounded_item MAX_AUDITED) → Bool
-is_whole_after true v = true
-is_whole_after false v = is_whole v
+-- the words of a second showing follow, if there is one
+abbrev pub second_follows : Option (Value (showing_item Two)) → Bool
+second_follows None = true
+second_follows (Some x) = links_follow Two x
+
+-- what stands after a charge's number is a fork of a log of version 1; or a segment that is whole, as each
+-- segment's text asks; or a fork of a log of version 2, whose showings' words follow
+abbrev pub is_whole_after : (is_fork is_replay : Bool)
+    → Value (if is_fork then fork_item One else if is_replay then bounded_item MAX_AUDITED else fork_item Two)
+    → Bool
+is_whole_after true is_replay x = true
+is_whole_after false true x = is_whole x
+is_whole_after false false x = links_follow Two x.1.0 && second_follows x.1.1
 
 -- so of a charge
 abbrev pub is_whole_charge : Value (choice is_charge charge_item) → Bool
-is_whole_charge v = is_whole_after (v.0 == 1) v.1
+is_whole_charge x = is_whole_after (x.0 == 1) (x.0 == 2) x.1
 
--- its text: a replay's segment is whole, and nothing may follow
+-- its text: a replay's segment is whole, words follow, and nothing may stand after it
 abbrev pub evidence_text : Text
 evidence_text = record { item = evidence_item; test = λ v. is_whole_charge v.1 }
 
 -- ---- what is accepted
 
--- Two showings of a node are closed and show two hashes at a number.
-pub record ShowsTwo (ms : List Member) (node at : ℕ) (a b : ShowingParts) : Type 0 where
+-- Two showings of a node are closed and show two marks at a number: two hashes, or a hash and that no entry has
+-- the number.
+pub record ShowsTwo (v : LogVersion) (ms : List Member) (node at : ℕ) (a b : ShowingParts) : Type 0 where
   pub a_node : a.node ≡ node
   pub b_node : b.node ≡ node
-  pub a_closed : IsClosedShowing ms a
-  pub b_closed : IsClosedShowing ms b
+  pub a_closed : IsClosedShowing v ms a
+  pub b_closed : IsClosedShowing v ms b
   pub one : List ℕ
   pub other : List ℕ
   pub one_shown : Shows a at one
@@ -98,17 +123,17 @@ pub record ShowsTwo (ms : List Member) (node at : ℕ) (a b : ShowingParts) : Ty
   pub differ : one ≢ other
 
 -- One showing of a node is closed and shows another hash than 32 zero bytes before the first entry.
-pub record ShowsNoOpening (ms : List Member) (node : ℕ) (a : ShowingParts) : Type 0 where
+pub record ShowsNoOpening (v : LogVersion) (ms : List Member) (node : ℕ) (a : ShowingParts) : Type 0 where
   pub a_node : a.node ≡ node
-  pub closed : IsClosedShowing ms a
+  pub closed : IsClosedShowing v ms a
   pub hash : List ℕ
   pub shown : Shows a 0 hash
   pub differs : hash ≢ zeros
 
--- a fork is accepted: two showings show two hashes at a number, or one alone shows a wrong opening
-abbrev pub AcceptsFork : List Member → (node at : ℕ) → ShowingParts → Option ShowingParts → Type 0
-AcceptsFork ms node at a (Some b) = ShowsTwo ms node at a b
-AcceptsFork ms node at a None = ShowsNoOpening ms node a
+-- a fork is accepted: two showings show two marks at a number, or one alone shows a wrong opening
+abbrev pub AcceptsFork : LogVersion → List Member → (node at : ℕ) → ShowingParts → Option ShowingParts → Type 0
+AcceptsFork v ms node at a (Some b) = ShowsTwo v ms node at a b
+AcceptsFork v ms node at a None = ShowsNoOpening v ms node a
 
 -- A closed segment of a node from the first entry on, in which a replay of the node's kind of machine, from
 -- the state that it begins with, finds a fault.
@@ -125,10 +150,10 @@ pub record AcceptsReplay (ms : List Member) (node : ℕ) (s : SegmentParts) : Ty
 
 -- a charge against a node is accepted under a roster
 abbrev pub AcceptsCharge : List Member → (node : ℕ) → Charge → Type 0
-AcceptsCharge ms node (Fork f) = AcceptsFork ms node f.at f.a f.b
+AcceptsCharge ms node (Fork f) = AcceptsFork f.log_version ms node f.at f.a f.b
 AcceptsCharge ms node (Replay s) = AcceptsReplay ms node s
 
--- Evidence is accepted under a roster: the log of the node that it is against, where that is a member, is of
--- version 1, as what is shown of it, and the charge is accepted.
+-- Evidence is accepted under a roster: the log of the node that it is against, where that is a member, is of the
+-- version of what is shown of it, and the charge is accepted.
 abbrev pub Accepts : List Member → EvidenceParts → Type 0
-Accepts ms e = IsTrue (keeps_version ms e.node One) × AcceptsCharge ms e.node e.charge
+Accepts ms e = IsTrue (keeps_version ms e.node (charge_version e.charge)) × AcceptsCharge ms e.node e.charge

@@ -4,12 +4,15 @@ use Rattle.std.specs.Prelude.{Option, Some, option_map, IfSome}
 use Rattle.std.specs.List.{AllByRecursion}
 use Rattle.sha2.specs.Sha256.{sha256}
 use Rattle.xdr.specs.Item.{Fits}
+use Rattle.replay_spec.specs.authenticator.declared.member.LogVersion.{LogVersion}
+use Rattle.replay_spec.specs.authenticator.declared.member.LogVersion.TheVariants.{One}
 use Rattle.replay_spec.specs.authenticator.declared.member.Member.{Member}
+use Rattle.replay_spec.specs.authenticator.Numbers.{number_in}
 use Rattle.replay_spec.specs.authenticator.declared.member.Kind.TheVariants.{Client}
 use Rattle.replay_spec.specs.authenticator.declared.authenticator.Authenticator.{Authenticator}
 use Rattle.replay_spec.specs.authenticator.Roster.{member_of}
 use Rattle.replay_spec.specs.authenticator.Signed.{IsSignedIn, authenticator_item, authenticator_value}
-use Rattle.replay_spec.specs.secure_log.LogEntries.Chain.{zeros, NoCollision, IsAmong}
+use Rattle.replay_spec.specs.secure_log.LogEntries.Chain.{zeros, Logged, NoCollision, IsAmong}
 use Rattle.replay_spec.specs.secure_log.LogEntries.Entry.{entry_item, entry_value, kind_number, content}
 use Rattle.replay_spec.specs.secure_log.declared.log_entries.entry.Entry.{Entry}
 use Rattle.replay_spec.specs.secure_log.declared.log_entries.entry.Entry.TheVariants.{Clock}
@@ -20,32 +23,39 @@ use Rattle.replay_spec.specs.state_spec.State.{State}
 use Rattle.replay_spec.specs.Placed.{placed}
 use Rattle.replay_spec.specs.Replay.{Honest, Sound, segment_verdict}
 use Rattle.replay_spec.specs.Opening.{opening_of}
-use Rattle.replay_spec.specs.HonestLogs.{IsHonestLog}
+use Rattle.replay_spec.specs.HonestLogs.{IsHonestWithGaps}
 use Rattle.evidence_spec.specs.Showing.{ShowingParts, IsClosedShowing, Shows}
-use Rattle.evidence_spec.specs.Showing.{showing_item, showing_value, showing_pairs}
+use Rattle.evidence_spec.specs.Showing.{showing_item, showing_value, showing_marks}
 use Rattle.evidence_spec.specs.Showing.{authenticator_showing, segment_showing}
 use Rattle.evidence_spec.specs.Evidence.{ForkParts, Fork, Replay, EvidenceParts}
 use Rattle.evidence_spec.specs.Evidence.{MAX_AUDITED, evidence_item, evidence_value, Accepts}
-use Rattle.evidence_spec.specs.Proving.{IsLog, log_texts, segment_texts, showing_texts, entry_texts}
-use Rattle.evidence_spec.specs.Proving.{charge_texts, closings, IsUnforged, Proves}
+use Rattle.evidence_spec.specs.Proving.{IsLog, IsLogOf, pairs_of, marks_of, log_texts, texts_of}
+use Rattle.evidence_spec.specs.Proving.{segment_texts, showing_texts, entry_texts}
+use Rattle.evidence_spec.specs.Proving.{charge_texts, closings, IsUnforgedIn, Proves}
 
--- A log has one hash at each number.
+-- A log of version 1 has one hash at each number.
 abbrev pub OneHashAtANumber : Type 0
 OneHashAtANumber =
     (log : List Entry) (number : ℕ) (one other : List ℕ)
     → IsAmong (number, one) (log_pairs log) → IsAmong (number, other) (log_pairs log) → one ≡ other
 
--- Where a showing's closing is a pair of a log, and no two texts have one digest, all that it shows are pairs
--- of the log.
+-- A log has one mark at each number: one hash, or that no entry has it.
+abbrev pub OneMarkAtANumber : Type 0
+OneMarkAtANumber =
+    (log : List Logged) (number : ℕ) (one other : List ℕ)
+    → IsAmong (number, one) (marks_of log) → IsAmong (number, other) (marks_of log) → one ≡ other
+
+-- Where a showing's closing is a pair of a log of its version, and no two texts have one digest, all marks that
+-- it shows are the log's.
 abbrev pub ShownIsOfTheLog : Type 0
 ShownIsOfTheLog =
-    (ms : List Member) (log : List Entry) (s : ShowingParts) (number : ℕ) (hash : List ℕ)
-    → IsLog log → Fits showing_item (showing_value s) → IsClosedShowing ms s
-    → IsAmong (s.closing.number, s.closing.hash) (log_pairs log)
-    → NoCollision (log_texts log ++ showing_texts s)
-    → Shows s number hash → IsAmong (number, hash) (log_pairs log)
+    (v : LogVersion) (ms : List Member) (log : List Logged) (s : ShowingParts) (number : ℕ) (mark : List ℕ)
+    → IsLogOf v log → Fits (showing_item v) (showing_value v s) → IsClosedShowing v ms s
+    → IsAmong (number_in v s.closing.word, s.closing.hash) (pairs_of log)
+    → NoCollision (texts_of log ++ showing_texts s)
+    → Shows s number mark → IsAmong (number, mark) (marks_of log)
 
--- The same of a segment, whose entries are then those of the log at its places.
+-- The same of a segment of a log of version 1, whose entries are then those of the log at its places.
 pub record IsPartOf (log : List Entry) (s : SegmentParts) : Type 0 where
   pub before : List Entry
   pub rest : List Entry
@@ -56,7 +66,7 @@ abbrev pub SegmentIsOfTheLog : Type 0
 SegmentIsOfTheLog =
     (ms : List Member) (log : List Entry) (s : SegmentParts)
     → IsLog log → FitsWithin MAX_AUDITED s → 1 ≤ s.first → IsClosed ms s
-    → IsAmong (s.closing.number, s.closing.hash) (log_pairs log)
+    → IsAmong (s.closing.word, s.closing.hash) (log_pairs log)
     → NoCollision (log_texts log ++ segment_texts s)
     → IsPartOf log s × ((number : ℕ) (hash : List ℕ)
     → IsAmong (number, hash) (segment_pairs s) → IsAmong (number, hash) (log_pairs log))
@@ -76,7 +86,7 @@ pub record Reached (ms : List Member) (log : List Entry) (number : ℕ) (state :
 pub record IsNextIn (log : List Entry) (number : ℕ) (s : SegmentParts) : Type 0 where
   pub first : s.first ≡ number + 1
   -- it has an entry at each number up to its closing one
-  pub last : s.closing.number + 1 ≡ s.first + length s.entries
+  pub last : s.closing.word + 1 ≡ s.first + length s.entries
   pub part : IsPartOf log s
   pub opening : IsAmong (number, s.opening) (log_pairs log)
 
@@ -86,7 +96,7 @@ pub record IsSoundIn (ms : List Member) (log : List Entry) (state : State) (s : 
   -- what it shows of other nodes
   pub found : List Authenticator
   pub sound : segment_verdict ms state s ≡ Sound after found
-  pub reached : Reached ms log s.closing.number after
+  pub reached : Reached ms log s.closing.word after
 
 -- A segment of a log, right after a number at which the log has reached a state, replays sound from that state,
 -- and the log has reached the state after it at the segment's closing number. No digest is spoken of: that the
@@ -116,23 +126,25 @@ AcceptedEvidenceProves =
 
 -- ---- what is shown of authenticators and segments
 
--- A showing is closed, has a text, and shows these pairs.
-pub record ShowsPairs (ms : List Member) (s : ShowingParts) (pairs : List (ℕ × List ℕ)) : Type 0 where
-  pub closed : IsClosedShowing ms s
-  pub text : Fits showing_item (showing_value s)
-  pub is : showing_pairs s ≡ pairs
+-- A showing of a log of a version is closed, has a text, and shows these marks.
+pub record ShowsMarks (v : LogVersion) (ms : List Member) (s : ShowingParts) (marks : List (ℕ × List ℕ))
+    : Type 0 where
+  pub closed : IsClosedShowing v ms s
+  pub text : Fits (showing_item v) (showing_value v s)
+  pub is : showing_marks s ≡ marks
 
--- A signed authenticator alone shows its own pair.
+-- A signed authenticator alone shows its own pair, whatever its word skips.
 abbrev pub AuthenticatorsShowOnePair : Type 0
 AuthenticatorsShowOnePair =
-    (ms : List Member) (a : Authenticator) → Fits authenticator_item (authenticator_value a) → IsSignedIn ms a
-    → ShowsPairs ms (authenticator_showing a) ((a.number, a.hash) ∷ [])
+    (v : LogVersion) (ms : List Member) (a : Authenticator)
+    → Fits authenticator_item (authenticator_value a) → IsSignedIn ms a
+    → ShowsMarks v ms (authenticator_showing v a) ((number_in v a.word, a.hash) ∷ [])
 
 -- A closed segment's links show its pairs.
 abbrev pub SegmentsShowTheirPairs : Type 0
 SegmentsShowTheirPairs =
     (ms : List Member) (s : SegmentParts) → FitsWithin MAX_ENTRIES s → 0 < s.first → IsClosed ms s
-    → ShowsPairs ms (segment_showing s) (segment_pairs s)
+    → ShowsMarks One ms (segment_showing s) (segment_pairs s)
 
 -- ---- what proves nothing
 
@@ -140,21 +152,27 @@ SegmentsShowTheirPairs =
 -- where no two of the log's texts have one digest.
 abbrev pub OwnTextsProveNothing : Type 0
 OwnTextsProveNothing =
-    (ms : List Member) (member : Member) (e : EvidenceParts) (log : List Entry) (s : State)
-    → member_of ms e.node ≡ Some member → IsLog log → IsHonestLog ms (opening_of member) log s
-    → AllByRecursion (IsUnforged ms member.node log) (closings e.charge)
-    → ((t : List ℕ) → IsAmong t (charge_texts e.charge) → IsAmong t (log_texts log))
-    → NoCollision (log_texts log)
+    (ms : List Member) (member : Member) (e : EvidenceParts) (log : List Logged) (s : State)
+    → member_of ms e.node ≡ Some member → IsLogOf member.log_version log
+    → IsHonestWithGaps ms (opening_of member) log s
+    → AllByRecursion (IsUnforgedIn member.log_version ms member.node log) (closings e.charge)
+    → ((t : List ℕ) → IsAmong t (charge_texts e.charge) → IsAmong t (texts_of log))
+    → NoCollision (texts_of log)
     → ¬ Proves ms e
 
 -- Authenticators that aren't signed prove nothing, whatever they show: the log without entries stands against
 -- them.
 abbrev pub UnsignedProveNothing : Type 0
 UnsignedProveNothing =
-    (ms : List Member) (member : Member) (node at : ℕ) (a : Authenticator) (b : Option Authenticator)
+    (v : LogVersion) (ms : List Member) (member : Member) (node at : ℕ) (a : Authenticator)
+    (b : Option Authenticator)
     → member_of ms node ≡ Some member → ¬ IsSignedIn ms a → IfSome b (λ c. ¬ IsSignedIn ms c)
-    → let fork : ForkParts =
-    record { at = at; a = authenticator_showing a; b = option_map authenticator_showing b } in
+    → let fork : ForkParts = record {
+      log_version = v;
+      at = at;
+      a = authenticator_showing v a;
+      b = option_map (authenticator_showing v) b;
+    } in
     ¬ Proves ms (record { node = node; charge = Fork fork })
 
 -- A segment of one clock reading, which is all of a client's log, proves nothing: that log stands against it.
@@ -166,5 +184,5 @@ abbrev pub OneReadingProvesNothing : Type 0
 OneReadingProvesNothing =
     (ms : List Member) (member : Member) (node : ℕ) (closing : Authenticator)
     → member_of ms node ≡ Some member → member.kind ≡ Client
-    → closing.number ≡ 1 → closing.hash ≡ log_hash (Clock 1 0 ∷ [])
+    → closing.word ≡ 1 → closing.hash ≡ log_hash (Clock 1 0 ∷ [])
     → ¬ Proves ms (record { node = node; charge = Replay (one_reading node closing) })

@@ -1,21 +1,21 @@
 //! What holds of evidence.
 
-ghost use Rattle.evidence_spec.specs.Laws.{OneHashAtANumber, ShownIsOfTheLog, SegmentIsOfTheLog};
+ghost use Rattle.evidence_spec.specs.Laws.{OneHashAtANumber, OneMarkAtANumber, ShownIsOfTheLog};
+ghost use Rattle.evidence_spec.specs.Laws.{SegmentIsOfTheLog};
 ghost use Rattle.evidence_spec.specs.Laws.{SegmentsGoOnSound};
 ghost use Rattle.evidence_spec.specs.Laws.{ContentsGiveEntriesBack, AcceptedEvidenceProves};
 ghost use Rattle.evidence_spec.specs.Laws.{AuthenticatorsShowOnePair, SegmentsShowTheirPairs};
 ghost use Rattle.evidence_spec.specs.Laws.{OwnTextsProveNothing, UnsignedProveNothing};
 ghost use Rattle.evidence_spec.specs.Laws.{OneReadingProvesNothing};
 
-use replay_spec::laws::logs_grow;
-
-/// A log has one hash at each number.
+/// A log has one hash at each number, and one whose numbers have gaps one mark: a hash, or that no entry has it.
 pub fn one_hash_at_a_number()
-    ensures { OneHashAtANumber }
+    ensures hash { OneHashAtANumber }
+    ensures mark { OneMarkAtANumber }
 {}
 
 /// Where the closing of a showing, or of a segment, is a pair of a log and no two texts have one digest, all
-/// that it shows are pairs of the log; and the segment's entries are the log's.
+/// that it shows are marks, or pairs, of the log; and the segment's entries are the log's.
 pub fn what_is_shown_is_of_the_log()
     ensures showing { ShownIsOfTheLog }
     ensures segment { SegmentIsOfTheLog }
@@ -53,6 +53,4 @@ pub fn what_proves_nothing()
     ensures own { OwnTextsProveNothing }
     ensures unsigned { UnsignedProveNothing }
     ensures reading { OneReadingProvesNothing }
-{
-    logs_grow();
-}
+{}

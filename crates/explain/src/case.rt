@@ -11,8 +11,8 @@ use crate::lack::lack_of;
 use crate::log::{add_fault, add_premises};
 use crate::roster::{accused_fact, add_digest, add_roster};
 use crate::state::{add_no_state, add_state};
-use challenge::{AuditedLog, Case, Charge, Evidence, Finding, Fork, ReplayFault};
-use secure_log::Roster;
+use challenge::{AuditedLog, Case, Charge, Evidence, Finding, Fork, Mark, ReplayFault};
+use secure_log::{LogVersion, Roster};
 use std::alloc::Global;
 
 /// What is told of a log beside what its finding rests on.
@@ -97,7 +97,7 @@ fn add_log(facts: &mut Facts, roster: &Roster, log: &AuditedLog) {
     facts.hex("hash before it", &log.opening());
     facts.number("count", log.entries().len() as u64);
     add_contents(facts, log);
-    add_closing(facts, roster, log.closing());
+    add_closing(facts, roster, LogVersion::One, log.closing());
     facts.end();
 }
 
@@ -152,9 +152,9 @@ fn add_reason(facts: &mut Facts, reason: &str) {
 /// Adds what is found in evidence.
 fn add_finding(facts: &mut Facts, roster: &Roster, evidence: &Evidence, finding: Finding) {
     match finding {
-        Finding::TwoHashes { at, one, other } => {
+        Finding::TwoMarks { at, one, other } => {
             if let Charge::Fork(fork) = evidence.charge() {
-                add_two_hashes(facts, fork, at.get(), &one, &other);
+                add_two_marks(facts, fork, at.get(), one, other);
             }
         }
         Finding::Fault(fault, number) => {
@@ -181,26 +181,49 @@ fn add_found_fault(
     );
 }
 
-/// Adds two hashes at one number; of one showing alone the hash that a log begins after, and its own.
-fn add_two_hashes(facts: &mut Facts, fork: &Fork, at: u64, one: &[u8; 32], other: &[u8; 32]) {
+/// Adds two marks at one number; of one showing alone the hash that a log begins after, and its own.
+fn add_two_marks(facts: &mut Facts, fork: &Fork, at: u64, one: Mark, other: Mark) {
     if fork.b.is_some() {
-        facts.group("two hashes");
+        facts.group(marks_name(fork.log_version));
         facts.place("number", at);
-        facts.hex("first showing", one);
-        facts.hex("second showing", other);
+        add_mark(facts, "first showing", one);
+        add_mark(facts, "second showing", other);
         facts.end();
-        add_premises(
-            facts,
-            "the rules of docs/CHECKING.md: a log has one hash at each number",
-        );
+        add_premises(facts, one_mark_rule(fork.log_version));
     } else {
         facts.group("hash before entry 1");
-        facts.hex("owed", other);
-        facts.hex("given", one);
+        add_mark(facts, "owed", other);
+        add_mark(facts, "given", one);
         facts.end();
         add_premises(
             facts,
             "the rules of docs/CHECKING.md: a log begins after 32 zero bytes",
         );
+    }
+}
+
+/// What two marks are called: in a log of version 1 each is a hash.
+fn marks_name(version: LogVersion) -> &'static str {
+    match version {
+        LogVersion::One => "two hashes",
+        LogVersion::Two => "two marks",
+    }
+}
+
+/// Why a log doesn't show two marks at one number.
+fn one_mark_rule(version: LogVersion) -> &'static str {
+    match version {
+        LogVersion::One => "the rules of docs/CHECKING.md: a log has one hash at each number",
+        LogVersion::Two => {
+            "the rules of docs/CHECKING.md: a log has one entry at each number, or none"
+        }
+    }
+}
+
+/// Adds what is shown at a number.
+fn add_mark(facts: &mut Facts, name: &'static str, mark: Mark) {
+    match mark {
+        Mark::Hash(hash) => facts.hex(name, &hash),
+        Mark::NoEntry => facts.words(name, "no entry"),
     }
 }

@@ -9,7 +9,7 @@ use crate::roster::node_fact;
 use challenge::{Outcome, ReplayFault, opening_state, replay_outcome};
 use checkpoint::{Machine, SentMessage, Stage, State, state_digest};
 use secure_log::log_entries::{Entry, Receipt, receipt_hash};
-use secure_log::{Number, Roster};
+use secure_log::{Number, Roster, Word};
 use std::alloc::{AllocError, Global};
 
 /// Adds what was owed at a faulty entry, and what was given.
@@ -181,7 +181,7 @@ fn add_receipt(facts: &mut Facts, log: &Log<'_>, sent: &SentMessage, entry: &Ent
 }
 
 /// Adds the hash after a RECV in its receiver's log, and what it is made of.
-fn add_receipt_hash(facts: &mut Facts, from: u32, seq: Number, number: Number, hash: &[u8; 32]) {
+fn add_receipt_hash(facts: &mut Facts, from: u32, seq: Word, number: Word, hash: &[u8; 32]) {
     facts.hex("hash there", hash);
     let mut draft = facts.draft();
     draft.words("SHA-256(hash before it there | ");

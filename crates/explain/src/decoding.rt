@@ -13,8 +13,22 @@ const HEIGHT: u32 = 16;
 /// The most entries of a log.
 const ENTRIES: u32 = 65536;
 
-/// The greatest number of a place: any but the greatest of 64 bits.
+/// The greatest number of a place, or word of an entry: any but the greatest of 64 bits.
 const PLACE: u64 = u64::MAX - 1;
+
+/// The most numbers that are skipped just before an entry.
+const SKIPPED: u64 = 64;
+
+/// The number of an entry whose word follows on the number before it, if it does: the low half of the word, and
+/// the high half is how many numbers are skipped between the two.
+fn following(before: u64, word: u64) -> Option<u64> {
+    let skipped = word >> 32;
+    let number = before.checked_add(1)?.checked_add(skipped)?;
+    if skipped > SKIPPED || word & 0xffff_ffff != number {
+        return None;
+    }
+    Some(number)
+}
 
 /// Where the first item begins that doesn't decode, by the rules of docs/CHECKING.md, if there is one. Bytes
 /// after the evidence are such an item. It takes no memory.
@@ -52,12 +66,31 @@ impl<'a> Passing<'a> {
         }
     }
 
-    /// Passes a number of 64 bits from one to another.
-    fn number(&mut self, first: u64, last: u64) {
+    /// Passes a number of 64 bits from one to another, and answers it; 0 where it stops.
+    fn number(&mut self, first: u64, last: u64) -> u64 {
         let start = self.reader.rest();
         match self.reader.u64() {
-            Ok(number) if !self.has_stopped && number >= first && number <= last => {}
-            _ => self.stop(start),
+            Ok(number) if !self.has_stopped && number >= first && number <= last => number,
+            _ => {
+                self.stop(start);
+                0
+            }
+        }
+    }
+
+    /// Passes the word of an entry after a number, and answers the entry's own; 0 where it stops.
+    fn entry_word(&mut self, before: u64) -> u64 {
+        let start = self.reader.rest();
+        let number = match self.reader.u64() {
+            Ok(word) if !self.has_stopped => following(before, word),
+            _ => None,
+        };
+        match number {
+            Some(number) => number,
+            None => {
+                self.stop(start);
+                0
+            }
         }
     }
 
@@ -80,9 +113,10 @@ impl<'a> Passing<'a> {
     fn case(&mut self) {
         self.roster();
         self.word(0, u32::MAX);
-        match self.word(1, 2) {
+        match self.word(1, 3) {
             1 => self.fork(),
             2 => self.log(),
+            3 => self.fork_with_gaps(),
             _ => {}
         }
     }
@@ -169,6 +203,28 @@ impl<'a> Passing<'a> {
         self.number(0, u64::MAX);
         self.fixed::<32>();
         for _ in 0..self.word(0, MAX_ENTRIES) {
+            self.word(1, 5);
+            self.fixed::<32>();
+        }
+        self.authenticator();
+    }
+
+    /// Passes a fork of a log of version 2.
+    fn fork_with_gaps(&mut self) {
+        self.number(0, PLACE);
+        self.showing_with_gaps();
+        if self.word(0, 1) == 1 {
+            self.showing_with_gaps();
+        }
+    }
+
+    /// Passes a showing of a log of version 2: the number before it, and each link after its word.
+    fn showing_with_gaps(&mut self) {
+        self.word(0, u32::MAX);
+        let mut before = self.number(0, PLACE);
+        self.fixed::<32>();
+        for _ in 0..self.word(0, MAX_ENTRIES) {
+            before = self.entry_word(before);
             self.word(1, 5);
             self.fixed::<32>();
         }

@@ -6,7 +6,7 @@ use crate::reply::add_reply;
 use crate::roster::{add_number_there, node_fact};
 use authenticator::{Signature, signed_digest};
 use secure_log::log_entries::{Body, Entry, SignatureText, entry_hash, message_hash};
-use secure_log::{Kind, Member, Number, Roster, is_signed};
+use secure_log::{Kind, LogVersion, Member, Number, Roster, Word, is_signed};
 
 /// The log that entries are of.
 #[derive(Clone, Copy)]
@@ -135,7 +135,7 @@ fn add_acknowledgement(facts: &mut Facts, log: &Log<'_>, entry: &Entry) {
         return;
     };
     node_fact(facts, "of message to", log.roster, *to);
-    facts.place("its number", seq.get());
+    facts.place("its number", seq.number(LogVersion::One).get());
     facts.hex("digest of its signature", mine);
     add_place_there(facts, log.roster, *to, *number, prev);
     facts.number("leaf", u64::from(signature.signature().leaf()));
@@ -143,13 +143,13 @@ fn add_acknowledgement(facts: &mut Facts, log: &Log<'_>, entry: &Entry) {
 }
 
 /// Adds where an entry of another node's log stands.
-fn add_place_there(facts: &mut Facts, roster: &Roster, node: u32, number: Number, prev: &[u8; 32]) {
-    add_number_there(facts, roster, node, number.get());
+fn add_place_there(facts: &mut Facts, roster: &Roster, node: u32, word: Word, prev: &[u8; 32]) {
+    add_number_there(facts, roster, node, word.get());
     facts.hex("hash before it there", prev);
 }
 
 /// Adds the hash after a SEND in its sender's log, and what it is made of.
-fn add_message_hash(facts: &mut Facts, to: u32, seq: Number, body: &str, hash: &[u8; 32]) {
+fn add_message_hash(facts: &mut Facts, to: u32, seq: Word, body: &str, hash: &[u8; 32]) {
     facts.hex("hash there", hash);
     let mut draft = facts.draft();
     draft.words("SHA-256(hash before it there | ");
@@ -162,35 +162,35 @@ fn add_message_hash(facts: &mut Facts, to: u32, seq: Number, body: &str, hash: &
     facts.text("hash there is", draft);
 }
 
-/// Adds by which leaf a node signed a hash at a number, what was signed, and whether that verifies.
+/// Adds by which leaf a node signed a hash at an entry's word, what was signed, and whether that verifies.
 fn add_signature(
     facts: &mut Facts,
     roster: &Roster,
     node: u32,
-    number: Number,
+    word: Word,
     hash: &[u8; 32],
     signature: &SignatureText,
 ) {
-    add_signed_digest(facts, node, number, hash, "hash there");
+    add_signed_digest(facts, node, word, hash, "hash there");
     facts.number("leaf", u64::from(signature.signature().leaf()));
     facts.hex("signature's sha256", &signature.digest());
-    add_verdict(facts, roster, node, number, hash, signature.signature());
+    add_verdict(facts, roster, node, word, hash, signature.signature());
 }
 
 /// Adds the digest that a signature is of, and what it is made of.
 pub(crate) fn add_signed_digest(
     facts: &mut Facts,
     node: u32,
-    number: Number,
+    word: Word,
     hash: &[u8; 32],
     name: &str,
 ) {
-    facts.hex("signed digest", &signed_digest(node, number, hash));
+    facts.hex("signed digest", &signed_digest(node, word, hash));
     let mut draft = facts.draft();
     draft.words("SHA-256(");
     draft.hex(&node.to_be_bytes());
     draft.words(" | ");
-    draft.hex(&number.get().to_be_bytes());
+    draft.hex(&word.get().to_be_bytes());
     draft.words(" | ");
     draft.words(name);
     draft.words(")");
@@ -202,12 +202,12 @@ pub(crate) fn add_verdict(
     facts: &mut Facts,
     roster: &Roster,
     node: u32,
-    number: Number,
+    word: Word,
     hash: &[u8; 32],
     signature: &Signature,
 ) {
     let verifies = match roster.member(node) {
-        Some(member) => is_signed(&member, node, number, hash, signature),
+        Some(member) => is_signed(&member, node, word, hash, signature),
         None => false,
     };
     facts.words("verifies", if verifies { "yes" } else { "no" });

@@ -4,7 +4,7 @@ use crate::entry::{add_number, add_signed_digest, add_verdict, kind_name};
 use crate::facts::Facts;
 use crate::roster::node_fact;
 use challenge::{Fork, Showing, ShownLink};
-use secure_log::{Authenticator, Roster};
+use secure_log::{Authenticator, LogVersion, Roster, Word};
 
 /// What a fork charges a node with: by one showing alone it is another one.
 pub(crate) fn fork_words(fork: &Fork) -> &'static str {
@@ -24,38 +24,39 @@ pub(crate) fn add_showings(facts: &mut Facts, roster: &Roster, fork: &Fork) {
         "not in the file: of the entries between it has the kinds and the digests of the contents alone",
     );
     facts.list("showings");
-    add_showing(facts, roster, &fork.a);
+    add_showing(facts, roster, fork.log_version, &fork.a);
     if let Some(b) = &fork.b {
-        add_showing(facts, roster, b);
+        add_showing(facts, roster, fork.log_version, b);
     }
     facts.end();
 }
 
-fn add_showing(facts: &mut Facts, roster: &Roster, showing: &Showing) {
+fn add_showing(facts: &mut Facts, roster: &Roster, version: LogVersion, showing: &Showing) {
     facts.item();
     facts.number("node", u64::from(showing.node()));
     facts.place("first", showing.first());
     facts.hex("hash before it", showing.opening());
     add_links(facts, showing);
-    add_closing(facts, roster, showing.closing());
+    add_closing(facts, roster, version, showing.closing());
     facts.end();
 }
 
 /// Adds a showing's links, by their numbers.
 fn add_links(facts: &mut Facts, showing: &Showing) {
     facts.list("links");
-    let mut number = Some(showing.first());
+    let mut next = Some(showing.first());
     for link in showing.links() {
+        let number = number_after(next, u64::from(link.skipped()));
         add_link(facts, number, link);
-        number = next_number(number);
+        next = number_after(number, 1);
     }
     facts.end();
 }
 
-/// The number after another, if it has 64 bits.
-fn next_number(number: Option<u64>) -> Option<u64> {
+/// The number so many after another, if it has 64 bits.
+fn number_after(number: Option<u64>, count: u64) -> Option<u64> {
     match number {
-        Some(number) => number.checked_add(1),
+        Some(number) => number.checked_add(count),
         None => None,
     }
 }
@@ -63,26 +64,45 @@ fn next_number(number: Option<u64>) -> Option<u64> {
 fn add_link(facts: &mut Facts, number: Option<u64>, link: &ShownLink) {
     facts.item();
     add_number(facts, number);
+    add_skipped(facts, link.skipped());
     facts.words("kind", kind_name(link.kind().number()));
     facts.hex("digest of its content", link.content());
     facts.end();
 }
 
-/// Adds what closes a log or a part of one: what it says, who is to have signed it, and whether that
-/// verifies by the node's key.
-pub(crate) fn add_closing(facts: &mut Facts, roster: &Roster, closing: &Authenticator) {
+/// Adds how many numbers are skipped just before an entry, if any are.
+fn add_skipped(facts: &mut Facts, skipped: u32) {
+    if skipped != 0 {
+        facts.number("skipped", u64::from(skipped));
+    }
+}
+
+/// Adds the number in the word of an entry of a log of this version, and how many numbers it skips.
+fn add_word(facts: &mut Facts, version: LogVersion, word: Word) {
+    facts.place("number", word.number(version).get());
+    add_skipped(facts, word.skipped(version));
+}
+
+/// Adds what closes a log of this version or a part of one: what it says, who is to have signed it, and whether
+/// that verifies by the node's key.
+pub(crate) fn add_closing(
+    facts: &mut Facts,
+    roster: &Roster,
+    version: LogVersion,
+    closing: &Authenticator,
+) {
     facts.group("closing");
     facts.number("node", u64::from(closing.node));
-    facts.place("number", closing.number.get());
+    add_word(facts, version, closing.word);
     facts.hex("hash", &closing.hash);
-    add_signed_digest(facts, closing.node, closing.number, &closing.hash, "hash");
+    add_signed_digest(facts, closing.node, closing.word, &closing.hash, "hash");
     facts.number("leaf", u64::from(closing.signature.leaf()));
     node_fact(facts, "key of", roster, closing.node);
     add_verdict(
         facts,
         roster,
         closing.node,
-        closing.number,
+        closing.word,
         &closing.hash,
         &closing.signature,
     );

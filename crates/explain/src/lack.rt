@@ -1,12 +1,14 @@
 //! What evidence lacks that isn't accepted.
 
-ghost use Rattle.std.specs.Prelude.{◌≡◌, ◌↔◌, IsTrue};
+ghost use Rattle.std.specs.Prelude.{◌≡◌, ◌↔◌, IsTrue, List};
+ghost use Rattle.authenticator.specs.declared.member.Member.{Member};
+ghost use Rattle.challenge.specs.declared.finding.NotAccepted.TheVariants.{NoTwoMarks};
 ghost use Rattle.explain.specs.Lacks.{BeginsAtZero, HasNoKey, IsLack, IsZeroFork, lacking};
 
 use challenge::{Charge, Evidence, Fork, NotAccepted};
-use secure_log::Roster;
+use secure_log::{LogVersion, Roster};
 
-/// What evidence lacks first: as `NotAccepted`, and more of two of these.
+/// What evidence lacks first: as `NotAccepted`, and more of three of these.
 #[derive(Clone, Copy, Debug, PartialEq, Eq)]
 pub enum Lack {
     /// A showing or the log is of another node than the evidence.
@@ -23,8 +25,10 @@ pub enum Lack {
     NoKey,
     /// A closing's signature doesn't verify by the node's key.
     NotSigned,
-    /// No two hashes are shown at the number.
+    /// No two hashes are shown at the number, of a log of version 1.
     NoTwoHashes,
+    /// No two marks are shown at the number, of a log of version 2.
+    NoTwoMarks,
     /// A replay finds no fault.
     NoFault,
 }
@@ -42,6 +46,7 @@ impl Lack {
             Lack::NoKey => "the roster has no key of the node, so nobody can tell who signed",
             Lack::NotSigned => "what closes it does not verify by the node's key",
             Lack::NoTwoHashes => "no two hashes are shown at the number",
+            Lack::NoTwoMarks => "no two marks are shown at the number",
             Lack::NoFault => "the log has no fault",
         }
     }
@@ -60,8 +65,19 @@ pub fn lack_of(roster: &Roster, evidence: &Evidence, why: NotAccepted) -> Lack
         NotAccepted::NotClosed => Lack::NotClosed,
         NotAccepted::NotSigned if has_no_key(roster, evidence) => Lack::NoKey,
         NotAccepted::NotSigned => Lack::NotSigned,
-        NotAccepted::NoTwoHashes => Lack::NoTwoHashes,
+        NotAccepted::NoTwoMarks => no_two(evidence),
         NotAccepted::NoFault => Lack::NoFault,
+    }
+}
+
+/// What a fork lacks that shows no two marks: in a log of version 1 each mark is a hash.
+fn no_two(evidence: &Evidence) -> Lack
+    ensures same { lacking result ≡ NoTwoMarks }
+    ensures more { (ms : List Member) → IsLack ms evidence.now result }
+{
+    match evidence.charge() {
+        Charge::Fork(fork) if fork.log_version == LogVersion::Two => Lack::NoTwoMarks,
+        _ => Lack::NoTwoHashes,
     }
 }
 
@@ -77,10 +93,10 @@ fn begins_at_zero(evidence: &Evidence) -> bool
 }
 
 fn is_zero_fork(fork: &Fork) -> bool
-    ensures { IsTrue result ↔ IsZeroFork fork.now.a fork.now.b }
+    ensures { IsTrue result ↔ IsZeroFork fork.now.log_version fork.now.a fork.now.b }
 {
     match &fork.b {
-        Some(b) => fork.a.first() == 0 || (fork.a.ends() && b.first() == 0),
+        Some(b) => fork.a.first() == 0 || (fork.a.ends(fork.log_version) && b.first() == 0),
         None => fork.a.first() == 0,
     }
 }

@@ -7,6 +7,7 @@ use crate::comparison::add_comparison;
 use crate::entry::{Log, add_entry};
 use crate::facts::Facts;
 use challenge::ReplayFault;
+use secure_log::LogVersion;
 use secure_log::log_entries::Entry;
 
 /// The name of a fault in the rules of a replay.
@@ -99,7 +100,8 @@ fn acknowledged(entries: &[Entry], at: usize) -> Option<usize> {
     let Some(Entry::Ack { seq, .. }) = entries.get(at) else {
         return None;
     };
-    let place = usize::try_from(seq.get().checked_sub(1)?).ok()?;
+    let number = seq.number(LogVersion::One).get();
+    let place = usize::try_from(number.checked_sub(1)?).ok()?;
     if place < at { Some(place) } else { None }
 }
 

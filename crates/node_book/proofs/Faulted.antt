@@ -35,7 +35,7 @@ tile_entries : (first next : ℕ) (ss : List SegmentParts) → Tile first ss nex
 tile_entries first next [] t whole = omega (arith, t)
 tile_entries first next (s ∷ ss) t whole =
     let w = whole s (inl refl) in
-    let rest = tile_entries (s.closing.number + 1) next ss t.2 (λ x i. whole x (inr i)) in
+    let rest = tile_entries (s.closing.word + 1) next ss t.2 (λ x i. whole x (inr i)) in
     omega (arith, t.0, w.count, rest, length-append s.entries (entries_of ss))
 
 -- ---- a job that is out
@@ -88,7 +88,7 @@ faulted_shows b c fits limits out =
     (subst (IsAmong c.segment) (sym p.one.is) (inl refl)))) in
     let count = tile_entries 1 (b.end.number + 1) p.tiles.audited p.tiles.tile among in
     let front = ap (λ (l : List SegmentParts). length (entries_of l)) (front_is b c.segment p) in
-    let last : c.segment.closing.number ≤ MAX_AUDITED =
+    let last : c.segment.closing.word ≤ MAX_AUDITED =
     subst (λ x. audit_last b.end.number x ≤ MAX_AUDITED) out limits.last in
     record {
       among = omega arith;
@@ -122,24 +122,24 @@ exposed_by b c before fits out none is =
 
 -- a book whose end moved to that of a segment that was found sound
 pub sound_filed : (b : Book) (s : SegmentParts) (t : State) (found : List Authenticator) (end : ℕ)
-    → end ≡ s.closing.number
+    → end ≡ s.closing.word
     → record b {
       end = record { number = end; state = t };
       stage = NoAudit;
-      learned = filter (λ (a : Authenticator). nat_lt end a.number) b.learned;
+      learned = filter (λ (a : Authenticator). nat_lt end a.word) b.learned;
       outbox = b.outbox ++ found;
     } ≡ having_filed b s (Sound t found)
 sound_filed b s t found end is =
     ap (λ n. record b {
       end = record { number = n; state = t };
       stage = NoAudit;
-      learned = filter (λ (a : Authenticator). nat_lt n a.number) b.learned;
+      learned = filter (λ (a : Authenticator). nat_lt n a.word) b.learned;
       outbox = b.outbox ++ found;
     }) is
     ∙ ap (λ e. record b {
-      end = record { number = s.closing.number; state = t };
+      end = record { number = s.closing.word; state = t };
       stage = NoAudit;
-      learned = filter (λ (a : Authenticator). nat_lt s.closing.number a.number) b.learned;
+      learned = filter (λ (a : Authenticator). nat_lt s.closing.word a.word) b.learned;
       outbox = b.outbox ++ found;
       evidence = e;
     }) (sym (first_alone b.evidence))

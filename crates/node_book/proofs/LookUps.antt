@@ -43,7 +43,7 @@ held_in b n s fits some e =
 
 -- where no segment holds it, a learned authenticator's hash is
 pub held_out : (b : Book) (n : ℕ) → (n == 0) ≡ false → segment_holding n b.segments ≡ None
-    → option_map (λ (a : Authenticator). a.hash) (find (λ (a : Authenticator). a.number == n) b.learned)
+    → option_map (λ (a : Authenticator). a.hash) (find (λ (a : Authenticator). a.word == n) b.learned)
     ≡ hash_shown b n
 held_out b n some e = sym (ap (λ o. hash_held o b n) e) ∙ past_zero b n some
 

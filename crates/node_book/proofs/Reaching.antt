@@ -25,14 +25,14 @@ in_reach end n false e = lt-leb (n - end) MAX_ASKED (omega (arith, leb-false n (
 -- with one authenticator more it is that one's number, where this is in reach and greater
 pub reach_more : (end : ℕ) (xs : List Authenticator) (a : Authenticator)
     → last_in_reach end (xs ++ a ∷ [])
-    ≡ cond (nat_le (a.number - end) MAX_ASKED) (max (last_in_reach end xs) a.number) (last_in_reach end xs)
+    ≡ cond (nat_le (a.word - end) MAX_ASKED) (max (last_in_reach end xs) a.word) (last_in_reach end xs)
 reach_more end xs a =
     let most = end + MAX_ASKED in
     let kept = λ (ns : List ℕ). filter (λ k. nat_le k most) ns in
-    ap (λ (ns : List ℕ). fold max 0 (kept ns)) (map-append (λ (x : Authenticator). x.number) xs (a ∷ []))
+    ap (λ (ns : List ℕ). fold max 0 (kept ns)) (map-append (λ (x : Authenticator). x.word) xs (a ∷ []))
     ∙ (ap (λ (ns : List ℕ). fold max 0 ns)
-    (filter-append (λ k. nat_le k most) (map (λ (x : Authenticator). x.number) xs) (a.number ∷ []))
-    ∙ (fold-append max 0 (kept (map (λ (x : Authenticator). x.number) xs)) (kept (a.number ∷ []))
-    ∙ (one_more most (last_in_reach end xs) a.number (nat_le a.number most) refl
-    ∙ ap (λ b. cond b (max (last_in_reach end xs) a.number) (last_in_reach end xs))
-    (sym (in_reach end a.number (nat_le a.number most) refl)))))
+    (filter-append (λ k. nat_le k most) (map (λ (x : Authenticator). x.word) xs) (a.word ∷ []))
+    ∙ (fold-append max 0 (kept (map (λ (x : Authenticator). x.word) xs)) (kept (a.word ∷ []))
+    ∙ (one_more most (last_in_reach end xs) a.word (nat_le a.word most) refl
+    ∙ ap (λ b. cond b (max (last_in_reach end xs) a.word) (last_in_reach end xs))
+    (sym (in_reach end a.word (nat_le a.word most) refl)))))

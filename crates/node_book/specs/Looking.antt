@@ -15,7 +15,7 @@ pub record FollowOn (segments : List SegmentParts) : Type 0 where
 -- how many segments stand in front that end before a number
 abbrev pub count_ended : (number : ℕ) → List SegmentParts → ℕ
 count_ended number [] = 0
-count_ended number (s ∷ ss) = if nat_lt s.closing.number number then count_ended number ss + 1 else 0
+count_ended number (s ∷ ss) = if nat_lt s.closing.word number then count_ended number ss + 1 else 0
 
 -- the hash that was shown is the same
 abbrev pub is_the_same : ShownHash → Bool

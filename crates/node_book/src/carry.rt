@@ -35,7 +35,7 @@ use crate::reply::{Reply, ReplyOf};
 use crate::replying::{ack_reply, answer_reply, audit_reply, challenge_reply, learn_reply};
 use crate::rows::{Exposure, Rows, Stage};
 use crate::step::Step;
-use authenticator::Authenticator;
+use authenticator::{Authenticator, LogVersion};
 use challenge::{Challenge, Evidence, SharedState};
 use envelopes::{Ack, Envelope};
 use replay_jobs::{JobVerdict, ReplayDone, ReplayJob, SharedSegment};
@@ -204,7 +204,8 @@ impl Rows {
     {
         match verdict {
             JobVerdict::Sound(state, found) => {
-                let end = segment.closed().segment().closing().number.get();
+                let closing = segment.closed().segment().closing();
+                let end = closing.word.number(LogVersion::One).get();
                 self.move_end(end, state, found);
             }
             JobVerdict::Fault(_, _) => {
@@ -220,7 +221,7 @@ impl Rows {
         ensures after { book_in self.new ≡ record (book_in self.old) {
           end = record { number = end; state = state };
           stage = standing.NoAudit;
-          learned = filter (λ a. nat_lt end a.number) self.old.learned.items;
+          learned = filter (λ a. nat_lt end a.word) self.old.learned.items;
           outbox = outbox_in self.old.outbox ++ (arc_value found).items;
         } }
         ensures segments { self.new.segments ≡ self.old.segments }
@@ -334,7 +335,7 @@ fn all_but_one(segments: &[SharedSegment]) -> usize
 
 /// Lets go of the authenticators with numbers up to the end.
 fn keep_above(learned: &mut Vec<Authenticator>, end: u64)
-    ensures { learned.new.items ≡ filter (λ a. nat_lt end a.number) learned.old.items }
+    ensures { learned.new.items ≡ filter (λ a. nat_lt end a.word) learned.old.items }
 {
-    learned.retain(|authenticator| end < authenticator.number.get());
+    learned.retain(|authenticator| end < authenticator.word.number(LogVersion::One).get());
 }

@@ -33,7 +33,7 @@ use crate::replayed::replayed_evidence;
 use crate::reply::Indication;
 use crate::rows::{Exposure, Rows, Stage};
 use crate::step::Step;
-use authenticator::{Authenticator, Number, Signs};
+use authenticator::{Authenticator, LogVersion, Number, Signs};
 use challenge::{Challenge, Evidence};
 use envelopes::{Ack, Envelope};
 use evidence_spec::MAX_AUDITED;
@@ -89,10 +89,11 @@ impl Rows {
 
     /// Whether an authenticator lies above the end, and as many are kept as may be.
     fn has_no_room(&self, authenticator: &Authenticator) -> bool
-        ensures { result ≡ (nat_lt self.now.end authenticator.now.number
+        ensures { result ≡ (nat_lt self.now.end authenticator.now.word
             && nat_le limits.MAX_LEARNED (length self.now.learned.items)) }
     {
-        self.end < authenticator.number.get() && MAX_LEARNED <= self.learned.len()
+        self.end < authenticator.word.number(LogVersion::One).get()
+            && MAX_LEARNED <= self.learned.len()
     }
 
     /// Of a challenge with a message. An open one comes before a lack of room.
@@ -122,7 +123,7 @@ impl Rows {
             return Ok(AnswerDecision::NotAsked);
         };
         let given = segment.closed().segment();
-        if given.first() != *first || given.closing().number != *last {
+        if given.first() != *first || given.closing().word.number(LogVersion::One) != *last {
             return Ok(AnswerDecision::NotAsked);
         }
         let share = segment.try_clone()?;
@@ -343,7 +344,7 @@ fn last_in_reach(end: u64, learned: &[Authenticator]) -> u64
 {
     let mut last = 0;
     for authenticator in learned {
-        let number = authenticator.number.get();
+        let number = authenticator.word.number(LogVersion::One).get();
         if number.saturating_sub(end) <= u64::from(MAX_ENTRIES) {
             last = max(last, number);
         }

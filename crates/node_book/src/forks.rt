@@ -14,10 +14,11 @@ ghost use Rattle.witness_book_laws.specs.Going.{evidence_of, fork_evidence};
 ghost use Rattle.witness_book_laws.specs.LookUps.{is_other_hash};
 ghost use Rattle.witness_book_laws.specs.Ready.{IsReady};
 ghost use Rattle.node_book.specs.Rows.{book_in};
+ghost use Rattle.authenticator.specs.declared.member.LogVersion.TheVariants.{One};
 
 use crate::looking::{ShownHash, learned_at, segment_holding};
 use crate::rows::Rows;
-use authenticator::{Authenticator, Number, is_same_hash};
+use authenticator::{Authenticator, LogVersion, Number, is_same_hash};
 use challenge::{Charge, Evidence, Fork, Showing};
 use replay_jobs::SharedSegment;
 use secure_log::ClosedSegment;
@@ -35,12 +36,12 @@ impl Rows {
         requires ready { IsReady (book_in self.now) }
         requires hidden { exposed (book_in self.now) ≡ false }
         ensures { IfOk result (λ e. e ≡ fork_evidence (book_in self.now)
-            (authenticator_showing authenticator.now) (pair_of authenticator.now ∷ [])) }
+            (authenticator_showing One authenticator.now) (pair_of authenticator.now ∷ [])) }
     {
         match self.knows(authenticator) {
             ShownHash::Another => {
-                let new = Showing::of_authenticator(alloc, authenticator)?;
-                self.fork_at(alloc, new, authenticator.number)
+                let new = Showing::of_authenticator(alloc, LogVersion::One, authenticator)?;
+                self.fork_at(alloc, new, authenticator.word.number(LogVersion::One))
             }
             ShownHash::Same | ShownHash::Nothing => Ok(None),
         }
@@ -58,7 +59,7 @@ impl Rows {
         requires ready { IsReady (book_in self.now) }
         requires hidden { exposed (book_in self.now) ≡ false }
         requires asked { (book_in self.now).stage
-            ≡ standing.Wanted segment.now.segment.first segment.now.segment.closing.number }
+            ≡ standing.Wanted segment.now.segment.first segment.now.segment.closing.word }
         ensures { IfOk result (λ e. e ≡ fork_evidence (book_in self.now)
             (segment_showing segment.now.segment) (segment_pairs segment.now.segment)) }
     {
@@ -111,7 +112,7 @@ impl Rows {
             s ≡ showing_before (book_in self.now).learned (book_in self.now).segments number) }
     {
         if let Some(authenticator) = learned_at(&self.learned, number) {
-            let showing = Showing::of_authenticator(alloc, authenticator)?;
+            let showing = Showing::of_authenticator(alloc, LogVersion::One, authenticator)?;
             return Ok(Some(showing));
         }
         let Some(segment) = segment_holding(&self.segments, number) else {
@@ -126,10 +127,18 @@ impl Rows {
 fn evidence_of_fork(node: u32, at: Number, a: Showing, b: Option<Showing>) -> Option<Evidence>
     ensures { result ≡ Some (record {
       node = node;
-      charge = spec.Fork (record { at = at; a = a; b = b });
+      charge = spec.Fork (record { log_version = One; at = at; a = a; b = b });
     }) }
 {
-    Evidence::new(node, Charge::Fork(Fork { at, a, b }))
+    Evidence::new(
+        node,
+        Charge::Fork(Fork {
+            log_version: LogVersion::One,
+            at,
+            a,
+            b,
+        }),
+    )
 }
 
 /// The least number of some authenticators at which a segment shows another hash.
@@ -151,7 +160,7 @@ fn least_with(
 ) -> Option<Number>
     ensures { result ≡ least_with closed.now.segment least authenticator.now }
 {
-    let number = authenticator.number;
+    let number = authenticator.word.number(LogVersion::One);
     if is_other_hash(&authenticator.hash, closed.hash_at(number.get())) {
         Some(lesser(least, number))
     } else {

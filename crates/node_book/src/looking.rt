@@ -11,7 +11,7 @@ ghost use Rattle.node_book.specs.Rows.{book_in, segments_in};
 ghost use Rattle.node_book.specs.Looking.{FollowOn, count_ended, is_another, is_the_same};
 
 use crate::rows::Rows;
-use authenticator::{Authenticator, is_same_hash};
+use authenticator::{Authenticator, LogVersion, is_same_hash};
 use replay_jobs::SharedSegment;
 
 /// What a book shows at an authenticator's number: its hash, another one, or nothing.
@@ -49,7 +49,7 @@ impl Rows {
         ensures another { is_fork (pair_of authenticator.now) (book_shown (book_in self.now))
             ≡ is_another result }
     {
-        let Some(hash) = self.hash_shown(authenticator.number.get()) else {
+        let Some(hash) = self.hash_shown(authenticator.word.number(LogVersion::One).get()) else {
             return ShownHash::Nothing;
         };
         if is_same_hash(&authenticator.hash, &hash) {
@@ -68,8 +68,11 @@ fn count_ended(segments: &[SharedSegment], number: u64) -> usize
 {
     segments.partition_point(
         |shared: &SharedSegment| -> bool
-            ensures { result ≡ nat_lt shared.now.segment.closing.number number }
-        { shared.closed().segment().closing().number.get() < number },
+            ensures { result ≡ nat_lt shared.now.segment.closing.word number }
+        {
+            let closing = shared.closed().segment().closing();
+            closing.word.number(LogVersion::One).get() < number
+        },
     )
 }
 
@@ -89,10 +92,10 @@ pub(crate) fn segment_holding(segments: &[SharedSegment], number: u64) -> Option
 
 /// The authenticator with a number, of some.
 pub(crate) fn learned_at(learned: &[Authenticator], number: u64) -> Option<&Authenticator>
-    ensures { option_map (λ a. a.now) result ≡ find (λ a. a.number == number) learned.now }
+    ensures { option_map (λ a. a.now) result ≡ find (λ a. a.word == number) learned.now }
 {
     for authenticator in learned {
-        if authenticator.number.get() == number {
+        if authenticator.word.number(LogVersion::One).get() == number {
             return Some(authenticator);
         }
     }
@@ -101,7 +104,7 @@ pub(crate) fn learned_at(learned: &[Authenticator], number: u64) -> Option<&Auth
 
 /// The hash of the authenticator with a number, of some.
 fn learned_hash(learned: &[Authenticator], number: u64) -> Option<[u8; 32]>
-    ensures { result ≡ option_map (λ a. a.hash) (find (λ a. a.number == number) learned.now) }
+    ensures { result ≡ option_map (λ a. a.hash) (find (λ a. a.word == number) learned.now) }
 {
     let authenticator = learned_at(learned, number)?;
     Some(authenticator.hash)

@@ -138,25 +138,25 @@ challenged ms bytes value member (Err refusal.NoMemory) h = tt
 -- the test whether it ends in its closing is what that means
 pub ends_of : (s : SegmentParts) → Ends s → ends s ≡ true
 ends_of s e =
-    let number_hash = (s.closing.number + 1 == s.first + length s.entries) && is_same s.closing.hash
+    let number_hash = (s.closing.word + 1 == s.first + length s.entries) && is_same s.closing.hash
     (last_hash s.opening (links_from s.first s.entries)) in
     and_from (s.closing.node == s.node) number_hash (eq-eqb s.closing.node s.node e.node)
-    (and_from (s.closing.number + 1 == s.first + length s.entries)
+    (and_from (s.closing.word + 1 == s.first + length s.entries)
     (is_same s.closing.hash (last_hash s.opening (links_from s.first s.entries)))
-    (eq-eqb (s.closing.number + 1) (s.first + length s.entries) e.number)
+    (eq-eqb (s.closing.word + 1) (s.first + length s.entries) e.number)
     (list_same s.closing.hash (last_hash s.opening (links_from s.first s.entries)) e.hash))
 
 -- a segment that passes the tests of its end ends as its closing says
 pub of_ends : (s : SegmentParts) → ends s ≡ true → Ends s
 of_ends s h =
-    let number_hash = (s.closing.number + 1 == s.first + length s.entries) && is_same s.closing.hash
+    let number_hash = (s.closing.word + 1 == s.first + length s.entries) && is_same s.closing.hash
     (last_hash s.opening (links_from s.first s.entries)) in
     let one = and_parts (s.closing.node == s.node) number_hash h in
-    let two = and_parts (s.closing.number + 1 == s.first + length s.entries)
+    let two = and_parts (s.closing.word + 1 == s.first + length s.entries)
     (is_same s.closing.hash (last_hash s.opening (links_from s.first s.entries))) one.1 in
     record {
       node = eqb-true s.closing.node s.node one.0;
-      number = eqb-true (s.closing.number + 1) (s.first + length s.entries) two.0;
+      number = eqb-true (s.closing.word + 1) (s.first + length s.entries) two.0;
       hash = same_list s.closing.hash (last_hash s.opening (links_from s.first s.entries)) two.1;
     }
 

@@ -15,7 +15,7 @@ use Rattle.envelopes.specs.secure_log.authenticator.Signing.{is_same, is_signed_
 -- whether a segment's closing is of its node, its last number and its last hash
 abbrev pub ends : SegmentParts → Bool
 ends s =
-    (s.closing.node == s.node) && ((s.closing.number + 1 == s.first + length s.entries)
+    (s.closing.node == s.node) && ((s.closing.word + 1 == s.first + length s.entries)
     && is_same s.closing.hash (last_hash s.opening (links_from s.first s.entries)))
 
 -- whether what is delivered may be at all under a roster: an envelope's sender isn't its receiver, and a segment

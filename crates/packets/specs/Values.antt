@@ -18,7 +18,7 @@ signature_said v = record { leaf = v.0; shown = v.1.0; other = v.1.1.0; path = v
 
 abbrev pub authenticator_said : Value authenticator_item → Authenticator
 authenticator_said v =
-    record { node = v.0; number = v.1.0; hash = v.1.1.0; signature = signature_said v.1.1.1 }
+    record { node = v.0; word = v.1.0; hash = v.1.1.0; signature = signature_said v.1.1.1 }
 
 abbrev pub envelope_said : Value envelope_item → Envelope
 envelope_said v = record {

@@ -35,11 +35,11 @@ together false false f g = refl
 -- a test on a member's signature is that of the roster that has the member
 pub signed_same : (ms : List Member) (a : Authenticator) (m : Member) (b : Bool)
     → member_of ms a.node ≡ Some m
-    → (IsTrue b ↔ Signed m.root m.height (signed_digest a.node a.number a.hash) a.signature)
-    → (IsTrue (is_signed m.root m.height (signed_digest a.node a.number a.hash) a.signature)
-    ↔ Signed m.root m.height (signed_digest a.node a.number a.hash) a.signature)
+    → (IsTrue b ↔ Signed m.root m.height (signed_digest a.node a.word a.hash) a.signature)
+    → (IsTrue (is_signed m.root m.height (signed_digest a.node a.word a.hash) a.signature)
+    ↔ Signed m.root m.height (signed_digest a.node a.word a.hash) a.signature)
     → b ≡ is_signed_in ms a
 signed_same ms a m b there tested law =
-    let one = is_signed m.root m.height (signed_digest a.node a.number a.hash) a.signature in
+    let one = is_signed m.root m.height (signed_digest a.node a.word a.hash) a.signature in
     together b one (λ h. law.1 (tested.0 h)) (λ h. tested.1 (law.0 h))
     ∙ ap (λ (o : Option Member). is_signed_by o a) (sym there)

@@ -7,7 +7,7 @@ ghost use Rattle.replay_spec.specs.Steps.{received_message};
 ghost use Rattle.replay_spec.specs.Stepping.{is_bad_ack, is_bad_receive, is_repeated, is_wrong_checkpoint};
 
 use crate::turns::is_same;
-use authenticator::{Number, Roster, is_signed};
+use authenticator::{Roster, Word, is_signed};
 use checkpoint::{ReceivedMessage, SentMessage, State, state_digest};
 use merkle_keys::Signature;
 use replay_spec::laws::tests_as_it_is_signed;
@@ -15,7 +15,7 @@ use secure_log::log_entries::{Body, Entry, Receipt, message_hash, receipt_hash};
 use std::alloc::{AllocError, Global};
 
 /// A RECV's sender is the node itself or a stranger, or its signature isn't the sender's, of the hash that is
-/// made from sender, number, hash before it and body.
+/// made from sender, word, hash before it and body.
 pub(crate) fn is_bad_receive(roster: &Roster, state: &State, entry: &Entry) -> bool
     ensures { result ≡ is_bad_receive roster.now state.now.state entry.now }
 {
@@ -33,7 +33,7 @@ pub(crate) fn is_bad_receive(roster: &Roster, state: &State, entry: &Entry) -> b
     *from == state.node() || !is_signed_in(roster, *from, *seq, &hash, signature.signature())
 }
 
-/// A RECV's sender, number and hash are among those received.
+/// A RECV's sender, word and hash are among those received.
 pub(crate) fn is_repeated(state: &State, entry: &Entry) -> bool
     ensures { result ≡ is_repeated state.now.state entry.now }
 {
@@ -93,7 +93,7 @@ pub(crate) fn is_wrong_checkpoint(
 pub(crate) fn received_message(
     node: u32,
     from: u32,
-    seq: Number,
+    seq: Word,
     prev: &[u8; 32],
     body: &Body,
 ) -> ReceivedMessage
@@ -109,10 +109,10 @@ pub(crate) fn received_message(
 /// The hash in the receiver's log, at the RECV of a message that a node sent, that an ACK of it shows.
 pub(crate) fn acknowledged_hash(
     node: u32,
-    seq: Number,
+    seq: Word,
     message: &SentMessage,
     mine: &[u8; 32],
-    number: Number,
+    number: Word,
     prev: &[u8; 32],
 ) -> [u8; 32]
     ensures { result ≡ receipt_hash node seq message.now.prev message.now.body_hash mine.now number prev.now }
@@ -127,24 +127,24 @@ pub(crate) fn acknowledged_hash(
     receipt_hash(&receipt, number, prev)
 }
 
-/// A node is a member that signed that its log has this hash at this number.
+/// A node is a member that signed that its log has this hash at this word.
 fn is_signed_in(
     roster: &Roster,
     node: u32,
-    number: Number,
+    word: Word,
     hash: &[u8; 32],
     signature: &Signature,
 ) -> bool
     ensures { result ≡ is_signed_in roster.now (record {
       node = node;
-      number = number;
+      word = word;
       hash = hash.now;
       signature = signature.now;
     }) }
 {
     tests_as_it_is_signed();
     match roster.member(node) {
-        Some(member) => is_signed(&member, node, number, hash, signature),
+        Some(member) => is_signed(&member, node, word, hash, signature),
         None => false,
     }
 }

@@ -27,7 +27,7 @@ pub(crate) fn shown_by(
             signature,
         } => Ok(Some(Authenticator {
             node: *from,
-            number: *seq,
+            word: *seq,
             hash: message_hash(state.node(), *seq, prev, &body.digest()),
             signature: signature.signature().try_clone(alloc)?,
         })),
@@ -44,7 +44,7 @@ pub(crate) fn shown_by(
             };
             Ok(Some(Authenticator {
                 node: message.to(),
-                number: *number,
+                word: *number,
                 hash: acknowledged_hash(state.node(), *seq, &message, mine, *number, prev),
                 signature: signature.signature().try_clone(alloc)?,
             }))

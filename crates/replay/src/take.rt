@@ -10,7 +10,7 @@ ghost use Rattle.replay_spec.specs.Steps.{after_entry, received_message};
 ghost use Rattle.replay_spec.specs.Stepping.{shows_no_time};
 
 use crate::messages::received_message;
-use authenticator::Number;
+use authenticator::{Number, Word};
 use checkpoint::{MessageBody, SentMessage, Stage, State};
 use nfs_items::Time;
 use secure_log::log_entries::{Body, Entry};
@@ -60,7 +60,7 @@ fn receive(
     state: &mut State,
     alloc: Global,
     from: u32,
-    seq: Number,
+    seq: Word,
     prev: &[u8; 32],
     body: &Body,
 ) -> Result<(), AllocError>

@@ -42,8 +42,8 @@ pub fn replay(alloc: Global, state: &State, segment: &ClosedSegment) -> Result<V
     let copy = copy_of(alloc, state)?;
     let roster = segment.roster();
     let segment = segment.segment();
-    // The last entry's number, which is below the greatest of 64 bits.
-    let _last = segment.closing().number.get();
+    // The last entry's word, which is below the greatest of 64 bits.
+    let _last = segment.closing().word.get();
     replay_entries(
         alloc,
         roster,

@@ -48,8 +48,8 @@ pub(crate) fn replayed(alloc: Global, job: &PlainJob) -> Result<JobVerdict, Allo
     let closed = job.segment().closed();
     let roster = closed.roster();
     let segment = closed.segment();
-    // The last entry's number, which is below the greatest of 64 bits.
-    let _last = segment.closing().number.get();
+    // The last entry's word, which is below the greatest of 64 bits.
+    let _last = segment.closing().word.get();
     let verdict = replay_entries(
         alloc,
         roster,

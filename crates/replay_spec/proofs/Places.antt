@@ -1,9 +1,9 @@
 -- Entries in two parts, and the pairs of places.
--- Serves: places_are_joined.
+-- Serves: places_are_joined, honest_without_gaps.
 use Rattle.std.proofs.Common.{◌≡◌, ℕ, ◌+◌, List, [], ◌∷◌, ◌++◌, map, length, refl, ap, ◌∙◌, arith}
 use Rattle.secure_log.specs.declared.log_entries.entry.Entry.{Entry}
-use Rattle.secure_log.specs.LogEntries.Chain.{hash_after, link_of, last_hash, links_from, pairs}
-use Rattle.replay_spec.specs.Placed.{place, placed}
+use Rattle.secure_log.specs.LogEntries.Chain.{hash_after, link_of, last_hash, links_from, pairs, without_gaps}
+use Rattle.replay_spec.specs.Placed.{logged_places, place, placed}
 use Rattle.replay_spec.specs.Laws.{pair_at}
 
 -- the places of entries in two parts
@@ -27,3 +27,13 @@ places_paired number before [] = refl
 places_paired number before (e ∷ es) =
     ap (λ ps. (number, before) ∷ ps)
     (places_paired (number + 1) (hash_after before (link_of (number + 1) e)) es)
+
+-- entries before which none is skipped stand at numbers one after the other
+pub places_without_gaps : (before : ℕ) (opening : List ℕ) (es : List Entry)
+    → logged_places before opening (without_gaps es) ≡ placed (before + 1) opening es
+places_without_gaps before opening [] = refl
+places_without_gaps before opening (e ∷ es) =
+    let number : before + 1 + 0 ≡ before + 1 = omega arith in
+    ap (λ n. place n opening e ∷ logged_places n (hash_after opening (link_of n e)) (without_gaps es)) number
+    ∙ ap (λ ps. place (before + 1) opening e ∷ ps)
+    (places_without_gaps (before + 1) (hash_after opening (link_of (before + 1) e)) es)

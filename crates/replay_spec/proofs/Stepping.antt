@@ -6,6 +6,7 @@ use Rattle.std.proofs.Common.{eqb-true, eq-eqb, ne_eqb, ltb-false, le-ltb}
 use Rattle.std.proofs.lemmas.Bool.{and_parts, and_from, not-false, both_ways}
 use Rattle.std.specs.FinMap as finite
 use Rattle.merkle_keys.specs.Signing.{SignatureParts}
+use Rattle.secure_log.specs.authenticator.Numbers.{word_of}
 use Rattle.secure_log.specs.authenticator.declared.member.Member.{Member}
 use Rattle.secure_log.specs.declared.log_entries.entry.Entry.{Entry}
 use Rattle.secure_log.specs.declared.log_entries.entry.Entry.TheVariants.{Send, Recv, Ack, Clock, Check}
@@ -337,13 +338,13 @@ ok_of s t (Some fault) h = absurd (cc)
 pub takes_step : (ms : List Member) (s t : State) (p : Placed) → step ms s p ≡ Ok t → Takes ms s p t
 unfolding step
 takes_step ms s t p h =
-    let none = ok_of (after_entry s p.number p.before p.entry) t (fault_of ms s p.entry) h in
+    let none = ok_of (after_entry s (word_of p.skipped p.number) p.before p.entry) t (fault_of ms s p.entry) h in
     record { stands = stands_of ms s p.entry (has_none ms s p.entry none.0); after = none.1 }
 
 -- and gives each state to which it leads
 pub step_takes : (ms : List Member) (s t : State) (p : Placed) → Takes ms s p t → step ms s p ≡ Ok t
 unfolding step
 step_takes ms s t p h =
-    ap (unless_fault (after_entry s p.number p.before p.entry))
+    ap (unless_fault (after_entry s (word_of p.skipped p.number) p.before p.entry))
     (no_fault ms s p.entry (none_where ms s p.entry h.stands))
     ∙ ap (λ x. Ok x) (sym h.after)

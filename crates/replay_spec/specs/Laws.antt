@@ -2,7 +2,8 @@
 use Rattle.std.specs.Prelude.{◌≡◌, ◌↔◌, ◌+◌, ℕ, List, [], ◌∷◌, ◌++◌, length, map, Ok, Err}
 use Rattle.secure_log.specs.authenticator.declared.member.Member.{Member}
 use Rattle.secure_log.specs.authenticator.declared.authenticator.Authenticator.{Authenticator}
-use Rattle.secure_log.specs.LogEntries.Chain.{hash_after, link_of, links_from, last_hash, pairs}
+use Rattle.secure_log.specs.LogEntries.Chain.{hash_after, links_from, last_hash, logged_link, pairs}
+use Rattle.secure_log.specs.LogEntries.Chain.{without_gaps}
 use Rattle.secure_log.specs.declared.log_entries.entry.Entry.{Entry}
 use Rattle.secure_log.specs.Log.{log_hash}
 use Rattle.state_spec.specs.State.{Machine, State, opened_with}
@@ -11,7 +12,7 @@ use Rattle.replay_spec.specs.Steps.{Takes}
 use Rattle.replay_spec.specs.Stepping.{ReplayFault, step}
 use Rattle.replay_spec.specs.Replay.{Honest, last_state, found, Sound, Fault, verdict_of}
 use Rattle.replay_spec.specs.Opening.{opening_of}
-use Rattle.replay_spec.specs.HonestLogs.{IsHonestLog}
+use Rattle.replay_spec.specs.HonestLogs.{IsHonestLog, IsHonestWithGaps}
 
 -- ---- steps and runs
 
@@ -69,7 +70,8 @@ PlacesAreJoined =
 
 -- the number of an entry's place and the hash there
 abbrev pub pair_at : Placed → ℕ × List ℕ
-pair_at p = (p.number, hash_after p.before (link_of p.number p.entry))
+pair_at p =
+    (p.number, hash_after p.before (logged_link p.number (record { skipped = p.skipped; entry = p.entry })))
 
 -- The places' numbers and hashes are the pairs of the chain, after the first.
 abbrev pub PlacesHavePairs : Type 0
@@ -102,6 +104,12 @@ EntriesMore =
     (ms : List Member) (o s t : State) (es fs : List Entry) (ts : List State)
     → IsHonestLog ms o es s → Honest ms s (placed (length es + 1) (log_hash es) fs) ts → last_state s ts ≡ t
     → IsHonestLog ms o (es ++ fs) t
+
+-- A log in which no number is skipped is honest as a log whose entries say so.
+abbrev pub WithoutGapsTheSame : Type 0
+WithoutGapsTheSame =
+    (ms : List Member) (o s : State) (es : List Entry)
+    → IsHonestLog ms o es s ↔ IsHonestWithGaps ms o (without_gaps es) s
 
 -- The last state of an honest log is one.
 abbrev pub OneLastState : Type 0

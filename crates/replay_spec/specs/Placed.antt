@@ -1,24 +1,37 @@
 -- Entries at their places.
 use Rattle.std.specs.Prelude.{ℕ, ◌+◌, List, [], ◌∷◌}
 use Rattle.secure_log.specs.declared.log_entries.entry.Entry.{Entry}
-use Rattle.secure_log.specs.LogEntries.Chain.{hash_after, link_of}
+use Rattle.secure_log.specs.LogEntries.Chain.{Logged, hash_after, link_of, logged_link}
 use Rattle.secure_log.specs.Segment.{SegmentParts}
 
--- an entry with its number in the log and the hash before it
+-- an entry with how many numbers are skipped just before it, its number in the log, and the hash before it
 pub record Placed : Type 0 where
+  pub skipped : ℕ
   pub number : ℕ
   pub before : List ℕ
   pub entry : Entry
 
--- an entry at a number, after a hash
+-- an entry at a number, before which none is skipped, after a hash
 abbrev pub place : ℕ → List ℕ → Entry → Placed
-place number before e = record { number = number; before = before; entry = e }
+place number before e = record { skipped = 0; number = number; before = before; entry = e }
 
--- entries that are numbered from `first` on, after a hash
+-- entries that are numbered from `first` on, where none is skipped, after a hash
 abbrev pub placed : (first : ℕ) (before : List ℕ) → List Entry → List Placed
 placed first before [] = []
 placed first before (e ∷ es) =
     place first before e ∷ placed (first + 1) (hash_after before (link_of first e)) es
+
+-- an entry of a log at a number, after a hash
+abbrev pub logged_place : (number : ℕ) (before : List ℕ) → Logged → Placed
+logged_place number before l =
+    record { skipped = l.skipped; number = number; before = before; entry = l.entry }
+
+-- entries of a log, after a number and the hash there
+abbrev pub logged_places : (before : ℕ) (opening : List ℕ) → List Logged → List Placed
+logged_places before opening [] = []
+logged_places before opening (l ∷ ls) =
+    logged_place (before + 1 + l.skipped) opening l
+    ∷ logged_places (before + 1 + l.skipped) (hash_after opening (logged_link (before + 1 + l.skipped) l)) ls
 
 -- the entries of a segment
 abbrev pub placed_in : SegmentParts → List Placed

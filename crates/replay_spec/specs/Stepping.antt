@@ -12,6 +12,7 @@ use Rattle.state_spec.specs.State.{is_received, SentMessage, Idle, Heard, Owes, 
 use Rattle.state_spec.specs.State.{Client, State}
 use Rattle.state_spec.specs.State.{clock_in}
 use Rattle.state_spec.specs.StateText.{state_digest}
+use Rattle.secure_log.specs.authenticator.Numbers.{word_of}
 use Rattle.secure_log.specs.authenticator.Signing.{is_same, is_signed_in}
 use Rattle.replay_spec.specs.Shown.{sender_shown, receiver_shown}
 use Rattle.replay_spec.specs.Placed.{Placed}
@@ -170,7 +171,8 @@ unless_fault s (Some fault) = Err fault
 
 -- the state after an entry at its place, or the fault that the entry has
 unfoldable pub step : List Member → State → Placed → Result State ReplayFault
-step ms s p = unless_fault (after_entry s p.number p.before p.entry) (fault_of ms s p.entry)
+step ms s p =
+    unless_fault (after_entry s (word_of p.skipped p.number) p.before p.entry) (fault_of ms s p.entry)
 
 -- ---- what an entry shows of another node's log
 

@@ -4,6 +4,7 @@ use Rattle.std.specs.Prelude.{◌≡◌, ◌≢◌, ◌<◌, ℕ, false, List, S
 use Rattle.std.specs.FinMap as finite
 use Rattle.sha2.specs.Sha256.{sha256}
 use Rattle.merkle_keys.specs.Signing.{SignatureParts}
+use Rattle.secure_log.specs.authenticator.Numbers.{word_of}
 use Rattle.secure_log.specs.authenticator.Signed.{IsSignedIn}
 use Rattle.secure_log.specs.authenticator.declared.member.Member.{Member}
 use Rattle.secure_log.specs.LogEntries.Messages.{message_hash}
@@ -106,20 +107,20 @@ MayStand ms s (Check digest) = MayCheck s digest
 
 -- ---- the state after it
 
--- The state after an entry at a number, after a hash: the one before, with what the entry brings. A SEND is
--- kept under its number, and then a server owes nothing; a RECV's message is taken in, and a server owes a
+-- The state after an entry with a word, after a hash: the one before, with what the entry brings. A SEND is
+-- kept under its word, and then a server owes nothing; a RECV's message is taken in, and a server owes a
 -- clock reading for it; an ACK's message is kept no more; at a CLOCK a server answers the message that it
 -- heard, and owes the reply if one is owed; a CHECK changes nothing.
-abbrev pub after_entry : State → (number : ℕ) (before : List ℕ) → Entry → State
-after_entry s number before (Send to body) =
-    at_stage (having_sent s number (sent_message to before body)) Idle
-after_entry s number before (Recv from seq prev body signature) =
+abbrev pub after_entry : State → (entry_word : ℕ) (before : List ℕ) → Entry → State
+after_entry s entry_word before (Send to body) =
+    at_stage (having_sent s entry_word (sent_message to before body)) Idle
+after_entry s entry_word before (Recv from seq prev body signature) =
     at_stage (having_received s (received_message s.node from seq prev body)) (Heard from body)
-after_entry s number before (Ack to seq mine theirs prev signature) = having_acknowledged s seq
-after_entry s number before (Clock seconds microseconds) = having_read s (time_of seconds microseconds)
-after_entry s number before (Check digest) = s
+after_entry s entry_word before (Ack to seq mine theirs prev signature) = having_acknowledged s seq
+after_entry s entry_word before (Clock seconds microseconds) = having_read s (time_of seconds microseconds)
+after_entry s entry_word before (Check digest) = s
 
 -- An entry at its place leads from a state to another.
 pub record Takes (ms : List Member) (s : State) (p : Placed) (t : State) : Type 0 where
   pub stands : MayStand ms s p.entry
-  pub after : t ≡ after_entry s p.number p.before p.entry
+  pub after : t ≡ after_entry s (word_of p.skipped p.number) p.before p.entry

@@ -220,7 +220,7 @@ asked_before a node b c text asks d =
 
 -- an authenticator that is passed on, and what its own witness said of it
 pub passed : (old : List Claim) (x : Authenticator) (line : List ℕ) (new : List Claim) (text : List ℕ)
-    → Does IsHeard old line new → text ≡ forwarded_words x.node x.number ++ line
+    → Does IsHeard old line new → text ≡ forwarded_words x.node x.word ++ line
     → Does (IsPassed x) old text new
 passed old x line new text d is = record {
   claims = d.claims;

@@ -17,7 +17,7 @@ said_line s.Closed = codes "closed\n"
 said_line (s.Asked first last) = codes "asked " ++ (decimal first ++ (codes " " ++ (decimal last ++ codes "\n")))
 said_line s.Returned = codes "returned\n"
 said_line (s.Forwarded x) =
-    codes "forwarded " ++ (decimal x.node ++ (codes " " ++ (decimal x.number ++ codes "\n")))
+    codes "forwarded " ++ (decimal x.node ++ (codes " " ++ (decimal x.word ++ codes "\n")))
 said_line s.Empty = codes "empty\n"
 said_line (s.Told i) = word_of (indication_in i) ++ codes "\n"
 said_line (s.Open cs) = codes "open\n"

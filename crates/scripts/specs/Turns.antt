@@ -50,7 +50,7 @@ reply_line (r.Job j) = codes "returned\n"
 reply_line r.Filed = codes "returned\n"
 reply_line r.Returned = codes "returned\n"
 reply_line (r.Forwarded x) =
-    codes "forwarded " ++ (decimal x.node ++ (codes " " ++ (decimal x.number ++ codes "\n")))
+    codes "forwarded " ++ (decimal x.node ++ (codes " " ++ (decimal x.word ++ codes "\n")))
 reply_line r.Empty = codes "empty\n"
 reply_line (r.Told i) = word_of i ++ codes "\n"
 reply_line (r.OpenList cs) = codes "open\n"
@@ -129,7 +129,7 @@ IsAsked node text claims =
 -- An authenticator was handed in: whose it is and its number are printed, and what was said of it.
 pub record IsPassed (x : Authenticator) (text : List ℕ) (claims : List Claim) : Type 0 where
   pub words : List ℕ
-  pub text_is : text ≡ forwarded_words x.node x.number ++ words
+  pub text_is : text ≡ forwarded_words x.node x.word ++ words
   pub is_heard : IsHeard words claims
 
 -- An authenticator came out of a node's outbox, and was handed in.

@@ -5,7 +5,7 @@ ghost use Rattle.node_book.specs.Replies.{indication_in};
 ghost use Rattle.scripts.specs.Said.{said_line};
 ghost use Rattle.scripts.specs.Turns.{flooded_line, forwarded_words, refused_line, told_line};
 
-use authenticator::Authenticator;
+use authenticator::{Authenticator, LogVersion};
 use std::alloc::{AllocError, Global};
 use witness_calls::{Outcome, Replayed, Said, Told, indication_word};
 
@@ -57,7 +57,7 @@ pub(crate) fn said_line(alloc: Global, said: &Said) -> Result<String, AllocError
         }
         Said::Returned => line_of(alloc, "returned"),
         Said::Forwarded(authenticator) => {
-            let number = authenticator.number.get();
+            let number = authenticator.word.number(LogVersion::One).get();
             format!(in alloc; "forwarded {} {number}\n", authenticator.node)
         }
         Said::Empty => line_of(alloc, "empty"),
@@ -71,9 +71,9 @@ pub(crate) fn said_line(alloc: Global, said: &Said) -> Result<String, AllocError
 /// The words `forwarded M K`.
 fn forwarded_words(alloc: Global, authenticator: &Authenticator) -> Result<String, AllocError>
     ensures { IfOk result (λ words. string_bytes words
-        ≡ forwarded_words authenticator.now.node authenticator.now.number) }
+        ≡ forwarded_words authenticator.now.node authenticator.now.word) }
 {
-    let number = authenticator.number.get();
+    let number = authenticator.word.number(LogVersion::One).get();
     format!(in alloc; "forwarded {} {number} ", authenticator.node)
 }
 
@@ -84,7 +84,7 @@ pub(crate) fn forwarded_line(
     line: &str,
 ) -> Result<String, AllocError>
     ensures { IfOk result (λ text. string_bytes text
-        ≡ forwarded_words authenticator.now.node authenticator.now.number ++ line.now) }
+        ≡ forwarded_words authenticator.now.node authenticator.now.word ++ line.now) }
 {
     let mut text = forwarded_words(alloc, authenticator)?;
     text.push_str(line)?;

@@ -121,12 +121,12 @@ module _ (w : Watched) (past : Past) (b : Book) (c : ClosedParts)
     -- its first number is the one after the end
     pub first : c.segment.first ≡ b.end.number + 1
     -- it isn't empty
-    pub some : c.segment.first ≤ c.segment.closing.number
+    pub some : c.segment.first ≤ c.segment.closing.word
 
-  wanted : (s : Stage) → s ≡ Wanted c.segment.first c.segment.closing.number → b.stage ≡ s → IsWanted
+  wanted : (s : Stage) → s ≡ Wanted c.segment.first c.segment.closing.word → b.stage ≡ s → IsWanted
   wanted s is same =
       let r : IsMore b.end.number (exposed b)
-      (Wanted c.segment.first c.segment.closing.number) k.fits.tiles.more =
+      (Wanted c.segment.first c.segment.closing.word) k.fits.tiles.more =
       subst (λ t. IsMore b.end.number (exposed b) t k.fits.tiles.more) (same ∙ is) k.fits.tiles.rest in
       record { none = r.0; first = r.1; some = r.2 }
 
@@ -156,13 +156,13 @@ module _ (w : Watched) (past : Past) (b : Book) (c : ClosedParts)
       by s (inr (inr i)) = absurd i
 
   -- What is known after a segment that was accepted.
-  pub accepted_known : IsGiven w c → b.stage ≡ Wanted c.segment.first c.segment.closing.number
+  pub accepted_known : IsGiven w c → b.stage ≡ Wanted c.segment.first c.segment.closing.word
       → Exposure w ((Answer c, Accepted) ∷ past)
       → Known w ((Answer c, Accepted) ∷ past) (after_answer b c Accepted)
   unfolding fits
   accepted_known given is x =
       let whole = given_whole w c given in
-      let f = fits whole (wanted (Wanted c.segment.first c.segment.closing.number) refl is) in
+      let f = fits whole (wanted (Wanted c.segment.first c.segment.closing.word) refl is) in
       record {
         of = record {
           node = k.of.node;

@@ -211,7 +211,7 @@ record IsCharged (s : SegmentParts) (cs : List Authenticator) (k : ℕ) : Type 0
   -- it is there
   among : IsAmong one cs
   -- its number
-  number : k ≡ one.number
+  number : k ≡ one.word
   -- the segment shows another hash
   another : shows_another s one ≡ true
 
@@ -241,7 +241,7 @@ lesser_sound P (Some m) n i p = by (nat_lt n m)
 
 least_is : (P : ℕ → Type 0) (s : SegmentParts) (least : Option ℕ) (cs : List Authenticator)
     → IsSound P least
-    → ((a : Authenticator) → IsAmong a cs → shows_another s a ≡ true → P a.number)
+    → ((a : Authenticator) → IsAmong a cs → shows_another s a ≡ true → P a.word)
     → ((k : ℕ) → P k → Covers least k ⊎ IsCharged s cs k)
     → IsLeast P (least_from s least cs)
 least_is P s None [] sound each all = λ k p. elim (all k p) [ inl c ↦ c | inr c ↦ c.among ]
@@ -253,19 +253,19 @@ least_is P s least (a ∷ cs) sound each all = by (shows_another s a) refl
     (λ l sound all. least_is P s l cs sound (λ c i. each c (inr i)) all)
   where
     to_true : shows_another s a ≡ true → (k : ℕ) → P k
-        → Covers (Some (lesser least a.number)) k ⊎ IsCharged s cs k
+        → Covers (Some (lesser least a.word)) k ⊎ IsCharged s cs k
     to_true e k p = of (all k p)
       where
         charged : (c : IsCharged s (a ∷ cs) k) → (c.one ≡ a) ⊎ IsAmong c.one cs
-            → Covers (Some (lesser least a.number)) k ⊎ IsCharged s cs k
+            → Covers (Some (lesser least a.word)) k ⊎ IsCharged s cs k
         charged c (inl same) =
-            let number : k ≡ a.number = c.number ∙ ap (λ (z : Authenticator). z.number) same in
-            inl (omega (arith, number, lesser_right least a.number))
+            let number : k ≡ a.word = c.number ∙ ap (λ (z : Authenticator). z.word) same in
+            inl (omega (arith, number, lesser_right least a.word))
         charged c (inr i) = inr (record { one = c.one; among = i; number = c.number; another = c.another })
 
         of : Covers least k ⊎ IsCharged s (a ∷ cs) k
-            → Covers (Some (lesser least a.number)) k ⊎ IsCharged s cs k
-        of (inl c) = inl (lesser_left least a.number k c)
+            → Covers (Some (lesser least a.word)) k ⊎ IsCharged s cs k
+        of (inl c) = inl (lesser_left least a.word k c)
         of (inr c) = charged c c.among
 
     to_false : shows_another s a ≡ false → (k : ℕ) → P k → Covers least k ⊎ IsCharged s cs k
@@ -284,10 +284,10 @@ least_is P s least (a ∷ cs) sound each all = by (shows_another s a) refl
     by : (b : Bool) → shows_another s a ≡ b
         → ((l : Option ℕ) → IsSound P l → ((k : ℕ) → P k → Covers l k ⊎ IsCharged s cs k)
         → IsLeast P (least_from s l cs))
-        → IsLeast P (least_from s (cond b (Some (lesser least a.number)) least) cs)
+        → IsLeast P (least_from s (cond b (Some (lesser least a.word)) least) cs)
     by true e rest =
-        rest (Some (lesser least a.number))
-        (lesser_sound P least a.number sound (each a (inl refl) e)) (to_true e)
+        rest (Some (lesser least a.word))
+        (lesser_sound P least a.word sound (each a (inl refl) e)) (to_true e)
     by false e rest = rest least sound (to_false e)
 
 -- ---- a segment that follows on the end
@@ -312,7 +312,7 @@ record IsAsked (b : Book) (s : SegmentParts) : Type 0 where
   -- it follows on the end
   first : s.first ≡ b.end.number + 1
   -- no accepted segment lies above the end
-  below : (t : SegmentParts) → IsAmong t b.segments → t.closing.number ≤ b.end.number
+  below : (t : SegmentParts) → IsAmong t b.segments → t.closing.word ≤ b.end.number
 
 asked : (b : Book) (s : SegmentParts) (last : ℕ) → FitsTogether b → b.stage ≡ Wanted s.first last
     → IsAsked b s
@@ -362,18 +362,18 @@ module _ (b : Book) (s : SegmentParts) (fits : FitsTogether b) (one : HasOneHash
   opening_forks = fork_by_look_up b fits b.end.number one hidden s.opening
 
   -- where a learned authenticator has another hash there is a fork
-  learned_forks : (a : Authenticator) → IsAmong a b.learned → shows_another s a ≡ true → Forks a.number
-  learned_forks a i e = by (segment_hash_at s a.number) refl e
+  learned_forks : (a : Authenticator) → IsAmong a b.learned → shows_another s a ≡ true → Forks a.word
+  learned_forks a i e = by (segment_hash_at s a.word) refl e
     where
-      by : (o : Option (List ℕ)) → segment_hash_at s a.number ≡ o → is_other_hash a.hash o ≡ true
-          → Forks a.number
+      by : (o : Option (List ℕ)) → segment_hash_at s a.word ≡ o → is_other_hash a.hash o ≡ true
+          → Forks a.word
       by None f h = absurd (true≢false (sym h))
       by (Some x) f h = record {
         hash = x;
-        there = shown_of_hash s a.number x some f;
-        forks = passed (λ q. differ (a.number, x) q) (book_shown b) (pair_of a)
+        there = shown_of_hash s a.word x some f;
+        forks = passed (λ q. differ (a.word, x) q) (book_shown b) (pair_of a)
             (shows b.evidence b.learned b.segments (pair_of a) (Learned a i refl))
-            (and_from (a.number == a.number) (not (is_same x a.hash)) (eq-eqb a.number a.number refl)
+            (and_from (a.word == a.word) (not (is_same x a.hash)) (eq-eqb a.word a.word refl)
             (other_side a.hash x h));
       }
 
@@ -395,9 +395,9 @@ module _ (b : Book) (s : SegmentParts) (fits : FitsTogether b) (one : HasOneHash
           absurd (omega (arith, past, number, ap (λ (p : Pair). p.0) same))
       by q number other (Exposing j) = absurd (no_evidence b.evidence q hidden j)
       by q number other (Learned a j same) =
-          let at : k ≡ a.number = number ∙ ap (λ (p : Pair). p.0) same in
+          let at : k ≡ a.word = number ∙ ap (λ (p : Pair). p.0) same in
           let hash : q.1 ≡ a.hash = ap (λ (p : Pair). p.1) same in
-          let there : segment_hash_at s a.number ≡ Some f.hash =
+          let there : segment_hash_at s a.word ≡ Some f.hash =
           ap (segment_hash_at s) (sym at) ∙ hash_of_shown s k f.hash some f.there in
           record {
             one = a;

@@ -84,7 +84,7 @@ module _ (b : Book) (few : KnowsFew b) where
 
   -- the end's number is greater by the entries of the segment that was filed
   filed_few : (ms : List Member) (s : State) (g : SegmentParts) (v : Verdict) → s ≡ b.end.state
-      → segment_verdict ms s g ≡ v → g.closing.number ≡ b.end.number + length g.entries
+      → segment_verdict ms s g ≡ v → g.closing.word ≡ b.end.number + length g.entries
       → KnowsFew (having_filed b g v)
   filed_few ms s g (Fault fault number) state is last = same_end (having_filed b g (Fault fault number)) refl
   filed_few ms s g (Sound t shown) state is last =
@@ -101,7 +101,7 @@ module _ (b : Book) (few : KnowsFew b) where
 
   -- the segment that is out ends so many entries above the end
   last_out : (j : JobParts) → FitsTogether b → IsOutOf b j
-      → j.segment.segment.closing.number ≡ b.end.number + length j.segment.segment.entries
+      → j.segment.segment.closing.word ≡ b.end.number + length j.segment.segment.entries
   last_out j fits out =
       let one : IsOne b.end.number j.segment.segment fits.tiles.more =
       subst (λ s. IsMore b.end.number (exposed b) s fits.tiles.more) out.at fits.tiles.rest in

@@ -48,25 +48,25 @@ use Rattle.witness_book_laws.proofs.Known.{charged, Known, first_same}
 
 -- what lies above a later number lies above an earlier one
 still_above : (end last : ℕ) (xs : List Authenticator) → end ≤ last
-    → filter (λ (a : Authenticator). nat_lt last a.number) (filter (λ a. nat_lt end a.number) xs)
-    ≡ filter (λ a. nat_lt last a.number) xs
+    → filter (λ (a : Authenticator). nat_lt last a.word) (filter (λ a. nat_lt end a.word) xs)
+    ≡ filter (λ a. nat_lt last a.word) xs
 still_above end last [] le = refl
 still_above end last (x ∷ xs) le =
-    by (nat_lt end x.number) refl (nat_lt last x.number) refl (still_above end last xs le)
+    by (nat_lt end x.word) refl (nat_lt last x.word) refl (still_above end last xs le)
   where
     rest : List Authenticator
-    rest = filter (λ (a : Authenticator). nat_lt end a.number) xs
+    rest = filter (λ (a : Authenticator). nat_lt end a.word) xs
 
     all : List Authenticator
-    all = filter (λ (a : Authenticator). nat_lt last a.number) xs
+    all = filter (λ (a : Authenticator). nat_lt last a.word) xs
 
-    by : (c : Bool) → nat_lt end x.number ≡ c → (d : Bool) → nat_lt last x.number ≡ d
-        → filter (λ (a : Authenticator). nat_lt last a.number) rest ≡ all
-        → filter (λ (a : Authenticator). nat_lt last a.number) (cond c (x ∷ rest) rest)
-        ≡ cond (nat_lt last x.number) (x ∷ all) all
-    by true e d f h = ap (λ l. cond (nat_lt last x.number) (x ∷ l) l) h
+    by : (c : Bool) → nat_lt end x.word ≡ c → (d : Bool) → nat_lt last x.word ≡ d
+        → filter (λ (a : Authenticator). nat_lt last a.word) rest ≡ all
+        → filter (λ (a : Authenticator). nat_lt last a.word) (cond c (x ∷ rest) rest)
+        ≡ cond (nat_lt last x.word) (x ∷ all) all
+    by true e d f h = ap (λ l. cond (nat_lt last x.word) (x ∷ l) l) h
     by false e true f h =
-        absurd (omega (arith, le, ltb-false end x.number e, ltb-true last x.number f))
+        absurd (omega (arith, le, ltb-false end x.word e, ltb-true last x.word f))
     by false e false f h = h ∙ ap (λ y. cond y (x ∷ all) all) (sym f)
 
 module _ (w : Watched) (past : Past) (b : Book) (d : DoneParts) (k : Known w past b)
@@ -86,7 +86,7 @@ module _ (w : Watched) (past : Past) (b : Book) (d : DoneParts) (k : Known w pas
       subst (IsAmong s) (sym (k.fits.tiles.are ∙ ap (λ l. k.fits.tiles.audited ++ l) one.is))
       (on_right s k.fits.tiles.audited (s ∷ []) (inl refl))
 
-  agrees : (a : Authenticator) → IsAmong a b.learned → a.number ≤ s.closing.number
+  agrees : (a : Authenticator) → IsAmong a b.learned → a.word ≤ s.closing.word
       → IsAmong (pair_of a) (segment_pairs s)
   agrees = subst (λ t. AgreesAt t b.learned) out k.fits.agrees
 
@@ -125,7 +125,7 @@ module _ (w : Watched) (past : Past) (b : Book) (d : DoneParts) (k : Known w pas
 
   fewer : HoldSame
       (showing_of b.evidence
-      (filter (λ (a : Authenticator). nat_lt s.closing.number a.number) b.learned) b.segments)
+      (filter (λ (a : Authenticator). nat_lt s.closing.word a.word) b.learned) b.segments)
       (showing_of b.evidence b.learned b.segments)
   fewer p = (
     λ i. shows b.evidence b.learned b.segments p (to (shower b.evidence less b.segments p i)),
@@ -133,27 +133,27 @@ module _ (w : Watched) (past : Past) (b : Book) (d : DoneParts) (k : Known w pas
   )
     where
       less : List Authenticator
-      less = filter (λ (a : Authenticator). nat_lt s.closing.number a.number) b.learned
+      less = filter (λ (a : Authenticator). nat_lt s.closing.word a.word) b.learned
 
       to : Shower b.evidence less b.segments p → Shower b.evidence b.learned b.segments p
       to (AtFirst same) = AtFirst same
       to (Exposing i) = Exposing i
       to (Learned a i same) =
-          Learned a (filtered (λ (c : Authenticator). nat_lt s.closing.number c.number) b.learned a i).0 same
+          Learned a (filtered (λ (c : Authenticator). nat_lt s.closing.word c.word) b.learned a i).0 same
       to (Segment t i j) = Segment t i j
 
-      by : (a : Authenticator) (c : Bool) → nat_lt s.closing.number a.number ≡ c → IsAmong a b.learned
+      by : (a : Authenticator) (c : Bool) → nat_lt s.closing.word a.word ≡ c → IsAmong a b.learned
           → p ≡ pair_of a → Shower b.evidence less b.segments p
       by a true e i same =
-          Learned a (passing (λ (c : Authenticator). nat_lt s.closing.number c.number) b.learned a i e) same
+          Learned a (passing (λ (c : Authenticator). nat_lt s.closing.word c.word) b.learned a i e) same
       by a false e i same =
           Segment s among (subst (λ q. IsAmong q (segment_pairs s)) (sym same)
-          (agrees a i (omega (arith, ltb-false s.closing.number a.number e))))
+          (agrees a i (omega (arith, ltb-false s.closing.word a.word e))))
 
       from : Shower b.evidence b.learned b.segments p → Shower b.evidence less b.segments p
       from (AtFirst same) = AtFirst same
       from (Exposing i) = Exposing i
-      from (Learned a i same) = by a (nat_lt s.closing.number a.number) refl i same
+      from (Learned a i same) = by a (nat_lt s.closing.word a.word) refl i same
       from (Segment t i j) = Segment t i j
 
   shown_same : (v : Verdict) → HoldSame (book_shown (having_filed b s v)) (shown w past)
@@ -165,20 +165,20 @@ module _ (w : Watched) (past : Past) (b : Book) (d : DoneParts) (k : Known w pas
           → HoldSame (showing_of b.evidence (learned_above s v b.learned) b.segments) (shown w past)
       by (Sound t found) =
           same_through
-          (showing_of b.evidence (filter (λ (a : Authenticator). nat_lt s.closing.number a.number) b.learned)
+          (showing_of b.evidence (filter (λ (a : Authenticator). nat_lt s.closing.word a.word) b.learned)
           b.segments)
           (showing_of b.evidence b.learned b.segments) (shown w past) fewer k.of.stands.pairs
       by (Fault fault number) = k.of.stands.pairs
 
   -- ---- what is kept
 
-  low : (end_of w past).number ≤ s.closing.number
-  low = subst (λ (e : End). e.number ≤ s.closing.number) k.of.stands.end (omega (arith, one.follows.some))
+  low : (end_of w past).number ≤ s.closing.word
+  low = subst (λ (e : End). e.number ≤ s.closing.word) k.of.stands.end (omega (arith, one.follows.some))
 
   -- what is kept after a verdict
   abbrev kept_by : Verdict → List Authenticator
   kept_by v =
-      filter (λ (a : Authenticator). nat_lt (moved_by (end_of w past) s.closing.number v).number a.number)
+      filter (λ (a : Authenticator). nat_lt (moved_by (end_of w past) s.closing.word v).number a.word)
       (noted_before w past)
 
   kept_is : (v : Verdict) → found_by ≡ v → kept w ((File d, Filed) ∷ past) ≡ kept_by v
@@ -190,9 +190,9 @@ module _ (w : Watched) (past : Past) (b : Book) (d : DoneParts) (k : Known w pas
     where
       by : (v : Verdict) → HoldSame (learned_above s v b.learned) (kept_by v)
       by (Sound t found) =
-          subst (HoldSame (filter (λ (a : Authenticator). nat_lt s.closing.number a.number) b.learned))
-          (still_above (end_of w past).number s.closing.number (noted_before w past) low)
-          (same_filter (λ (a : Authenticator). nat_lt s.closing.number a.number) b.learned (kept w past)
+          subst (HoldSame (filter (λ (a : Authenticator). nat_lt s.closing.word a.word) b.learned))
+          (still_above (end_of w past).number s.closing.word (noted_before w past) low)
+          (same_filter (λ (a : Authenticator). nat_lt s.closing.word a.word) b.learned (kept w past)
           k.of.stands.learned)
       by (Fault fault number) = k.of.stands.learned
 
@@ -202,15 +202,15 @@ module _ (w : Watched) (past : Past) (b : Book) (d : DoneParts) (k : Known w pas
       by : (v : Verdict) → NumbersDiffer (kept_by v)
       by (Sound t found) =
           subst NumbersDiffer
-          (still_above (end_of w past).number s.closing.number (noted_before w past) low)
-          (differ_filter (λ (a : Authenticator). nat_lt s.closing.number a.number)
+          (still_above (end_of w past).number s.closing.word (noted_before w past) low)
+          (differ_filter (λ (a : Authenticator). nat_lt s.closing.word a.word)
           (kept w past) k.kept_differ)
       by (Fault fault number) = k.kept_differ
 
   -- ---- its parts
 
   sends : (t : State) (found : List Authenticator) → found_by ≡ Sound t found
-      → SendsLieBelow t (s.closing.number + 1)
+      → SendsLieBelow t (s.closing.word + 1)
   sends t found is =
       let r = is_sound w.roster (end_of w past).state (placed_in s) t found is in
       let below : SendsLieBelow (end_of w past).state s.first =
@@ -223,9 +223,9 @@ module _ (w : Watched) (past : Past) (b : Book) (d : DoneParts) (k : Known w pas
   fits : (v : Verdict) → found_by ≡ v → FitsTogether (having_filed b s v)
   fits (Sound t found) is = record {
     above = λ a i.
-        ltb-true s.closing.number a.number
-        (filtered (λ (c : Authenticator). nat_lt s.closing.number c.number) b.learned a i).1;
-    differ = differ_filter (λ (c : Authenticator). nat_lt s.closing.number c.number) b.learned k.fits.differ;
+        ltb-true s.closing.word a.word
+        (filtered (λ (c : Authenticator). nat_lt s.closing.word c.word) b.learned a i).1;
+    differ = differ_filter (λ (c : Authenticator). nat_lt s.closing.word c.word) b.learned k.fits.differ;
     whole = k.fits.whole;
     tiles = record {
       audited = k.fits.tiles.audited ++ s ∷ [];
@@ -277,7 +277,7 @@ module _ (w : Watched) (past : Past) (b : Book) (d : DoneParts) (k : Known w pas
     of = record {
       node = k.of.node;
       stands = record {
-        end = ap₂ (λ (e : End) (told : Verdict). moved_by e s.closing.number told) k.of.stands.end (sym is);
+        end = ap₂ (λ (e : End) (told : Verdict). moved_by e s.closing.word told) k.of.stands.end (sym is);
         stage = refl;
         begun = k.of.stands.begun;
         learned = kept_same v is;

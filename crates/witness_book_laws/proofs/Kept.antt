@@ -6,6 +6,7 @@ use Rattle.std.proofs.Common.{filter, flat_map, Option, Some, None, refl, sym, a
 use Rattle.std.specs.Prelude.{option_map, option_and_then}
 use Rattle.std.specs.List.{AllByRecursion}
 use Rattle.authenticator.specs.declared.authenticator.Authenticator.{Authenticator}
+use Rattle.authenticator.specs.declared.member.LogVersion.TheVariants.{One}
 use Rattle.secure_log.specs.Segment.{SegmentParts, segment_pairs}
 use Rattle.secure_log.specs.LogEntries.Chain.{IsAmong}
 use Rattle.witness_laws.specs.evidence_spec.Showing.{ShowingParts}
@@ -36,16 +37,16 @@ all_by P (x ∷ xs) each = (each x (inl refl), all_by P xs (λ y i. each y (inr 
 
 -- one more with another number
 pub differ_more : (xs : List Authenticator) (a : Authenticator) → NumbersDiffer xs
-    → ((c : Authenticator) → IsAmong c xs → c.number ≢ a.number) → NumbersDiffer (xs ++ a ∷ [])
+    → ((c : Authenticator) → IsAmong c xs → c.word ≢ a.word) → NumbersDiffer (xs ++ a ∷ [])
 differ_more [] a d other = (tt, tt)
 differ_more (x ∷ xs) a d other = (
-  all_by (λ c. x.number ≢ c.number) (xs ++ a ∷ []) (λ c i. by c (split c xs (a ∷ []) i)),
+  all_by (λ c. x.word ≢ c.word) (xs ++ a ∷ []) (λ c i. by c (split c xs (a ∷ []) i)),
   differ_more xs a d.1 (λ c i. other c (inr i)),
 )
   where
-    by : (c : Authenticator) → IsAmong c xs ⊎ IsAmong c (a ∷ []) → x.number ≢ c.number
-    by c (inl i) = all_of (λ y. x.number ≢ y.number) xs c d.0 i
-    by c (inr (inl e)) = λ same. other x (inl refl) (same ∙ ap (λ (y : Authenticator). y.number) e)
+    by : (c : Authenticator) → IsAmong c xs ⊎ IsAmong c (a ∷ []) → x.word ≢ c.word
+    by c (inl i) = all_of (λ y. x.word ≢ y.word) xs c d.0 i
+    by c (inr (inl e)) = λ same. other x (inl refl) (same ∙ ap (λ (y : Authenticator). y.word) e)
     by c (inr (inr j)) = absurd j
 
 -- those that pass a test
@@ -57,8 +58,8 @@ differ_filter test (x ∷ xs) d = by (test x) (differ_filter test xs d.1)
     by : (b : Bool) → NumbersDiffer (filter test xs)
         → NumbersDiffer (cond b (x ∷ filter test xs) (filter test xs))
     by true rest = (
-      all_by (λ c. x.number ≢ c.number) (filter test xs)
-          (λ c i. all_of (λ y. x.number ≢ y.number) xs c d.0 (filtered test xs c i).0),
+      all_by (λ c. x.word ≢ c.word) (filter test xs)
+          (λ c i. all_of (λ y. x.word ≢ y.word) xs c d.0 (filtered test xs c i).0),
       rest,
     )
     by false rest = rest
@@ -66,15 +67,15 @@ differ_filter test (x ∷ xs) d = by (test x) (differ_filter test xs d.1)
 -- two with one number are one
 pub differ_one : (xs : List Authenticator) (x y : Authenticator) → NumbersDiffer xs → IsAmong x xs
     → IsAmong y xs
-    → x.number ≡ y.number → x ≡ y
+    → x.word ≡ y.word → x ≡ y
 differ_one [] x y d i j same = absurd i
 differ_one (z ∷ xs) x y d (inl e) (inl f) same = e ∙ sym f
 differ_one (z ∷ xs) x y d (inl e) (inr j) same =
-    absurd (all_of (λ c. z.number ≢ c.number) xs y d.0 j
-    (sym (ap (λ (c : Authenticator). c.number) e) ∙ same))
+    absurd (all_of (λ c. z.word ≢ c.word) xs y d.0 j
+    (sym (ap (λ (c : Authenticator). c.word) e) ∙ same))
 differ_one (z ∷ xs) x y d (inr i) (inl f) same =
-    absurd (all_of (λ c. z.number ≢ c.number) xs x d.0 i
-    (sym (ap (λ (c : Authenticator). c.number) f) ∙ sym same))
+    absurd (all_of (λ c. z.word ≢ c.word) xs x d.0 i
+    (sym (ap (λ (c : Authenticator). c.word) f) ∙ sym same))
 differ_one (z ∷ xs) x y d (inr i) (inr j) same = differ_one xs x y d.1 i j same
 
 -- ---- what is shown
@@ -147,18 +148,18 @@ fork_shows b new ps e h = by_number (first_fork ps (book_shown b)) refl
     of_charge c is k = sym (ap (λ (f : EvidenceParts). exposing_pairs (Some f)) (some_same k)) ∙ is
 
     by_old : (n : ℕ) (o : Option ShowingParts)
-        → evidence_of b (option_map (λ old. Fork (record { at = n; a = old; b = Some new })) o) ≡ Some e
+        → evidence_of b (option_map (λ old. Fork (record { log_version = One; at = n; a = old; b = Some new })) o) ≡ Some e
         → exposing_pairs (Some e) ≡ pair_of new.closing ∷ []
     by_old n None k = absurd (cc)
-    by_old n (Some old) k = of_charge (Fork (record { at = n; a = old; b = Some new })) refl k
+    by_old n (Some old) k = of_charge (Fork (record { log_version = One; at = n; a = old; b = Some new })) refl k
 
     by_zero : (n : ℕ) (z : Bool)
-        → evidence_of b (cond z (Some (Fork (record { at = 0; a = new; b = None })))
-        (option_map (λ old. Fork (record { at = n; a = old; b = Some new }))
+        → evidence_of b (cond z (Some (Fork (record { log_version = One; at = 0; a = new; b = None })))
+        (option_map (λ old. Fork (record { log_version = One; at = n; a = old; b = Some new }))
         (showing_before b.learned b.segments n)))
         ≡ Some e
         → exposing_pairs (Some e) ≡ pair_of new.closing ∷ []
-    by_zero n true k = of_charge (Fork (record { at = 0; a = new; b = None })) refl k
+    by_zero n true k = of_charge (Fork (record { log_version = One; at = 0; a = new; b = None })) refl k
     by_zero n false k = by_old n (showing_before b.learned b.segments n) k
 
     by_fork : (o : Option ℕ) → evidence_of b (option_and_then (fork_of b.learned b.segments new) o) ≡ Some e
@@ -284,7 +285,7 @@ uncut x xs before rest d within a i = by (split a before (x ∷ rest) (within a 
     by : IsAmong a before ⊎ IsAmong a (x ∷ rest) → IsAmong a (before ++ rest)
     by (inl j) = on_left a before rest j
     by (inr (inl e)) =
-        absurd (all_of (λ c. x.number ≢ c.number) xs a d.0 i (sym (ap (λ (c : Authenticator). c.number) e)))
+        absurd (all_of (λ c. x.word ≢ c.word) xs a d.0 i (sym (ap (λ (c : Authenticator). c.word) e)))
     by (inr (inr j)) = on_right a before rest j
 
 -- those whose numbers differ are no more than those among which they are

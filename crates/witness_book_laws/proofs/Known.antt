@@ -6,6 +6,7 @@ use Rattle.std.specs.Prelude.{is_some, option_map, option_and_then}
 use Rattle.std.proofs.lemmas.Bool.{and_parts, leb-true}
 use Rattle.authenticator.specs.declared.authenticator.Authenticator.{Authenticator}
 use Rattle.authenticator.specs.declared.member.Member.{Member}
+use Rattle.authenticator.specs.declared.member.LogVersion.TheVariants.{One}
 use Rattle.secure_log.specs.Segment.{SegmentParts}
 use Rattle.witness_laws.specs.evidence_spec.Showing.{ShowingParts}
 use Rattle.witness_laws.specs.evidence_spec.Evidence.{Charge, Fork, EvidenceParts}
@@ -81,32 +82,32 @@ module _ (w : Watched) (past : Past) (b : Book) where
       ap₂ (λ x r. cond x (Some p.0) r) (any_same (λ q. differ p q) xs ys same) (first_forks new xs ys same)
 
   found_learned : IsBookOf w past b → FitsTogether b → (n : ℕ)
-      → find (λ (a : Authenticator). a.number == n) b.learned ≡ find (λ a. a.number == n) (kept w past)
+      → find (λ (a : Authenticator). a.word == n) b.learned ≡ find (λ a. a.word == n) (kept w past)
   found_learned of fits n =
-      find_same (λ (a : Authenticator). a.number == n) b.learned (kept w past) of.stands.learned
+      find_same (λ (a : Authenticator). a.word == n) b.learned (kept w past) of.stands.learned
       (λ x y i j e f. differ_one b.learned x y fits.differ i j
-      (eqb-true x.number n e ∙ sym (eqb-true y.number n f)))
+      (eqb-true x.word n e ∙ sym (eqb-true y.word n f)))
 
   found_segment : IsBookOf w past b → FitsTogether b → (n : ℕ)
       → segment_holding n b.segments ≡ segment_holding n (all_accepted past)
   found_segment of fits n =
       let t = tiled b fits.tiles in
-      find_same (λ (s : SegmentParts). nat_le s.first n && nat_le n s.closing.number) b.segments
+      find_same (λ (s : SegmentParts). nat_le s.first n && nat_le n s.closing.word) b.segments
       (all_accepted past)
       of.stands.segments
       (λ x y i j e f. tile_one 1 b.segments t.next n t.tile x y i j (bounds x e) (bounds y f))
     where
-      bounds : (s : SegmentParts) → (nat_le s.first n && nat_le n s.closing.number) ≡ true
-          → (s.first ≤ n) × (n ≤ s.closing.number)
+      bounds : (s : SegmentParts) → (nat_le s.first n && nat_le n s.closing.word) ≡ true
+          → (s.first ≤ n) × (n ≤ s.closing.word)
       bounds s e =
-          let both = and_parts (nat_le s.first n) (nat_le n s.closing.number) e in
-          (leb-true s.first n both.0, leb-true n s.closing.number both.1)
+          let both = and_parts (nat_le s.first n) (nat_le n s.closing.word) e in
+          (leb-true s.first n both.0, leb-true n s.closing.word both.1)
 
   forks_same : IsBookOf w past b → FitsTogether b → (new : ShowingParts) (n : ℕ)
       → fork_of b.learned b.segments new n ≡ fork_of (kept w past) (all_accepted past) new n
   forks_same of fits new n =
-      ap (λ o. cond (n == 0) (Some (Fork (record { at = 0; a = new; b = None })))
-      (option_map (λ old. Fork (record { at = n; a = old; b = Some new })) o))
+      ap (λ o. cond (n == 0) (Some (Fork (record { log_version = One; at = 0; a = new; b = None })))
+      (option_map (λ old. Fork (record { log_version = One; at = n; a = old; b = Some new })) o))
       (ap₂ (λ a s. or_segment a s) (found_learned of fits n) (found_segment of fits n))
 
   then_same : (f g : ℕ → Option Charge) → ((n : ℕ) → f n ≡ g n) → (o : Option ℕ)

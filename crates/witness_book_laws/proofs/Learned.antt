@@ -7,6 +7,7 @@ use Rattle.std.proofs.Common.{ap, ap₂, subst, ◌∙◌, arith}
 use Rattle.std.specs.Prelude.{is_some}
 use Rattle.std.proofs.lemmas.Bool.{and_from, true≢false, ltb-true, ltb-false, lt-ltb}
 use Rattle.authenticator.specs.declared.authenticator.Authenticator.{Authenticator}
+use Rattle.authenticator.specs.declared.member.LogVersion.TheVariants.{One}
 use Rattle.authenticator.specs.Signing.{is_same}
 use Rattle.authenticator.proofs.Signed.{list_same}
 use Rattle.secure_log.specs.Segment.{segment_pairs}
@@ -45,36 +46,36 @@ pub record IsNew (b : Book) (a : Authenticator) : Type 0 where
   -- it wasn't shown
   pub new : IsAmong (pair_of a) (book_shown b) → ⊥
   -- a hash that was shown at its number is its own
-  pub one : (x : List ℕ) → IsAmong (a.number, x) (book_shown b) → x ≡ a.hash
+  pub one : (x : List ℕ) → IsAmong (a.word, x) (book_shown b) → x ≡ a.hash
 
 module _ (b : Book) (a : Authenticator) (fits : FitsTogether b) (is : IsNew b a) where
   -- no pair was shown at its number
-  none_there : (x : List ℕ) → IsAmong (a.number, x) (book_shown b) → ⊥
+  none_there : (x : List ℕ) → IsAmong (a.word, x) (book_shown b) → ⊥
   none_there x i =
-      is.new (subst (λ y. IsAmong (a.number, y) (book_shown b)) (is.one x i) i)
+      is.new (subst (λ y. IsAmong (a.word, y) (book_shown b)) (is.one x i) i)
 
   -- so it lies above the end
-  pub new_above : b.end.number < a.number
-  new_above = by (nat_lt b.end.number a.number) refl (nat_lt 0 a.number) refl
+  pub new_above : b.end.number < a.word
+  new_above = by (nat_lt b.end.number a.word) refl (nat_lt 0 a.word) refl
     where
-      at_zero : a.number ≡ 0 → ⊥
+      at_zero : a.word ≡ 0 → ⊥
       at_zero e =
           none_there first_pair.1 (inl (ap (λ (n : ℕ). (n, first_pair.1)) e))
 
-      low : a.number ≤ b.end.number → 0 < a.number → ⊥
+      low : a.word ≤ b.end.number → 0 < a.word → ⊥
       low le some =
-          let h = held b a.number fits.tiles (omega (arith, some)) le in
+          let h = held b a.word fits.tiles (omega (arith, some)) le in
           let w = fits.whole h.segment h.among in
-          let p = hash_at h.segment a.number w (omega (arith, h.from)) h.to in
+          let p = hash_at h.segment a.word w (omega (arith, h.from)) h.to in
           none_there p.hash
-          (shows b.evidence b.learned b.segments (a.number, p.hash) (Segment h.segment h.among p.there))
+          (shows b.evidence b.learned b.segments (a.word, p.hash) (Segment h.segment h.among p.there))
 
-      by : (x : Bool) → nat_lt b.end.number a.number ≡ x → (y : Bool) → nat_lt 0 a.number ≡ y
-          → b.end.number < a.number
-      by true e y f = ltb-true b.end.number a.number e
+      by : (x : Bool) → nat_lt b.end.number a.word ≡ x → (y : Bool) → nat_lt 0 a.word ≡ y
+          → b.end.number < a.word
+      by true e y f = ltb-true b.end.number a.word e
       by false e true f =
-          absurd (low (omega (arith, ltb-false b.end.number a.number e)) (ltb-true 0 a.number f))
-      by false e false f = absurd (at_zero (omega (arith, ltb-false 0 a.number f)))
+          absurd (low (omega (arith, ltb-false b.end.number a.word e)) (ltb-true 0 a.word f))
+      by false e false f = absurd (at_zero (omega (arith, ltb-false 0 a.word f)))
 
   -- it agrees with the segment that is out
   new_agrees : (s : Stage) → s ≡ b.stage → AgreesAt s b.learned → AgreesAt s (b.learned ++ a ∷ [])
@@ -96,17 +97,17 @@ module _ (b : Book) (a : Authenticator) (fits : FitsTogether b) (is : IsNew b a)
             r.follows.first,
           )
 
-      by : (x : Authenticator) → x.number ≤ c.segment.closing.number
+      by : (x : Authenticator) → x.word ≤ c.segment.closing.word
           → IsAmong x b.learned ⊎ IsAmong x (a ∷ []) → IsAmong (pair_of x) (segment_pairs c.segment)
       by x le (inl i) = old x i le
       by x le (inr (inr i)) = absurd i
       by x le (inr (inl same)) =
-          let number : x.number ≡ a.number = ap (λ (y : Authenticator). y.number) same in
-          let low : a.number ≤ c.segment.closing.number = omega (arith, le, number) in
-          let p = hash_at c.segment a.number (fits.whole c.segment there.0)
+          let number : x.word ≡ a.word = ap (λ (y : Authenticator). y.word) same in
+          let low : a.word ≤ c.segment.closing.word = omega (arith, le, number) in
+          let p = hash_at c.segment a.word (fits.whole c.segment there.0)
           (omega (arith, there.1, new_above)) low in
           absurd (none_there p.hash
-          (shows b.evidence b.learned b.segments (a.number, p.hash) (Segment c.segment there.0 p.there)))
+          (shows b.evidence b.learned b.segments (a.word, p.hash) (Segment c.segment there.0 p.there)))
 
 -- ---- the parts after it
 
@@ -147,13 +148,13 @@ module _ (b : Book) (a : Authenticator) (fits : FitsTogether b) where
     sends = fits.sends;
   }
     where
-      above : (x : Authenticator) → IsAmong x b.learned ⊎ IsAmong x (a ∷ []) → b.end.number < x.number
+      above : (x : Authenticator) → IsAmong x b.learned ⊎ IsAmong x (a ∷ []) → b.end.number < x.word
       above x (inl i) = fits.above x i
       above x (inr (inl e)) =
-          subst (λ (y : Authenticator). b.end.number < y.number) (sym e) (new_above b a fits is)
+          subst (λ (y : Authenticator). b.end.number < y.word) (sym e) (new_above b a fits is)
       above x (inr (inr i)) = absurd i
 
-      other : (c : Authenticator) → IsAmong c b.learned → c.number ≢ a.number
+      other : (c : Authenticator) → IsAmong c b.learned → c.word ≢ a.word
       other c i same =
           none_there b a fits is c.hash
           (subst (λ n. IsAmong (n, c.hash) (book_shown b)) same
@@ -167,8 +168,8 @@ module _ (w : Watched) (past : Past) (b : Book) (a : Authenticator)
   noted_evidence : evidence_noted b a ≡ evidence w ((Learn a, Noted) ∷ past)
   noted_evidence =
       first_same w past b k.of k.exposure
-      (fork_evidence b (authenticator_showing a) (pair_of a ∷ []))
-      _ (fork_same w past b k.of k.fits (authenticator_showing a) (pair_of a ∷ []))
+      (fork_evidence b (authenticator_showing One a) (pair_of a ∷ []))
+      _ (fork_same w past b k.of k.fits (authenticator_showing One a) (pair_of a ∷ []))
 
   abbrev l : List Authenticator
   l = learned_unless (evidence_noted b a) b.learned a
@@ -208,17 +209,17 @@ module _ (w : Watched) (past : Past) (b : Book) (a : Authenticator)
   kept_exposed : is_exposed w ((Learn a, Noted) ∷ past) ≡ true
       → kept w ((Learn a, Noted) ∷ past) ≡ kept w past
   kept_exposed is =
-      ap (λ x. filter (λ (c : Authenticator). nat_lt (end_of w past).number c.number)
+      ap (λ x. filter (λ (c : Authenticator). nat_lt (end_of w past).number c.word)
       (unless_exposed x (Some a) ++ noted_before w past)) is
 
   -- where the node isn't exposed after it, it is kept
-  kept_hidden : is_exposed w ((Learn a, Noted) ∷ past) ≡ false → (end_of w past).number < a.number
+  kept_hidden : is_exposed w ((Learn a, Noted) ∷ past) ≡ false → (end_of w past).number < a.word
       → kept w ((Learn a, Noted) ∷ past) ≡ a ∷ kept w past
   kept_hidden is above =
-      ap (λ x. filter (λ (c : Authenticator). nat_lt (end_of w past).number c.number)
+      ap (λ x. filter (λ (c : Authenticator). nat_lt (end_of w past).number c.word)
       (unless_exposed x (Some a) ++ noted_before w past)) is
       ∙ ap (λ x. cond x (a ∷ kept w past) (kept w past))
-      (lt-ltb (end_of w past).number a.number above)
+      (lt-ltb (end_of w past).number a.word above)
 
   keeps_old : l ≡ b.learned → is_exposed w ((Learn a, Noted) ∷ past) ≡ true
       → HoldSame l (kept w ((Learn a, Noted) ∷ past))
@@ -241,7 +242,7 @@ module _ (w : Watched) (past : Past) (b : Book) (a : Authenticator)
       (fits_exposed b a k.fits l (evidence_noted b a) same (λ h. ap (λ o. is_some o) now)) x
     where
       now : evidence_noted b a ≡ Some e
-      now = ap (λ o. first_evidence o (fork_evidence b (authenticator_showing a) (pair_of a ∷ []))) some
+      now = ap (λ o. first_evidence o (fork_evidence b (authenticator_showing One a) (pair_of a ∷ []))) some
 
       same : l ≡ b.learned
       same = ap (λ o. learned_unless o b.learned a) now
@@ -264,7 +265,7 @@ module _ (w : Watched) (past : Past) (b : Book) (a : Authenticator)
       (same_through (showing_of (Some e) b.learned b.segments)
       (pair_of a ∷ showing_of None b.learned b.segments) (pair_of a ∷ shown w past)
       (add_exposing e (pair_of a) b.learned b.segments
-      (fork_shows b (authenticator_showing a) (pair_of a ∷ []) e fork))
+      (fork_shows b (authenticator_showing One a) (pair_of a ∷ []) e fork))
       (same_after (pair_of a) (showing_of None b.learned b.segments) (shown w past)
       (subst (λ o. HoldSame (showing_of o b.learned b.segments) (shown w past)) none k.of.stands.pairs)))))
       (fits_exposed b a k.fits l (evidence_noted b a) same (λ h. ap (λ o. is_some o) there))
@@ -276,9 +277,9 @@ module _ (w : Watched) (past : Past) (b : Book) (a : Authenticator)
       same : l ≡ b.learned
       same = ap (λ o. learned_unless o b.learned a) there
 
-      fork : fork_evidence b (authenticator_showing a) (pair_of a ∷ []) ≡ Some e
+      fork : fork_evidence b (authenticator_showing One a) (pair_of a ∷ []) ≡ Some e
       fork =
-          sym (ap (λ o. first_evidence o (fork_evidence b (authenticator_showing a) (pair_of a ∷ []))) none)
+          sym (ap (λ o. first_evidence o (fork_evidence b (authenticator_showing One a) (pair_of a ∷ []))) none)
           ∙ there
 
   -- it is kept
@@ -291,7 +292,7 @@ module _ (w : Watched) (past : Past) (b : Book) (a : Authenticator)
       (subst (HoldSame (b.learned ++ a ∷ [])) (sym its_kept)
       (same_more a b.learned (kept w past) k.of.stands.learned)))
       (subst NumbersDiffer (sym its_kept)
-      (all_by (λ c. a.number ≢ c.number) (kept w past) (λ c i. other c i), k.kept_differ))
+      (all_by (λ c. a.word ≢ c.word) (kept w past) (λ c i. other c i), k.kept_differ))
       (subst (HoldSame (book_shown after)) (sym (shown_by false is))
       (subst (λ ps. HoldSame ps (pair_of a ∷ shown w past))
       (sym (ap₂ (λ o xs. showing_of o xs b.segments) (there ∙ sym none) same))
@@ -308,9 +309,9 @@ module _ (w : Watched) (past : Past) (b : Book) (a : Authenticator)
       same : l ≡ b.learned ++ a ∷ []
       same = ap (λ o. learned_unless o b.learned a) there
 
-      later : (x : List ℕ) → IsAmong (a.number, x) (shown w past)
-          → IsAmong (a.number, x) (shown w ((Learn a, Noted) ∷ past))
-      later x i = subst (IsAmong (a.number, x)) (sym (shown_by false is)) (inr i)
+      later : (x : List ℕ) → IsAmong (a.word, x) (shown w past)
+          → IsAmong (a.word, x) (shown w ((Learn a, Noted) ∷ past))
+      later x i = subst (IsAmong (a.word, x)) (sym (shown_by false is)) (inr i)
 
       its : IsAmong (pair_of a) (shown w ((Learn a, Noted) ∷ past))
       its = subst (IsAmong (pair_of a)) (sym (shown_by false is)) (inl refl)
@@ -320,19 +321,19 @@ module _ (w : Watched) (past : Past) (b : Book) (a : Authenticator)
         new = λ i.
             true≢false (sym (passed (λ q. same_pair (pair_of a) q) (shown w past) (pair_of a)
             ((k.of.stands.pairs (pair_of a)).0 i)
-            (and_from (a.number == a.number) (is_same a.hash a.hash) (eq-eqb a.number a.number refl)
+            (and_from (a.word == a.word) (is_same a.hash a.hash) (eq-eqb a.word a.word refl)
             (list_same a.hash a.hash refl))) ∙ unshown);
         one = λ x i.
-            one_shown w ((Learn a, Noted) ∷ past) now a.number x a.hash
-            (later x ((k.of.stands.pairs (a.number, x)).0 i)) its;
+            one_shown w ((Learn a, Noted) ∷ past) now a.word x a.hash
+            (later x ((k.of.stands.pairs (a.word, x)).0 i)) its;
       }
 
       its_kept : kept w ((Learn a, Noted) ∷ past) ≡ a ∷ kept w past
       its_kept =
-          kept_hidden now (subst (λ (e : End). e.number < a.number) k.of.stands.end
+          kept_hidden now (subst (λ (e : End). e.number < a.word) k.of.stands.end
           (new_above b a k.fits fresh))
 
-      other : (c : Authenticator) → IsAmong c (kept w past) → a.number ≢ c.number
+      other : (c : Authenticator) → IsAmong c (kept w past) → a.word ≢ c.word
       other c i same =
           none_there b a k.fits fresh c.hash
           (subst (λ n. IsAmong (n, c.hash) (book_shown b)) (sym same)

@@ -8,6 +8,7 @@ use Rattle.std.proofs.lemmas.Bool.{and_parts, true≢false, leb-false, lt-ltb}
 use Rattle.std.proofs.lemmas.List.Sums.{sum_by_from, sum_by-append}
 use Rattle.authenticator.specs.declared.authenticator.Authenticator.{Authenticator}
 use Rattle.authenticator.specs.declared.member.Member.{Member}
+use Rattle.authenticator.specs.declared.member.LogVersion.TheVariants.{One}
 use Rattle.authenticator.specs.Signing.{is_same}
 use Rattle.authenticator.proofs.Signed.{list_same}
 use Rattle.secure_log.specs.declared.log_entries.entry.Entry.{Entry}
@@ -146,7 +147,7 @@ module _ (b : Book) (lim : KeepsLimits b) where
     no_fork none = by (is_fork (pair_of a) (book_shown b)) refl
       where
         was : b.evidence ≡ None
-        was = hidden_of b.evidence (fork_evidence b (authenticator_showing a) (pair_of a ∷ [])) none
+        was = hidden_of b.evidence (fork_evidence b (authenticator_showing One a) (pair_of a ∷ [])) none
 
         there : (q : Pair) → IsAmong q (pair_of a ∷ book_shown b)
             → IsAmong q (book_shown (book_after b (Learn a) Noted))
@@ -159,11 +160,11 @@ module _ (b : Book) (lim : KeepsLimits b) where
         by false e = refl
         by true e =
             let r = passer (λ q. differ (pair_of a) q) (book_shown b) e in
-            let both = and_parts (a.number == r.one.0) (not (is_same a.hash r.one.1)) r.passes in
+            let both = and_parts (a.word == r.one.0) (not (is_same a.hash r.one.1)) r.passes in
             let same : a.hash ≡ r.one.1 =
-            one (ap (λ o. is_some o) none) a.number a.hash r.one.1 (there (pair_of a) (inl refl))
+            one (ap (λ o. is_some o) none) a.word a.hash r.one.1 (there (pair_of a) (inl refl))
             (subst (λ n. IsAmong (n, r.one.1) (book_shown (book_after b (Learn a) Noted)))
-            (sym (eqb-true a.number r.one.0 both.0)) (there r.one (inr r.among))) in
+            (sym (eqb-true a.word r.one.0 both.0)) (there r.one (inr r.among))) in
             absurd (true≢false (sym both.1 ∙ ap not (list_same a.hash r.one.1 same)))
 
     learned_few : (o : Option EvidenceParts) → now ≡ o → length (learned_unless now b.learned a) ≤ MAX_LEARNED
@@ -171,13 +172,13 @@ module _ (b : Book) (lim : KeepsLimits b) where
         omega (arith, lim.learned, ap (λ o. length (learned_unless o b.learned a)) is)
     learned_few None is =
         let was : b.evidence ≡ None =
-        hidden_of b.evidence (fork_evidence b (authenticator_showing a) (pair_of a ∷ [])) is in
+        hidden_of b.evidence (fork_evidence b (authenticator_showing One a) (pair_of a ∷ [])) is in
         let room = room_of (exposed b) (is_shown (pair_of a) (book_shown b)) (has_no_room b a)
         (ap (λ o. is_some o) was) told in
         let above = fits.above a (subst (λ o. IsAmong a (learned_unless o b.learned a)) (sym is)
         (on_right a b.learned (a ∷ []) (inl refl))) in
-        let few = few_of (is_fork (pair_of a) (book_shown b)) (nat_lt b.end.number a.number)
-        (nat_le MAX_LEARNED (length b.learned)) (no_fork is) (lt-ltb b.end.number a.number above) room in
+        let few = few_of (is_fork (pair_of a) (book_shown b)) (nat_lt b.end.number a.word)
+        (nat_le MAX_LEARNED (length b.learned)) (no_fork is) (lt-ltb b.end.number a.word above) room in
         omega (
           arith,
           ap (λ o. length (learned_unless o b.learned a)) is,
@@ -218,9 +219,9 @@ module _ (b : Book) (lim : KeepsLimits b) where
 
   -- what is filed leaves room
   filed_limits : (s : SegmentParts) (v : Verdict)
-      → (length b.outbox + (s.closing.number - b.end.number) ≤ MAX_OUTBOX)
-      → s.closing.number ≤ MAX_AUDITED → s.first ≡ b.end.number + 1
-      → s.closing.number + 1 ≡ s.first + length s.entries → length (sound_found v) ≤ length s.entries
+      → (length b.outbox + (s.closing.word - b.end.number) ≤ MAX_OUTBOX)
+      → s.closing.word ≤ MAX_AUDITED → s.first ≡ b.end.number + 1
+      → s.closing.word + 1 ≡ s.first + length s.entries → length (sound_found v) ≤ length s.entries
       → KeepsLimits (having_filed b s v)
   filed_limits s v room last first count few = by v few
     where
@@ -229,7 +230,7 @@ module _ (b : Book) (lim : KeepsLimits b) where
         learned = omega (
           arith,
           lim.learned,
-          fewer (λ (a : Authenticator). nat_lt s.closing.number a.number) b.learned,
+          fewer (λ (a : Authenticator). nat_lt s.closing.word a.word) b.learned,
         );
         challenges = lim.challenges;
         end = last;
@@ -279,7 +280,7 @@ module _ (b : Book) (lim : KeepsLimits b) where
   limits_on (SendChallenge e) r fits o few next one = lim
   limits_on (Answer c) Accepted fits o few next one =
       let w = was_wanted b.stage c o.told in
-      let at = at_stage (Wanted c.segment.first c.segment.closing.number) (Given c) w refl in
+      let at = at_stage (Wanted c.segment.first c.segment.closing.word) (Given c) w refl in
       record {
         learned = lim.learned;
         challenges = omega (

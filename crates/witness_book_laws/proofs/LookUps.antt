@@ -41,7 +41,7 @@ up_to before opening (e ∷ es) n x (inr i) =
 
 -- none has a number past its closing's
 not_past : (s : SegmentParts) (n : ℕ) (x : List ℕ) → IsWhole s → IsAmong (n, x) (segment_pairs s)
-    → n ≤ s.closing.number
+    → n ≤ s.closing.word
 not_past s n x w i =
     let back : s.first ≡ s.first - 1 + 1 = omega (arith, w.some) in
     omega (
@@ -77,7 +77,7 @@ among_some n ps x i h = by (find (λ (p : Pair). p.0 == n) ps) refl h
 
 module _ (b : Book) (fits : FitsTogether b) (n : ℕ) where
   abbrev holds : SegmentParts → Bool
-  holds s = nat_le s.first n && nat_le n s.closing.number
+  holds s = nat_le s.first n && nat_le n s.closing.word
 
   -- ---- what is looked up was shown
 
@@ -87,17 +87,17 @@ module _ (b : Book) (fits : FitsTogether b) (n : ℕ) where
   held_there (Some s) y e h =
       shows b.evidence b.learned b.segments (n, y)
       (Segment s (found holds b.segments s e).0 (among_there n (segment_pairs s) y h))
-  held_there None y e h = by (find (λ (a : Authenticator). a.number == n) b.learned) refl h
+  held_there None y e h = by (find (λ (a : Authenticator). a.word == n) b.learned) refl h
     where
-      by : (o : Option Authenticator) → find (λ (a : Authenticator). a.number == n) b.learned ≡ o
+      by : (o : Option Authenticator) → find (λ (a : Authenticator). a.word == n) b.learned ≡ o
           → ◌≡◌ {A = Option (List ℕ)} (option_map (λ (a : Authenticator). a.hash) o) (Some y)
           → IsAmong (n, y) (book_shown b)
       by None f k = absurd (cc)
       by (Some a) f k =
-          let r = found (λ (c : Authenticator). c.number == n) b.learned a f in
+          let r = found (λ (c : Authenticator). c.word == n) b.learned a f in
           let hash : y ≡ a.hash = sym (same_Some _ _ k) in
           shows b.evidence b.learned b.segments (n, y)
-          (Learned a r.0 (ap₂ (λ (m : ℕ) (x : List ℕ). (m, x)) (sym (eqb-true a.number n r.1)) hash))
+          (Learned a r.0 (ap₂ (λ (m : ℕ) (x : List ℕ). (m, x)) (sym (eqb-true a.word n r.1)) hash))
 
   looked : (y : List ℕ) → hash_shown b n ≡ Some y → IsAmong (n, y) (book_shown b)
   looked y h = by (n == 0) refl h
@@ -115,14 +115,14 @@ module _ (b : Book) (fits : FitsTogether b) (n : ℕ) where
     where
       by : (o : Option SegmentParts) → segment_holding n b.segments ≡ o → hash_held o b n ≡ None → ⊥
       by None e k =
-          true≢false (sym (and_from (nat_le h.segment.first n) (nat_le n h.segment.closing.number)
-          (le-leb h.segment.first n h.from) (le-leb n h.segment.closing.number h.to))
+          true≢false (sym (and_from (nat_le h.segment.first n) (nat_le n h.segment.closing.word)
+          (le-leb h.segment.first n h.from) (le-leb n h.segment.closing.word h.to))
           ∙ not_found holds b.segments h.segment e h.among)
       by (Some s) e k =
           let f = found holds b.segments s e in
-          let both = and_parts (nat_le s.first n) (nat_le n s.closing.number) f.1 in
+          let both = and_parts (nat_le s.first n) (nat_le n s.closing.word) f.1 in
           let p = hash_at s n (fits.whole s f.0) (omega (arith, leb-true s.first n both.0))
-          (leb-true n s.closing.number both.1) in
+          (leb-true n s.closing.word both.1) in
           among_some n (segment_pairs s) p.hash p.there k
 
   unfound : (x : List ℕ) → exposed b ≡ false → (n == 0) ≡ false → IsAmong (n, x) (book_shown b)
@@ -133,28 +133,28 @@ module _ (b : Book) (fits : FitsTogether b) (n : ℕ) where
       no_evidence None e i = i
       no_evidence (Some f) e i = true≢false e
 
-      no_learned : (a : Authenticator) → IsAmong a b.learned → n ≡ a.number
+      no_learned : (a : Authenticator) → IsAmong a b.learned → n ≡ a.word
           → (o : Option SegmentParts) → segment_holding n b.segments ≡ o → hash_held o b n ≡ None → ⊥
       no_learned a i same (Some s) e k = not_held x (found_held s e) (ap (λ o. hash_held o b n) e ∙ k)
         where
           found_held : (s : SegmentParts) → segment_holding n b.segments ≡ Some s → IsHeldIn b.segments n
           found_held s e =
               let f = found holds b.segments s e in
-              let both = and_parts (nat_le s.first n) (nat_le n s.closing.number) f.1 in
+              let both = and_parts (nat_le s.first n) (nat_le n s.closing.word) f.1 in
               record {
                 segment = s;
                 among = f.0;
                 from = leb-true s.first n both.0;
-                to = leb-true n s.closing.number both.1;
+                to = leb-true n s.closing.word both.1;
               }
-      no_learned a i same None e k = by_found (find (λ (c : Authenticator). c.number == n) b.learned) refl k
+      no_learned a i same None e k = by_found (find (λ (c : Authenticator). c.word == n) b.learned) refl k
         where
-          by_found : (o : Option Authenticator) → find (λ (c : Authenticator). c.number == n) b.learned ≡ o
+          by_found : (o : Option Authenticator) → find (λ (c : Authenticator). c.word == n) b.learned ≡ o
               → ◌≡◌ {A = Option (List ℕ)} (option_map (λ (c : Authenticator). c.hash) o) None → ⊥
           by_found (Some c) f h = absurd (cc)
           by_found None f h =
-              true≢false (sym (eq-eqb a.number n (sym same))
-              ∙ not_found (λ (c : Authenticator). c.number == n) b.learned a f i)
+              true≢false (sym (eq-eqb a.word n (sym same))
+              ∙ not_found (λ (c : Authenticator). c.word == n) b.learned a f i)
 
       in_segment : (s : SegmentParts) → IsAmong s b.segments → IsAmong (n, x) (segment_pairs s)
           → IsHeldIn b.segments n

@@ -81,7 +81,7 @@ module _ (w : Watched) (past : Past) where
   pub kept_stays : (p : Step × Reply) → noted p.0 p.1 ≡ None → filed p.0 p.1 ≡ None
       → kept w (p ∷ past) ≡ kept w past
   kept_stays p n f =
-      ap₂ (λ (e : End) (xs : List Authenticator). filter (λ a. nat_lt e.number a.number) xs)
+      ap₂ (λ (e : End) (xs : List Authenticator). filter (λ a. nat_lt e.number a.word) xs)
       (ap (end_after w.roster (end_of w past)) f)
       (ap (λ o. unless_exposed (is_exposed w (p ∷ past)) o ++ noted_before w past) n)
 

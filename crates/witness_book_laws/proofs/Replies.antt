@@ -34,10 +34,10 @@ use Rattle.witness_book_laws.proofs.Lists.{any_same, same_map, same_filter, max_
 reach_same : (end : ℕ) (xs ys : List Authenticator) → HoldSame xs ys
     → last_in_reach end xs ≡ last_in_reach end ys
 reach_same end xs ys same =
-    max_same (filter (λ n. nat_le n (end + MAX_ASKED)) (map (λ a. a.number) xs))
-    (filter (λ n. nat_le n (end + MAX_ASKED)) (map (λ a. a.number) ys))
-    (same_filter (λ n. nat_le n (end + MAX_ASKED)) (map (λ (a : Authenticator). a.number) xs)
-    (map (λ a. a.number) ys) (same_map (λ (a : Authenticator). a.number) xs ys same))
+    max_same (filter (λ n. nat_le n (end + MAX_ASKED)) (map (λ a. a.word) xs))
+    (filter (λ n. nat_le n (end + MAX_ASKED)) (map (λ a. a.word) ys))
+    (same_filter (λ n. nat_le n (end + MAX_ASKED)) (map (λ (a : Authenticator). a.word) xs)
+    (map (λ a. a.word) ys) (same_map (λ (a : Authenticator). a.word) xs ys same))
 
 ask_same : (is : Bool) (end waiting : ℕ) (xs ys : List Authenticator) → HoldSame xs ys
     → ask_reply is end waiting xs ≡ ask_reply is end waiting ys
@@ -60,12 +60,12 @@ module _ (w : Watched) (past : Past) (b : Book) (of : IsBookOf w past b)
       let there = any_same (λ q. same_pair (pair_of a) q) (book_shown b) (shown w past) of.stands.pairs in
       let fork = any_same (λ q. differ (pair_of a) q) (book_shown b) (shown w past) of.stands.pairs in
       let room : owing.has_no_room w past a ≡ not (is_fork (pair_of a) (book_shown b))
-      && (nat_lt b.end.number a.number && nat_le MAX_LEARNED (length b.learned)) =
-      ap (λ x. not x && (nat_lt (end_of w past).number a.number
+      && (nat_lt b.end.number a.word && nat_le MAX_LEARNED (length b.learned)) =
+      ap (λ x. not x && (nat_lt (end_of w past).number a.word
       && nat_le MAX_LEARNED (length (kept w past)))) (sym fork)
-      ∙ (ap (λ (e : End). not (is_fork (pair_of a) (book_shown b)) && (nat_lt e.number a.number
+      ∙ (ap (λ (e : End). not (is_fork (pair_of a) (book_shown b)) && (nat_lt e.number a.word
       && nat_le MAX_LEARNED (length (kept w past)))) (sym of.stands.end)
-      ∙ ap (λ n. not (is_fork (pair_of a) (book_shown b)) && (nat_lt b.end.number a.number
+      ∙ ap (λ n. not (is_fork (pair_of a) (book_shown b)) && (nat_lt b.end.number a.word
       && nat_le MAX_LEARNED n)) (sym count)) in
       ap (λ x. cond x Noted (cond (is_shown (pair_of a) (shown w past)) Already
       (cond (owing.has_no_room w past a) (Refused LearnedFull) Noted))) (sym is)

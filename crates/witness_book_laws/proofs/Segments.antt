@@ -34,7 +34,7 @@ last_place before opening (e ∷ es) =
     rest)
 
 -- each number of a segment, and the one before it, has a hash there
-pub hash_at : (s : SegmentParts) (n : ℕ) → IsWhole s → s.first ≤ n + 1 → n ≤ s.closing.number
+pub hash_at : (s : SegmentParts) (n : ℕ) → IsWhole s → s.first ≤ n + 1 → n ≤ s.closing.word
     → HasHash (segment_pairs s) n
 hash_at s n w low high =
     let back : s.first ≡ s.first - 1 + 1 = omega (arith, w.some) in
@@ -43,12 +43,12 @@ hash_at s n w low high =
     (omega (arith, low)) (omega (arith, high, w.count, w.some, length-links s.first s.entries))
 
 -- a segment that ends in its closing shows the closing's pair
-pub closes : (s : SegmentParts) → 0 < s.first → s.closing.number + 1 ≡ s.first + length s.entries
+pub closes : (s : SegmentParts) → 0 < s.first → s.closing.word + 1 ≡ s.first + length s.entries
     → s.closing.hash ≡ last_hash s.opening (links_from s.first s.entries)
     → IsAmong (pair_of s.closing) (segment_pairs s)
 closes s some count hash =
     let back : s.first - 1 + 1 ≡ s.first = omega (arith, some) in
-    let number : s.first - 1 + length s.entries ≡ s.closing.number = omega (arith, some, count) in
+    let number : s.first - 1 + length s.entries ≡ s.closing.word = omega (arith, some, count) in
     subst (λ p. IsAmong p (segment_pairs s))
     (ap₂ (λ (n : ℕ) (x : List ℕ). (n, x)) number (sym hash))
     (subst (λ k. IsAmong (s.first - 1 + length s.entries, last_hash s.opening (links_from k s.entries))
@@ -66,63 +66,63 @@ pub record IsHeldIn (segments : List SegmentParts) (n : ℕ) : Type 0 where
   -- the number isn't before its first
   pub from : segment.first ≤ n
   -- nor after its last
-  pub to : n ≤ segment.closing.number
+  pub to : n ≤ segment.closing.word
 
 -- one segment more
 pub tile_more : (first : ℕ) (ss : List SegmentParts) (end : ℕ) (s : SegmentParts) → Tile first ss (end + 1)
-    → Follows end s → Tile first (ss ++ s ∷ []) (s.closing.number + 1)
+    → Follows end s → Tile first (ss ++ s ∷ []) (s.closing.word + 1)
 tile_more first [] end s t f = (f.first ∙ sym t, omega (arith, f.some, t), refl)
-tile_more first (x ∷ ss) end s t f = (t.0, t.1, tile_more (x.closing.number + 1) ss end s t.2 f)
+tile_more first (x ∷ ss) end s t f = (t.0, t.1, tile_more (x.closing.word + 1) ss end s t.2 f)
 
 -- they go up
 pub tile_up : (first : ℕ) (ss : List SegmentParts) (next : ℕ) → Tile first ss next → first ≤ next
 tile_up first [] next t = omega (arith, t)
-tile_up first (x ∷ ss) next t = omega (arith, t.1, tile_up (x.closing.number + 1) ss next t.2)
+tile_up first (x ∷ ss) next t = omega (arith, t.1, tile_up (x.closing.word + 1) ss next t.2)
 
 -- each lies between the first number and the next
 pub tile_between : (first : ℕ) (ss : List SegmentParts) (next : ℕ) (s : SegmentParts) → Tile first ss next
-    → IsAmong s ss → (first ≤ s.first) × (s.closing.number < next)
+    → IsAmong s ss → (first ≤ s.first) × (s.closing.word < next)
 tile_between first [] next s t i = absurd i
 tile_between first (x ∷ ss) next s t (inl e) =
     let a : s.first ≡ x.first = ap (λ (y : SegmentParts). y.first) e in
-    let b : s.closing.number ≡ x.closing.number = ap (λ (y : SegmentParts). y.closing.number) e in
-    (omega (arith, a, t.0), omega (arith, b, tile_up (x.closing.number + 1) ss next t.2))
+    let b : s.closing.word ≡ x.closing.word = ap (λ (y : SegmentParts). y.closing.word) e in
+    (omega (arith, a, t.0), omega (arith, b, tile_up (x.closing.word + 1) ss next t.2))
 tile_between first (x ∷ ss) next s t (inr i) =
-    let r = tile_between (x.closing.number + 1) ss next s t.2 i in (omega (arith, r.0, t.1), r.1)
+    let r = tile_between (x.closing.word + 1) ss next s t.2 i in (omega (arith, r.0, t.1), r.1)
 
 -- each number between lies in one
 pub tile_holds : (first : ℕ) (ss : List SegmentParts) (next n : ℕ) → Tile first ss next → first ≤ n → n < next
     → IsHeldIn ss n
 tile_holds first [] next n t low high = absurd (omega (arith, t, low, high))
 tile_holds first (x ∷ ss) next n t low high =
-    by (nat_lt x.closing.number n) refl (λ more. tile_holds (x.closing.number + 1) ss next n t.2 more high)
+    by (nat_lt x.closing.word n) refl (λ more. tile_holds (x.closing.word + 1) ss next n t.2 more high)
   where
-    by : (b : Bool) → nat_lt x.closing.number n ≡ b → (x.closing.number + 1 ≤ n → IsHeldIn ss n)
+    by : (b : Bool) → nat_lt x.closing.word n ≡ b → (x.closing.word + 1 ≤ n → IsHeldIn ss n)
         → IsHeldIn (x ∷ ss) n
     by true e rest =
-        let r = rest (omega (arith, ltb-true x.closing.number n e)) in
+        let r = rest (omega (arith, ltb-true x.closing.word n e)) in
         record { segment = r.segment; among = inr r.among; from = r.from; to = r.to }
     by false e rest = record {
       segment = x;
       among = inl refl;
       from = omega (arith, t.0, low);
-      to = omega (arith, ltb-false x.closing.number n e);
+      to = omega (arith, ltb-false x.closing.word n e);
     }
 
 -- one alone holds a number
 pub tile_one : (first : ℕ) (ss : List SegmentParts) (next n : ℕ) → Tile first ss next → (x y : SegmentParts)
-    → IsAmong x ss → IsAmong y ss → (x.first ≤ n) × (n ≤ x.closing.number)
-    → (y.first ≤ n) × (n ≤ y.closing.number) → x ≡ y
+    → IsAmong x ss → IsAmong y ss → (x.first ≤ n) × (n ≤ x.closing.word)
+    → (y.first ≤ n) × (n ≤ y.closing.word) → x ≡ y
 tile_one first [] next n t x y i j f g = absurd i
 tile_one first (z ∷ ss) next n t x y (inl d) (inl e) f g = d ∙ sym e
 tile_one first (z ∷ ss) next n t x y (inl d) (inr j) f g =
-    let a : x.closing.number ≡ z.closing.number = ap (λ (s : SegmentParts). s.closing.number) d in
-    absurd (omega (arith, a, f.1, g.0, (tile_between (z.closing.number + 1) ss next y t.2 j).0))
+    let a : x.closing.word ≡ z.closing.word = ap (λ (s : SegmentParts). s.closing.word) d in
+    absurd (omega (arith, a, f.1, g.0, (tile_between (z.closing.word + 1) ss next y t.2 j).0))
 tile_one first (z ∷ ss) next n t x y (inr i) (inl e) f g =
-    let a : y.closing.number ≡ z.closing.number = ap (λ (s : SegmentParts). s.closing.number) e in
-    absurd (omega (arith, a, g.1, f.0, (tile_between (z.closing.number + 1) ss next x t.2 i).0))
+    let a : y.closing.word ≡ z.closing.word = ap (λ (s : SegmentParts). s.closing.word) e in
+    absurd (omega (arith, a, g.1, f.0, (tile_between (z.closing.word + 1) ss next x t.2 i).0))
 tile_one first (z ∷ ss) next n t x y (inr i) (inr j) f g =
-    tile_one (z.closing.number + 1) ss next n t.2 x y i j f g
+    tile_one (z.closing.word + 1) ss next n t.2 x y i j f g
 
 -- ---- the segments of a book
 
@@ -146,8 +146,8 @@ all_tiled end x s done more t rest = by s rest
 
     one : (c : SegmentParts) → IsOne end c more → IsTiled (done ++ more)
     one c o = record {
-      next = c.closing.number + 1;
-      tile = subst (λ l. Tile 1 (done ++ l) (c.closing.number + 1)) (sym o.is)
+      next = c.closing.word + 1;
+      tile = subst (λ l. Tile 1 (done ++ l) (c.closing.word + 1)) (sym o.is)
           (tile_more 1 done end c t o.follows);
     }
 
@@ -181,10 +181,10 @@ within_end : (first end : ℕ) (ss : List SegmentParts) → Tile first ss (end +
     → filter (λ s. is_audited end s) ss ≡ ss
 within_end first end [] t = refl
 within_end first end (x ∷ ss) t =
-    let low : x.closing.number ≤ end = omega (arith, tile_up (x.closing.number + 1) ss (end + 1) t.2) in
+    let low : x.closing.word ≤ end = omega (arith, tile_up (x.closing.word + 1) ss (end + 1) t.2) in
     ap (λ c. cond c (x ∷ filter (λ s. is_audited end s) ss) (filter (λ s. is_audited end s) ss))
-    (le-leb x.closing.number end low)
-    ∙ ap (λ l. x ∷ l) (within_end (x.closing.number + 1) end ss t.2)
+    (le-leb x.closing.word end low)
+    ∙ ap (λ l. x ∷ l) (within_end (x.closing.word + 1) end ss t.2)
 
 past_end : (end : ℕ) (x : Bool) (s : Stage) (more : List SegmentParts) → IsMore end x s more
     → filter (λ s. is_audited end s) more ≡ []
@@ -201,7 +201,7 @@ past_end end x s more rest = by s rest
     one c o =
         ap (λ l. filter (λ s. is_audited end s) l) o.is
         ∙ ap (λ b. cond b (c ∷ []) [])
-        (not_le c.closing.number (nat_le c.closing.number end) refl o.follows.some)
+        (not_le c.closing.word (nat_le c.closing.word end) refl o.follows.some)
 
     by : (s : Stage) → IsMore end x s more → filter (λ s. is_audited end s) more ≡ []
     by NoAudit (inl e) = none e
@@ -235,7 +235,7 @@ more_exposed end x y (Out c) more then r = r
 -- ---- one row of tiles
 
 head_first : (first : ℕ) (x : SegmentParts) (ss : List SegmentParts) (next : ℕ) → Tile first (x ∷ ss) next
-    → (x.first ≤ first) × (first ≤ x.closing.number)
+    → (x.first ≤ first) × (first ≤ x.closing.word)
 head_first first x ss next t = (omega (arith, t.0), t.1)
 
 rest_within : (first : ℕ) (x : SegmentParts) (xs ys : List SegmentParts) (n : ℕ) → Tile first (x ∷ xs) n
@@ -247,7 +247,7 @@ rest_within first x xs ys n t within s i = by (within s (inr i))
     by (inr j) = j
     by (inl e) =
         let a : s.first ≡ x.first = ap (λ (y : SegmentParts). y.first) e in
-        absurd (omega (arith, a, t.0, t.1, (tile_between (x.closing.number + 1) xs n s t.2 i).0))
+        absurd (omega (arith, a, t.0, t.1, (tile_between (x.closing.word + 1) xs n s t.2 i).0))
 
 -- segments that hold the same, and both follow on one another from one number on, are the same
 pub tiles_same : (first : ℕ) (xs ys : List SegmentParts) (n k : ℕ) → Tile first xs n → Tile first ys k
@@ -261,7 +261,7 @@ tiles_same first (x ∷ xs) (y ∷ ys) n k t u same =
     let v : Tile first (x ∷ ys) k = subst (λ z. Tile first (z ∷ ys) k) is u in
     let both : HoldSame (x ∷ xs) (x ∷ ys) = subst (λ z. HoldSame (x ∷ xs) (z ∷ ys)) is same in
     ap₂ (λ (z : SegmentParts) (zs : List SegmentParts). z ∷ zs) (sym is)
-    (tiles_same (x.closing.number + 1) xs ys n k t.2 v.2
+    (tiles_same (x.closing.word + 1) xs ys n k t.2 v.2
     (λ s. (
       rest_within first x xs ys n t (λ z. (both z).0) s,
       rest_within first x ys xs k v (λ z. (both z).1) s,

@@ -120,8 +120,8 @@ pub record Asks (b : Book) (first last : ℕ) : Type 0 where
 asked_same : (f l k n : ℕ) → Asked f l ≡ Asked k n → (f ≡ k) × (l ≡ n)
 asked_same f l k n h = (cc, cc)
 
-all_by : (end : ℕ) (xs : List Authenticator) → ((a : Authenticator) → IsAmong a xs → end < a.number)
-    → AllByRecursion (λ (a : Authenticator). end < a.number) xs
+all_by : (end : ℕ) (xs : List Authenticator) → ((a : Authenticator) → IsAmong a xs → end < a.word)
+    → AllByRecursion (λ (a : Authenticator). end < a.word) xs
 all_by end [] each = tt
 all_by end (x ∷ xs) each = (each x (inl refl), all_by end xs (λ a i. each a (inr i)))
 
@@ -234,21 +234,21 @@ out_of b j h = by b.stage refl
 
 -- an answer that is accepted is what was asked for
 pub was_wanted : (s : Stage) (c : ClosedParts) → Accepted ≡ answer_reply s c
-    → s ≡ Wanted c.segment.first c.segment.closing.number
+    → s ≡ Wanted c.segment.first c.segment.closing.word
 was_wanted NoAudit c h = absurd (cc)
 was_wanted (Given d) c h = absurd (cc)
 was_wanted (Out d) c h = absurd (cc)
 was_wanted (Wanted f l) c h =
-    by ((c.segment.first == f) && (c.segment.closing.number == l)) refl h
+    by ((c.segment.first == f) && (c.segment.closing.word == l)) refl h
   where
-    by : (x : Bool) → ((c.segment.first == f) && (c.segment.closing.number == l)) ≡ x
+    by : (x : Bool) → ((c.segment.first == f) && (c.segment.closing.word == l)) ≡ x
         → Accepted ≡ cond x Accepted (Refused NotAsked)
-        → Wanted f l ≡ Wanted c.segment.first c.segment.closing.number
+        → Wanted f l ≡ Wanted c.segment.first c.segment.closing.word
     by false e k = absurd (cc)
     by true e k =
-        let both = and_parts (c.segment.first == f) (c.segment.closing.number == l) e in
+        let both = and_parts (c.segment.first == f) (c.segment.closing.word == l) e in
         ap₂ (λ x y. Wanted x y) (sym (eqb-true c.segment.first f both.0))
-        (sym (eqb-true c.segment.closing.number l both.1))
+        (sym (eqb-true c.segment.closing.word l both.1))
 
 -- what comes back is the job that is out
 pub returned_is : (x : Bool) (o : Option JobParts) (good wrong none : Reply) → (good ≡ wrong → ⊥)
@@ -417,16 +417,16 @@ module _ (w : Watched) (past : Past) (b : Book) (k : Known w past b) where
       let among : IsAmong c.segment b.segments =
       subst (IsAmong c.segment) (sym (k.fits.tiles.are ∙ ap (λ l. k.fits.tiles.audited ++ l) one.is))
       (on_right c.segment k.fits.tiles.audited (c.segment ∷ []) (inl refl)) in
-      let p = hash_at c.segment a.number (k.fits.whole c.segment among)
+      let p = hash_at c.segment a.word (k.fits.whole c.segment among)
       (omega (arith, one.follows.first, k.fits.above a i)) le in
       let its = (k.of.stands.pairs (pair_of a)).0
       (shows b.evidence b.learned b.segments (pair_of a) (Learned a i refl)) in
-      let there = (k.of.stands.pairs (a.number, p.hash)).0
-      (shows b.evidence b.learned b.segments (a.number, p.hash) (Segment c.segment among p.there)) in
+      let there = (k.of.stands.pairs (a.word, p.hash)).0
+      (shows b.evidence b.learned b.segments (a.word, p.hash) (Segment c.segment among p.there)) in
       let same : p.hash ≡ a.hash =
       one_shown w past (sym (exposed_same w past b k.of k.exposure) ∙ hidden)
-      a.number p.hash a.hash there its in
-      subst (λ x. IsAmong (a.number, x) (segment_pairs c.segment)) same p.there
+      a.word p.hash a.hash there its in
+      subst (λ x. IsAmong (a.word, x) (segment_pairs c.segment)) same p.there
 
   begun_one : (r : Reply) → r ≡ reply_to_begin b b.stage → Exposure w ((Begin, r) ∷ past)
       → Known w ((Begin, r) ∷ past) (after_begin b r)

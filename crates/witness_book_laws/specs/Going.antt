@@ -3,6 +3,7 @@ use Rattle.std.specs.Prelude.{◌+◌, not, nat_lt, List, [], ◌∷◌, ◌++�
 use Rattle.std.specs.Prelude.{Option, Some, None, option_map, option_and_then}
 use Rattle.authenticator.specs.declared.authenticator.Authenticator.{Authenticator}
 use Rattle.authenticator.specs.declared.member.Member.{Member}
+use Rattle.authenticator.specs.declared.member.LogVersion.TheVariants.{One}
 use Rattle.secure_log.specs.LogEntries.Chain.{zeros}
 use Rattle.secure_log.specs.Segment.{SegmentParts, ClosedParts}
 use Rattle.envelopes.specs.Acknowledgement.{acked_message}
@@ -55,7 +56,7 @@ verdict_charge b s (Fault fault number) = Some (Replay (audited_with b s))
 
 -- the evidence after an authenticator that was noted
 abbrev pub evidence_noted : Book → Authenticator → Option EvidenceParts
-evidence_noted b a = first_evidence b.evidence (fork_evidence b (authenticator_showing a) (pair_of a ∷ []))
+evidence_noted b a = first_evidence b.evidence (fork_evidence b (authenticator_showing One a) (pair_of a ∷ []))
 
 -- the evidence after a segment that was accepted
 abbrev pub evidence_accepted : Book → SegmentParts → Option EvidenceParts

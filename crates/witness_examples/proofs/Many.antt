@@ -8,6 +8,7 @@ use Rattle.std.specs.Prelude.{option_map, option_and_then}
 use Rattle.std.proofs.lemmas.Bool.{and_left, or_from, true≢false}
 use Rattle.std.proofs.lemmas.Bool.Decides.{nat_tests}
 use Rattle.authenticator.specs.declared.authenticator.Authenticator.{Authenticator}
+use Rattle.authenticator.specs.declared.member.LogVersion.TheVariants.{One}
 use Rattle.witness_spec.specs.Refusals.{LearnedFull}
 use Rattle.witness_spec.specs.Replies.{Reply, Noted, Already, Refused}
 use Rattle.witness_spec.specs.Pairs.{Pair, first_pair, pair_of, first_fork, same_pair, differ, is_shown}
@@ -86,13 +87,13 @@ noted_is zero = refl
 noted_is (suc n) =
     ap₂ (λ b s. unless_exposed b (Some (learned (suc n) one_hash)) ++ s) (not_exposed (suc n)) (noted_is n)
 
-all_above : (n : ℕ) → filter (λ a. nat_lt 0 a.number) (list_to n) ≡ list_to n
+all_above : (n : ℕ) → filter (λ a. nat_lt 0 a.word) (list_to n) ≡ list_to n
 unfolding list_to
 all_above zero = refl
 all_above (suc n) =
     let front = learned (suc n) one_hash in
-    ap (λ b. cond b (front ∷ filter (λ a. nat_lt 0 a.number) (list_to n))
-    (filter (λ a. nat_lt 0 a.number) (list_to n)))
+    ap (λ b. cond b (front ∷ filter (λ a. nat_lt 0 a.word) (list_to n))
+    (filter (λ a. nat_lt 0 a.word) (list_to n)))
     (lt-ltb 0 (suc n) (omega arith))
     ∙ ap (λ s. front ∷ s) (all_above n)
 
@@ -103,7 +104,7 @@ length_list (suc n) = ap suc (length_list n)
 
 kept_count : (n : ℕ) → length (kept node_five (learned_to n)) ≡ n
 kept_count n =
-    ap₂ (λ (e : ℕ) (s : List Authenticator). length (filter (λ a. nat_lt e a.number) s)) (end_is n)
+    ap₂ (λ (e : ℕ) (s : List Authenticator). length (filter (λ a. nat_lt e a.word) s)) (end_is n)
     (noted_is n)
     ∙ (ap length (all_above n) ∙ length_list n)
 
@@ -202,25 +203,25 @@ against o = option_map (λ g. record { node = 5; charge = g }) o
 evidence_after : (past : Past) (a : Authenticator) (k : List Authenticator) (s : List Pair)
     → is_exposed node_five past ≡ false → kept node_five past ≡ k → shown node_five past ≡ s
     → evidence node_five ((Learn a, Noted) ∷ past)
-    ≡ against (option_and_then (fork_of k (all_accepted past) (authenticator_showing a))
+    ≡ against (option_and_then (fork_of k (all_accepted past) (authenticator_showing One a))
     (first_fork (pair_of a ∷ []) s))
 evidence_after past a k s hidden is there =
     ap (λ b. cond b (evidence node_five past) (against (new_charge node_five past (Learn a) Noted))) hidden
-    ∙ ap₂ (λ l ps. against (option_and_then (fork_of l (all_accepted past) (authenticator_showing a))
+    ∙ ap₂ (λ l ps. against (option_and_then (fork_of l (all_accepted past) (authenticator_showing One a))
     (first_fork (pair_of a ∷ []) ps))) is there
 
 kept_is : kept node_five (learned_to 256) ≡ list_to 256
 kept_is =
-    ap₂ (λ (e : ℕ) (s : List Authenticator). filter (λ a. nat_lt e a.number) s) (end_is 256) (noted_is 256)
+    ap₂ (λ (e : ℕ) (s : List Authenticator). filter (λ a. nat_lt e a.word) s) (end_is 256) (noted_is 256)
     ∙ all_above 256
 
 abbrev two_at_three : EvidenceParts
 two_at_three =
-    forked 3 (authenticator_showing (learned 3 one_hash))
-    (Some (authenticator_showing (learned 3 other_hash)))
+    forked 3 (authenticator_showing One (learned 3 one_hash))
+    (Some (authenticator_showing One (learned 3 other_hash)))
 
 worked_out : (segments : List SegmentParts)
-    → against (option_and_then (fork_of (list_to 256) segments (authenticator_showing (learned 3 other_hash)))
+    → against (option_and_then (fork_of (list_to 256) segments (authenticator_showing One (learned 3 other_hash)))
     (first_fork (pair_of (learned 3 other_hash) ∷ []) (pairs_to 256))) ≡ Some two_at_three
 unfolding pairs_to list_to
 worked_out segments = refl

@@ -14,7 +14,7 @@ pathless = record { leaf = 0; shown = zero_bytes 8_192; other = zero_bytes 8_192
 
 -- an authenticator of a node with that signature
 abbrev pub forged : (node : ℕ) → Authenticator
-forged node = record { node = node; number = 3; hash = zero_bytes 32; signature = pathless }
+forged node = record { node = node; word = 3; hash = zero_bytes 32; signature = pathless }
 
 -- the packet that delivers it
 abbrev pub forged_packet : (node : ℕ) → List ℕ

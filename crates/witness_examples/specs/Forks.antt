@@ -14,10 +14,11 @@ use Rattle.witness_spec.specs.Replies.{Noted, Accepted, Asked, Job, Filed}
 use Rattle.witness_spec.specs.Steps.{Learn, Answer, Audit, Begin, File, Past}
 use Rattle.witness_examples.specs.Worked.{learned, one_hash, other_hash, closed, filed_two, learned_to}
 use Rattle.witness_examples.specs.Worked.{state_read}
+use Rattle.authenticator.specs.declared.member.LogVersion.TheVariants.{One}
 
 -- that a number has two hashes
 abbrev pub forked : (at : ℕ) (a : ShowingParts) (b : Option ShowingParts) → EvidenceParts
-forked at a b = record { node = 5; charge = Fork (record { at = at; a = a; b = b }) }
+forked at a b = record { node = 5; charge = Fork (record { log_version = One; at = at; a = a; b = b }) }
 
 -- a hash at 0 that isn't 32 zero bytes
 abbrev pub zero_forked : Past

@@ -57,7 +57,7 @@ second = record { node = 6; kind = Client; root = 6 ∷ []; height = 1; log_vers
 
 -- its authenticator of a hash at a number
 abbrev pub learned : (number : ℕ) (hash : List ℕ) → Authenticator
-learned number hash = record { node = 5; number = number; hash = hash; signature = no_signature }
+learned number hash = record { node = 5; word = number; hash = hash; signature = no_signature }
 
 -- a message of another client to it
 abbrev pub sent : (seq : ℕ) → Envelope
@@ -86,9 +86,10 @@ abbrev pub fork_at_three : EvidenceParts
 fork_at_three = record {
   node = 5;
   charge = Fork (record {
+    log_version = One;
     at = 3;
-    a = authenticator_showing (learned 3 one_hash);
-    b = Some (authenticator_showing (learned 3 other_hash));
+    a = authenticator_showing One (learned 3 one_hash);
+    b = Some (authenticator_showing One (learned 3 other_hash));
   });
 }
 

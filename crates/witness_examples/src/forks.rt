@@ -15,6 +15,7 @@ ghost use Rattle.witness_examples.specs.Forks.{two_given, segment_forked, audite
 ghost use Rattle.witness_examples.specs.Forks.{later_segment, later_closed, later_wanted, opening_forked};
 ghost use Rattle.witness_examples.specs.Forks.{two_filed, below_forked, end_forked};
 ghost use Rattle.witness_examples.specs.Reaching.{Reaches};
+ghost use Rattle.authenticator.specs.declared.member.LogVersion.TheVariants.{One};
 
 /// At number 0 every log has 32 zero bytes: an authenticator of another hash there exposes, by itself.
 #[tactic(auto, unfolding(secure_log::specs::LogEntries::Chain::zeros))]
@@ -22,7 +23,7 @@ pub fn at_zero()
     ensures noted { Reaches node_five [] (Learn (learned 0 one_hash)) Noted }
     ensures exposed { Reaches node_five zero_forked (Ask ItsIndication) (Told Exposed) }
     ensures evidence { Reaches node_five zero_forked (Ask ItsEvidence)
-        (EvidenceIs (Some (forked 0 (authenticator_showing (learned 0 one_hash)) None))) }
+        (EvidenceIs (Some (forked 0 (authenticator_showing One (learned 0 one_hash)) None))) }
 {}
 
 /// A segment is accepted that has another hash than was learned at its number: the node is Exposed, by the
@@ -33,7 +34,7 @@ pub fn by_an_answer()
     ensures accepted { Reaches node_five answer_wanted (Answer closed) Accepted }
     ensures exposed { Reaches node_five answer_forked (Ask ItsIndication) (Told Exposed) }
     ensures evidence { Reaches node_five answer_forked (Ask ItsEvidence)
-        (EvidenceIs (Some (forked 1 (authenticator_showing (learned 1 one_hash))
+        (EvidenceIs (Some (forked 1 (authenticator_showing One (learned 1 one_hash))
         (Some (segment_showing segment))))) }
 {}
 
@@ -44,11 +45,11 @@ pub fn of_a_segment()
     ensures noted { Reaches node_five two_given (Learn (learned 1 one_hash)) Noted }
     ensures evidence { Reaches node_five segment_forked (Ask ItsEvidence)
         (EvidenceIs (Some (forked 1 (segment_showing two_segment)
-        (Some (authenticator_showing (learned 1 one_hash)))))) }
+        (Some (authenticator_showing One (learned 1 one_hash)))))) }
     ensures exposed { Reaches node_five audited_forked (Ask ItsIndication) (Told Exposed) }
     ensures later { Reaches node_five audited_forked (Ask ItsEvidence)
         (EvidenceIs (Some (forked 1 (segment_showing segment)
-        (Some (authenticator_showing (learned 1 one_hash)))))) }
+        (Some (authenticator_showing One (learned 1 one_hash)))))) }
 {}
 
 /// After an audit up to 1 a segment from 2 on is accepted whose opening isn't the hash at 1: the node is
@@ -70,12 +71,12 @@ pub fn up_to_the_end()
     ensures exposed { Reaches node_five below_forked (Ask ItsIndication) (Told Exposed) }
     ensures evidence { Reaches node_five below_forked (Ask ItsEvidence)
         (EvidenceIs (Some (forked 1 (segment_showing two_segment)
-        (Some (authenticator_showing (learned 1 one_hash)))))) }
+        (Some (authenticator_showing One (learned 1 one_hash)))))) }
     ensures unkept { kept node_five below_forked ≡ [] }
     ensures at { Reaches node_five two_filed (Learn (learned 2 one_hash)) Noted }
     ensures at_evidence { Reaches node_five end_forked (Ask ItsEvidence)
         (EvidenceIs (Some (forked 2 (segment_showing two_segment)
-        (Some (authenticator_showing (learned 2 one_hash)))))) }
+        (Some (authenticator_showing One (learned 2 one_hash)))))) }
 {}
 
 /// After 256 authenticators that are kept another hash at a number of theirs is Noted, and exposes; from
@@ -85,7 +86,7 @@ pub fn after_as_many_as_are_kept()
     ensures noted { Reaches node_five (learned_to 256) (Learn (learned 3 other_hash)) Noted }
     ensures exposed { Reaches node_five full_forked (Ask ItsIndication) (Told Exposed) }
     ensures evidence { Reaches node_five full_forked (Ask ItsEvidence) (EvidenceIs (Some
-        (forked 3 (authenticator_showing (learned 3 one_hash))
-        (Some (authenticator_showing (learned 3 other_hash)))))) }
+        (forked 3 (authenticator_showing One (learned 3 one_hash))
+        (Some (authenticator_showing One (learned 3 other_hash)))))) }
     ensures later { Reaches node_five full_forked (Learn (learned 257 one_hash)) Noted }
 {}

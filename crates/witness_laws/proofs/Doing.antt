@@ -47,7 +47,7 @@ pub data Doing (w : Watched) (past : Past) (p : Step × Reply) : Type 0 where
   Notes : (a : Authenticator) → p.0 ≡ Learn a → Did past p (Some a) None None (stage_of past)
       → Doing w past p
   Accepts : (c : ClosedParts) → p.0 ≡ Answer c
-      → stage_of past ≡ Wanted c.segment.first c.segment.closing.number
+      → stage_of past ≡ Wanted c.segment.first c.segment.closing.word
       → Did past p None (Some c) None (Given c) → Doing w past p
   Asks : (first last : ℕ) → first ≡ (end_of w past).number + 1
       → (last ≤ MAX_AUDITED) × IsInReach first last × IsNumberOf (kept w past) last
@@ -69,12 +69,12 @@ module _ (w : Watched) (past : Past) where
       Notes a refl (record { notes = refl; accepts = refl; files = refl; stage = refl })
 
   answered : (c : ClosedParts) (first last : ℕ) (b : Bool) → stage_of past ≡ Wanted first last
-      → ((c.segment.first == first) && (c.segment.closing.number == last)) ≡ b
+      → ((c.segment.first == first) && (c.segment.closing.word == last)) ≡ b
       → Doing w past (Answer c, cond b Accepted (Refused refusals.NotAsked))
   answered c first last true is e =
-      let both = and_parts (c.segment.first == first) (c.segment.closing.number == last) e in
+      let both = and_parts (c.segment.first == first) (c.segment.closing.word == last) e in
       let one : c.segment.first ≡ first = eqb-true c.segment.first first both.0 in
-      let other : c.segment.closing.number ≡ last = eqb-true c.segment.closing.number last both.1 in
+      let other : c.segment.closing.word ≡ last = eqb-true c.segment.closing.word last both.1 in
       Accepts c refl (is ∙ (ap (λ n. Wanted n last) (sym one)
       ∙ ap (λ n. Wanted c.segment.first n) (sym other)))
       (record { notes = refl; accepts = refl; files = refl; stage = refl })
@@ -84,7 +84,7 @@ module _ (w : Watched) (past : Past) where
   answers : (c : ClosedParts) (s : Stage) → stage_of past ≡ s → Doing w past (Answer c, answer_reply s c)
   answers c NoAudit is = Nothing (record { notes = refl; accepts = refl; files = refl; stage = refl })
   answers c (Wanted first last) is =
-      answered c first last ((c.segment.first == first) && (c.segment.closing.number == last)) is refl
+      answered c first last ((c.segment.first == first) && (c.segment.closing.word == last)) is refl
   answers c (Given d) is = Nothing (record { notes = refl; accepts = refl; files = refl; stage = refl })
   answers c (Out d) is = Nothing (record { notes = refl; accepts = refl; files = refl; stage = refl })
 
@@ -107,7 +107,7 @@ module _ (w : Watched) (past : Past) where
 
   asks : (exposed : Bool) (waiting : ℕ) (learned : List Authenticator)
       → ((a : Authenticator) → IsAmong a learned → IsAmong a (kept w past))
-      → AllByRecursion (λ a. (end_of w past).number < a.number) learned
+      → AllByRecursion (λ a. (end_of w past).number < a.word) learned
       → Doing w past (Audit, ask_reply exposed (end_of w past).number waiting learned)
   asks true waiting learned within all =
       Nothing (record { notes = refl; accepts = refl; files = refl; stage = refl })

@@ -27,7 +27,7 @@ pub record IsNumberOf (learned : List Authenticator) (number : ℕ) : Type 0 whe
   -- it is among these
   pub among : IsAmong authenticator learned
   -- it has the number
-  pub is : authenticator.number ≡ number
+  pub is : authenticator.word ≡ number
 
 -- none, or a number of these after an end that an audit can reach
 abbrev Reached : (all : List Authenticator) (end n : ℕ) → Type 0
@@ -57,23 +57,23 @@ module _ (all : List Authenticator) (end : ℕ) where
 
   all_reached : (n : ℕ) (learned : List Authenticator) → Reached all end n
       → ((a : Authenticator) → IsAmong a learned → IsAmong a all)
-      → AllByRecursion (λ a. end < a.number) learned
-      → Reached all end (fold max n (filter (λ k. nat_le k (end + MAX_ASKED)) (map (λ a. a.number) learned)))
+      → AllByRecursion (λ a. end < a.word) learned
+      → Reached all end (fold max n (filter (λ k. nat_le k (end + MAX_ASKED)) (map (λ a. a.word) learned)))
   all_reached n [] h within behind = h
   all_reached n (a ∷ learned) h within behind =
-      by (nat_le a.number (end + MAX_ASKED)) refl
-      (filter (λ k. nat_le k (end + MAX_ASKED)) (map (λ b. b.number) learned))
+      by (nat_le a.word (end + MAX_ASKED)) refl
+      (filter (λ k. nat_le k (end + MAX_ASKED)) (map (λ b. b.word) learned))
       (λ k r. all_reached k learned r (λ b i. within b (inr i)) behind.1)
     where
-      by : (c : Bool) → nat_le a.number (end + MAX_ASKED) ≡ c → (rest : List ℕ)
+      by : (c : Bool) → nat_le a.word (end + MAX_ASKED) ≡ c → (rest : List ℕ)
           → ((k : ℕ) → Reached all end k → Reached all end (fold max k rest))
-          → Reached all end (fold max n (cond c (a.number ∷ rest) rest))
+          → Reached all end (fold max n (cond c (a.word ∷ rest) rest))
       by true e rest more =
-          more (max n a.number)
-          (greater_reached n a.number h
+          more (max n a.word)
+          (greater_reached n a.word h
           (inr (
             behind.0,
-            leb-true a.number (end + MAX_ASKED) e,
+            leb-true a.word (end + MAX_ASKED) e,
             record { authenticator = a; among = within a (inl refl); is = refl },
           )))
       by false e rest more = more n h
@@ -81,7 +81,7 @@ module _ (all : List Authenticator) (end : ℕ) where
   -- The greatest number in reach after an end, if there is one, ends an audit that is in reach, and is that
   -- of one of these.
   pub in_reach : (learned : List Authenticator) → ((a : Authenticator) → IsAmong a learned → IsAmong a all)
-      → AllByRecursion (λ a. end < a.number) learned → (last_in_reach end learned == 0) ≡ false
+      → AllByRecursion (λ a. end < a.word) learned → (last_in_reach end learned == 0) ≡ false
       → IsInReach (end + 1) (last_in_reach end learned) × IsNumberOf all (last_in_reach end learned)
   in_reach learned within behind some =
       elim (all_reached 0 learned (inl refl) within behind) [
@@ -90,18 +90,18 @@ module _ (all : List Authenticator) (end : ℕ) where
       ]
 
 after_end : (end : ℕ) (xs : List Authenticator)
-    → AllByRecursion (λ a. end < a.number) (filter (λ a. nat_lt end a.number) xs)
+    → AllByRecursion (λ a. end < a.word) (filter (λ a. nat_lt end a.word) xs)
 after_end end [] = tt
 after_end end (a ∷ xs) =
-    by (nat_lt end a.number) refl (filter (λ b. nat_lt end b.number) xs) (after_end end xs)
+    by (nat_lt end a.word) refl (filter (λ b. nat_lt end b.word) xs) (after_end end xs)
   where
-    by : (c : Bool) → nat_lt end a.number ≡ c → (rest : List Authenticator)
-        → AllByRecursion (λ b. end < b.number) rest
-        → AllByRecursion (λ b. end < b.number) (cond c (a ∷ rest) rest)
-    by true e rest more = (ltb-true end a.number e, more)
+    by : (c : Bool) → nat_lt end a.word ≡ c → (rest : List Authenticator)
+        → AllByRecursion (λ b. end < b.word) rest
+        → AllByRecursion (λ b. end < b.word) (cond c (a ∷ rest) rest)
+    by true e rest more = (ltb-true end a.word e, more)
     by false e rest more = more
 
 -- All that is kept lies after the end.
 pub kept_after : (w : Watched) (past : Past)
-    → AllByRecursion (λ a. (end_of w past).number < a.number) (kept w past)
+    → AllByRecursion (λ a. (end_of w past).number < a.word) (kept w past)
 kept_after w past = after_end (end_of w past).number (noted_before w past)

@@ -57,7 +57,7 @@ either false x y h k = k
 good_answer : (stage : Stage) (c : ClosedParts) → is_good (answer_reply stage c) ≡ true
 good_answer NoAudit c = refl
 good_answer (Wanted first last) c =
-    either ((c.segment.first == first) && (c.segment.closing.number == last))
+    either ((c.segment.first == first) && (c.segment.closing.word == last))
     Accepted (Refused refusals.NotAsked) refl refl
 good_answer (Given d) c = refl
 good_answer (Out d) c = refl

@@ -31,16 +31,16 @@ OfItsLog =
 module _ (each : EachPlace) (of_log : OfItsLog) (n : NodeParts) where
   -- an authenticator that a node made has its pair in the log that the node has now
   made_in_log : (before : NodeParts) → WentOn before n → (number : ℕ) (a : Authenticator)
-      → authenticator_at (sender_of before) number ≡ Some a → IsAmong (a.number, a.hash) (log_pairs n.entries)
+      → authenticator_at (sender_of before) number ≡ Some a → IsAmong (a.word, a.hash) (log_pairs n.entries)
   made_in_log before went number a made =
-      subst (λ es. IsAmong (a.number, a.hash) (log_pairs es)) (sym went.entries)
-      (of_longer (a.number, a.hash) before.entries went.rest
+      subst (λ es. IsAmong (a.word, a.hash) (log_pairs es)) (sym went.entries)
+      (of_longer (a.word, a.hash) before.entries went.rest
       (of_place each (log_of before) number a (of_log (sender_of before) number a went.sender made).place))
 
   closing_in_log : (s : SegmentParts) → IsAnswered n s
-      → IsAmong (s.closing.number, s.closing.hash) (log_pairs n.entries)
+      → IsAmong (s.closing.word, s.closing.hash) (log_pairs n.entries)
   closing_in_log s h =
-      subst (λ (x : SegmentParts). IsAmong (x.closing.number, x.closing.hash) (log_pairs n.entries))
+      subst (λ (x : SegmentParts). IsAmong (x.closing.word, x.closing.hash) (log_pairs n.entries))
       (sym h.is)
       (made_in_log h.before h.went_on h.last h.answers.answer.closing h.answers.answer.made)
 

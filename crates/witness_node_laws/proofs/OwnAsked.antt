@@ -62,16 +62,16 @@ module _ (each : SignsEach) (none : LeavesNone) (n : NodeParts) where
       by (Some g) at = refl
 
   -- A node signed at the number of an authenticator that it handed out.
-  signed_now : (a : Authenticator) → IsHandedOut n a → IsSome (signed_at (sender_of n) a.number)
+  signed_now : (a : Authenticator) → IsHandedOut n a → IsSome (signed_at (sender_of n) a.word)
   signed_now a h = by (signed_at (sender_of h.before) h.number) refl h.made
     where
       by : (o : Option Signing) → signed_at (sender_of h.before) h.number ≡ o
-          → option_map (authenticator_of h.before.node) o ≡ Some a → IsSome (signed_at (sender_of n) a.number)
+          → option_map (authenticator_of h.before.node) o ≡ Some a → IsSome (signed_at (sender_of n) a.word)
       by None at made = absurd (cc)
       by (Some g) at made =
           let g_at = each (sender_of h.before) h.number g h.went_on.sender at in
-          let same : h.number ≡ a.number =
-          sym g_at.is_number ∙ ap (λ (x : Authenticator). x.number) (same_Some _ _ made) in
+          let same : h.number ≡ a.word =
+          sym g_at.is_number ∙ ap (λ (x : Authenticator). x.word) (same_Some _ _ made) in
           let whole : n.entries ≡ g_at.before ++ g.entry ∷ (g_at.rest ++ h.went_on.rest) =
           h.went_on.entries ∙ (ap (λ (l : List Entry). l ++ h.went_on.rest) g_at.whole
           ∙ append_assoc g_at.before (g.entry ∷ g_at.rest) h.went_on.rest) in
@@ -119,7 +119,7 @@ module _ (each : SignsEach) (none : LeavesNone) (n : NodeParts) where
     StageIsSigned (Out c) = Unit {0}
 
     one_step : (past : Past) (p : Step × Reply) → Doing w past p
-        → ((a : Authenticator) → IsAmong a (kept w past) → IsSome (signed_at (sender_of n) a.number))
+        → ((a : Authenticator) → IsAmong a (kept w past) → IsSome (signed_at (sender_of n) a.word))
         → StageIsSigned (stage_of past) → StageIsSigned (stage_of (p ∷ past))
     one_step past p (Nothing did) signed k = subst StageIsSigned (sym did.stage) k
     one_step past p (Notes a is did) signed k = subst StageIsSigned (sym did.stage) k
@@ -137,7 +137,7 @@ module _ (each : SignsEach) (none : LeavesNone) (n : NodeParts) where
     signed_stage (p ∷ past) owed all =
         one_step past p (doing w past p.0 p.1 owed.0)
         (λ a i. signed_now a (noted_own past owed.1 all.1 a
-        (from_filter (λ x. nat_lt (end_of w past).number x.number) a (noted_before w past) i)))
+        (from_filter (λ x. nat_lt (end_of w past).number x.word) a (noted_before w past) i)))
         (signed_stage past owed.1 all.1)
 
     -- Where all that own steps show is the node's own, it signed at the last number that an audit asks for.

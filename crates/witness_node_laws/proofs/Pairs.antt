@@ -40,7 +40,7 @@ EachPlace =
 
 -- The number and hash of an authenticator of a place of a log are among the log's pairs.
 pub of_place : EachPlace → (log : LogParts) (place : ℕ) (a : Authenticator) → IsOfPlace log place a
-    → IsAmong (a.number, a.hash) (log_pairs log.entries)
+    → IsAmong (a.word, a.hash) (log_pairs log.entries)
 of_place each log place a h =
     subst (λ n. IsAmong (n, a.hash) (log_pairs log.entries)) (sym h.number)
     (stands_among (place, a.hash) place (log_pairs log.entries) ((each log.entries place a.hash).0 h.hash))

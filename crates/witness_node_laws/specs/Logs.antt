@@ -33,7 +33,7 @@ pub record KeepsALog (n : NodeParts) : Type 0 where
   pub honest : n.strayed ≡ false → (m : Member) → IsListedAs n m
       → IsHonestLog n.roster (opening_of m) n.entries n.state
   pub shown : (number : ℕ) (a : Authenticator) → authenticator_at (sender_of n) number ≡ Some a
-      → IsAmong (a.number, a.hash) (log_pairs n.entries)
+      → IsAmong (a.word, a.hash) (log_pairs n.entries)
 
 -- ---- what it showed of it
 

@@ -7,7 +7,7 @@ ghost use Rattle.merkle_keys.specs.Signing.{signature_item, signature_value};
 ghost use Rattle.secure_log.specs.LogEntries.Entry.{entry_item, entry_value};
 ghost use Rattle.node_logs.specs.replay_spec.Bodies.{HasBytes};
 
-use authenticator::Number;
+use authenticator::Word;
 use secure_log::are_bytes;
 use secure_log::log_entries::{Body, Entry, SignatureText};
 use std::alloc::Global;
@@ -63,7 +63,7 @@ fn send_has_text(to: u32, body: &Body)
 fn recv_has_text(
     alloc: Global,
     from: u32,
-    seq: Number,
+    seq: Word,
     prev: &[u8; 32],
     body: &Body,
     signature: &SignatureText,
@@ -79,9 +79,9 @@ fn recv_has_text(
 fn ack_has_text(
     alloc: Global,
     to: u32,
-    seq: Number,
+    seq: Word,
     mine: &[u8; 32],
-    number: Number,
+    number: Word,
     prev: &[u8; 32],
     signature: &SignatureText,
 )

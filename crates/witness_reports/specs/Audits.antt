@@ -20,7 +20,7 @@ is_sound (replay.Fault fault number) = false
 -- a segment of the node that ends at this number is filed, and is sound
 abbrev pub is_filed_to : (node last : ℕ) → Event → Reply → Bool
 is_filed_to node last (events.File d) replies.Filed =
-    (d.job.node == node) && (is_sound d.verdict && (d.job.segment.segment.closing.number == last))
+    (d.job.node == node) && (is_sound d.verdict && (d.job.segment.segment.closing.word == last))
 is_filed_to node last _ _ = false
 
 -- the refusal says why a node can't be audited further, though it signed more: the greatest number that was
@@ -47,10 +47,10 @@ was_refused node places = list_any (λ p. is_refused_audit node p.0 p.1) places
 
 -- ---- what segments showed of other nodes
 
--- an authenticator of the same node, number and hash is learned
+-- an authenticator of the same node, word and hash is learned
 abbrev pub learns : Authenticator → Event → Bool
 learns a (events.Learn learned key) =
-    (learned.node == a.node) && ((learned.number == a.number) && pointwise nat_eq learned.hash a.hash)
+    (learned.node == a.node) && ((learned.word == a.word) && pointwise nat_eq learned.hash a.hash)
 learns a _ = false
 
 -- nothing is left to be forwarded of what the node's segments showed

@@ -9,7 +9,7 @@ ghost use Rattle.witness_reports.specs.Audits.{is_followed, is_refused_audit, is
 ghost use Rattle.witness_reports.specs.Audits.{was_filed_to, was_refused};
 ghost use Rattle.std.specs.List.{list_any};
 
-use authenticator::Authenticator;
+use authenticator::{Authenticator, LogVersion};
 use node_book::{EventOf, JobVerdict, PlainDone, PlainEvent, PlainReply, Refusal, ReplyOf};
 use witness_service::Note;
 
@@ -59,12 +59,13 @@ fn is_filed_to(event: &PlainEvent, reply: &PlainReply, node: u32, last: u64) -> 
 /// Whether what was done is of the node, ends at this number, and is sound.
 fn is_sound_to(done: &PlainDone, node: u32, last: u64) -> bool
     ensures { result ≡ (done.now.node == node) && (is_sound (job_verdict done.now)
-        && (done.now.segment.segment.closing.number == last)) }
+        && (done.now.segment.segment.closing.word == last)) }
 {
     let job = done.job();
+    let closing = job.segment().closed().segment().closing();
     job.node() == node
         && is_sound(done.verdict())
-        && job.segment().closed().segment().closing().number.get() == last
+        && closing.word.number(LogVersion::One).get() == last
 }
 
 /// Whether a verdict says that no fault was found.
@@ -117,7 +118,7 @@ fn is_followed(event: &PlainEvent, reply: &PlainReply, later: &[Note]) -> bool
     }
 }
 
-/// Whether an authenticator of the same node, number and hash was learned.
+/// Whether an authenticator of the same node, word and hash was learned.
 fn is_learned(places: &[Note], authenticator: &Authenticator) -> bool
     ensures { result ≡ list_any (λ p. learns authenticator.now p.0) places.now }
 {
@@ -134,7 +135,7 @@ fn learns(event: &PlainEvent, authenticator: &Authenticator) -> bool
         EventOf::Learn(checked) => {
             let learned = checked.value();
             learned.node == authenticator.node
-                && learned.number == authenticator.number
+                && learned.word == authenticator.word
                 && learned.hash == authenticator.hash
         }
         _ => false,

@@ -166,7 +166,7 @@ put_uses (Err x) capacity old new key holds absent put same =
 abbrev said : Value authenticator_item → Authenticator
 said v = record {
   node = v.0;
-  number = v.1.0;
+  word = v.1.0;
   hash = v.1.1.0;
   signature = record { leaf = v.1.1.1.0; shown = v.1.1.1.1.0; other = v.1.1.1.1.1.0; path = v.1.1.1.1.1.1 };
 }

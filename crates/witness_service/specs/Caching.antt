@@ -34,7 +34,7 @@ key_bytes root height text = root ++ number_spelling 4 height ++ text
 
 -- the authenticator's signature is one under a root of a height
 abbrev pub IsSignedUnder : (root : List ℕ) → (height : ℕ) → Authenticator → Type 0
-IsSignedUnder root height a = Signed root height (signed_digest a.node a.number a.hash) a.signature
+IsSignedUnder root height a = Signed root height (signed_digest a.node a.word a.hash) a.signature
 
 -- The bytes are the key of an authenticator whose signature is one under the key's root and height.
 pub record IsSignedKey (bytes : List ℕ) : Type 0 where

@@ -10,7 +10,7 @@ ghost use Rattle.witness_service.specs.Caching.{is_kept, key_bytes, key_text, ke
 ghost use Rattle.witness_service.specs.Hashing.{ref_bytes};
 
 use crate::key::{Key, KeyRef};
-use authenticator::{Authenticator, Member, Number, is_signed, is_signed_by};
+use authenticator::{Authenticator, Member, Word, is_signed, is_signed_by};
 use lru::LruCache;
 use merkle_keys::Signature;
 use std::alloc::{AllocError, Global};
@@ -75,7 +75,7 @@ impl SignatureCache {
         }
     }
 
-    /// Whether a member signed that the log of this node has this hash at this number, as
+    /// Whether a member signed that the log of this node has this hash at this word, as
     /// `authenticator::is_signed` says: from what is kept, else by a check, and then it is kept. Where memory
     /// is refused for its key it is checked and not kept.
     pub(crate) fn is_signed(
@@ -83,26 +83,26 @@ impl SignatureCache {
         alloc: Global,
         member: &Member,
         node: u32,
-        number: Number,
+        word: Word,
         hash: &[u8; 32],
         signature: &Signature,
     ) -> bool
         ensures signed { IsTrue result ↔
-            Signed member.now.root member.now.height (signed_digest node number hash.now) signature.now }
+            Signed member.now.root member.now.height (signed_digest node word hash.now) signature.now }
         ensures kept { MatchBool result
             (MayUse (key_text member.now.root member.now.height
-            (record { node = node; number = number; hash = hash.now; signature = signature.now }))
+            (record { node = node; word = word; hash = hash.now; signature = signature.now }))
             self.old self.new)
             (self.new ≡ self.old) }
     {
-        let Ok(key) = Key::of_parts(alloc, member, node, number, hash, signature) else {
-            return is_signed(member, node, number, hash, signature);
+        let Ok(key) = Key::of_parts(alloc, member, node, word, hash, signature) else {
+            return is_signed(member, node, word, hash, signature);
         };
         if is_used(&mut self.kept, self.capacity, key.borrowed()) {
             no_spelling_begins_another();
             return true;
         }
-        if !is_signed(member, node, number, hash, signature) {
+        if !is_signed(member, node, word, hash, signature) {
             return false;
         }
         keep(&mut self.kept, alloc, self.capacity, key);
@@ -138,24 +138,24 @@ impl SignatureCache {
         true
     }
 
-    /// Keeps what a member signed: that the log of this node has this hash at this number. Where memory is
+    /// Keeps what a member signed: that the log of this node has this hash at this word. Where memory is
     /// refused for its key it isn't kept.
     pub(crate) fn keep_signed(
         &mut self,
         alloc: Global,
         member: &Member,
         node: u32,
-        number: Number,
+        word: Word,
         hash: &[u8; 32],
         signature: &Signature,
     )
         requires { Signed member.now.root member.now.height
-            (signed_digest node number hash.now) signature.now }
+            (signed_digest node word hash.now) signature.now }
         ensures { MayUse (key_text member.now.root member.now.height
-            (record { node = node; number = number; hash = hash.now; signature = signature.now }))
+            (record { node = node; word = word; hash = hash.now; signature = signature.now }))
             self.old self.new }
     {
-        let Ok(key) = Key::of_parts(alloc, member, node, number, hash, signature) else {
+        let Ok(key) = Key::of_parts(alloc, member, node, word, hash, signature) else {
             return;
         };
         if !is_used(&mut self.kept, self.capacity, key.borrowed()) {

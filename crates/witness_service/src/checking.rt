@@ -158,7 +158,7 @@ fn keep_closing(alloc: Global, cache: &mut SignatureCache, segment: &ClosedSegme
             alloc,
             &member,
             closing.node,
-            closing.number,
+            closing.word,
             &closing.hash,
             &closing.signature,
         );

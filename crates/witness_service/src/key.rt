@@ -7,7 +7,7 @@ ghost use Rattle.xdr.specs.Item.{Fits, fixed, pair, word};
 ghost use Rattle.witness_service.specs.Caching.{key_bytes, key_item, key_text, key_value};
 ghost use Rattle.witness_service.specs.Hashing.{looked_up, ref_bytes, same_look_up};
 
-use authenticator::{Member, Number};
+use authenticator::{Member, Word};
 use merkle_keys::Signature;
 use std::alloc::{AllocError, Global};
 use std::collections::hash_map::Equivalent;
@@ -63,18 +63,18 @@ impl Key {
         alloc: Global,
         member: &Member,
         node: u32,
-        number: Number,
+        word: Word,
         hash: &[u8; 32],
         signature: &Signature,
     ) -> Result<Key, AllocError>
         ensures text { IfOk result (λ key. key ≡ key_text member.now.root member.now.height
-            (record { node = node; number = number; hash = hash.now; signature = signature.now })) }
+            (record { node = node; word = word; hash = hash.now; signature = signature.now })) }
         ensures fits { IfOk result (λ key. Fits key_item (key_value member.now.root member.now.height
-            (record { node = node; number = number; hash = hash.now; signature = signature.now }))) }
+            (record { node = node; word = word; hash = hash.now; signature = signature.now }))) }
     {
         let mut text = Vec::with_capacity(alloc, LONGEST)?;
         text.put_u32(node)?;
-        number.write(&mut text)?;
+        word.write(&mut text)?;
         text.put_fixed(hash)?;
         signature.write(&mut text)?;
         Ok(Key::new(member.root, member.height, text))

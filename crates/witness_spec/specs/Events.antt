@@ -55,7 +55,7 @@ pub data Event : Type 0 where
 
 -- an authenticator is signed under a key
 abbrev pub IsSignedUnder : PublicKey → Authenticator → Type 0
-IsSignedUnder key a = Signed key.root key.height (signed_digest a.node a.number a.hash) a.signature
+IsSignedUnder key a = Signed key.root key.height (signed_digest a.node a.word a.hash) a.signature
 
 -- A segment has a text, and is closed under the roster that is kept with it.
 pub record IsClosedUnder (c : ClosedParts) : Type 0 where

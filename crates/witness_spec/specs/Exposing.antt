@@ -2,6 +2,7 @@
 use Rattle.std.specs.Prelude.{ℕ, ◌==◌, ◌&&◌, nat_le, List, [], ◌∷◌, ◌++◌, find}
 use Rattle.std.specs.Prelude.{Option, Some, None, option_map, option_and_then, if◌then◌else◌}
 use Rattle.authenticator.specs.declared.authenticator.Authenticator.{Authenticator}
+use Rattle.authenticator.specs.declared.member.LogVersion.TheVariants.{One}
 use Rattle.secure_log.specs.LogEntries.Chain.{zeros}
 use Rattle.secure_log.specs.Segment.{SegmentParts, ClosedParts}
 use Rattle.evidence_spec.specs.replay_spec.Replay.{Verdict, Sound, Fault}
@@ -24,7 +25,7 @@ segment_holding number segments =
 
 -- the showing of an authenticator, if there is one, else of a segment, if there is one
 abbrev pub or_segment : Option Authenticator → Option SegmentParts → Option ShowingParts
-or_segment (Some a) segment = Some (authenticator_showing a)
+or_segment (Some a) segment = Some (authenticator_showing One a)
 or_segment None segment = option_map segment_showing segment
 
 -- the learned authenticator that is kept at the number, else the accepted segment that holds the place
@@ -39,8 +40,8 @@ showing_before learned segments number =
 abbrev pub fork_of : List Authenticator → List SegmentParts → (new : ShowingParts) (number : ℕ)
     → Option Charge
 fork_of learned segments new number =
-    if number == 0 then Some (Fork (record { at = 0; a = new; b = None }))
-    else option_map (λ old. Fork (record { at = number; a = old; b = Some new }))
+    if number == 0 then Some (Fork (record { log_version = One; at = 0; a = new; b = None }))
+    else option_map (λ old. Fork (record { log_version = One; at = number; a = old; b = Some new }))
     (showing_before learned segments number)
 
 -- the fork that a new showing makes with what a node showed, at the least number
@@ -66,7 +67,7 @@ replay_of w past s (Fault fault number) = Some (Replay (audited_with w past s))
 -- the charge that follows from an authenticator noted, a segment accepted or a job filed, where there is one
 abbrev pub charge_of : Watched → Past
     → Option Authenticator → Option ClosedParts → Option JobParts → Option Charge
-charge_of w past (Some a) segment job = new_fork w past (authenticator_showing a) (pair_of a ∷ [])
+charge_of w past (Some a) segment job = new_fork w past (authenticator_showing One a) (pair_of a ∷ [])
 charge_of w past None (Some c) job =
     new_fork w past (segment_showing c.segment) (marks_of c.segment)
 charge_of w past None None (Some j) =

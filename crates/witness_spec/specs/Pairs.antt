@@ -11,17 +11,17 @@ use Rattle.secure_log.specs.Segment.{SegmentParts, segment_pairs}
 abbrev pub Pair : Type 0
 Pair = ℕ × List ℕ
 
--- the number at which an authenticator is
+-- the number at which an authenticator is: books take logs of version 1 alone, whose words are numbers
 abbrev pub number_of : Authenticator → ℕ
-number_of a = a.number
+number_of a = a.word
 
 -- the first number of a segment
 abbrev pub first_of : SegmentParts → ℕ
 first_of s = s.first
 
--- the last number of a segment: that of its closing
+-- the last number of a segment: that of its closing, by its word as above
 abbrev pub last_of : SegmentParts → ℕ
-last_of s = s.closing.number
+last_of s = s.closing.word
 
 -- the pairs of number and mark that a segment shows; a mark is the hash there
 abbrev pub marks_of : SegmentParts → List Pair

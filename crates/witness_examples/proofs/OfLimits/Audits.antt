@@ -86,17 +86,17 @@ both h end (p ∷ ps) qs i j = (i.0, i.1, both h end ps qs i.2 j)
 -- none of these has a number above an end
 abbrev pub Low : (end : ℕ) → List Authenticator → Type 0
 Low end [] = Unit {0}
-Low end (a ∷ xs) = (a.number ≤ end) × Low end xs
+Low end (a ∷ xs) = (a.word ≤ end) × Low end xs
 
 lower : (end next : ℕ) (xs : List Authenticator) → end ≤ next → Low end xs → Low next xs
 lower end next [] low h = tt
 lower end next (a ∷ xs) low h = (omega (arith, h.0), lower end next xs low h.1)
 
-none_above : (end : ℕ) (xs : List Authenticator) → Low end xs → filter (λ a. nat_lt end a.number) xs ≡ []
+none_above : (end : ℕ) (xs : List Authenticator) → Low end xs → filter (λ a. nat_lt end a.word) xs ≡ []
 none_above end [] h = refl
 none_above end (a ∷ xs) h =
-    let at : nat_lt end a.number ≡ false = grind (arith, nat_tests, h.0) in
-    ap (λ b. cond b (a ∷ filter (λ x. nat_lt end x.number) xs) (filter (λ x. nat_lt end x.number) xs)) at
+    let at : nat_lt end a.word ≡ false = grind (arith, nat_tests, h.0) in
+    ap (λ b. cond b (a ∷ filter (λ x. nat_lt end x.word) xs) (filter (λ x. nat_lt end x.word) xs)) at
     ∙ none_above end xs h.1
 
 -- ---- after whole audits
@@ -144,12 +144,12 @@ module _ (w : Watched) (past : Past) (h : ℕ → List ℕ) (end begun : ℕ) (s
 
   kept_none : kept w past ≡ []
   kept_none =
-      ap (λ (e : End). filter (λ a. nat_lt e.number a.number) (noted_before w past)) q.at_end
+      ap (λ (e : End). filter (λ a. nat_lt e.number a.word) (noted_before w past)) q.at_end
       ∙ none_above end (noted_before w past) q.low
 
-  module _ (a : Authenticator) (above : end < a.number) where
-    above_end : nat_lt (end_of w past).number a.number ≡ true
-    above_end = ap (λ (e : End). nat_lt e.number a.number) q.at_end ∙ lt-ltb end a.number above
+  module _ (a : Authenticator) (above : end < a.word) where
+    above_end : nat_lt (end_of w past).number a.word ≡ true
+    above_end = ap (λ (e : End). nat_lt e.number a.word) q.at_end ∙ lt-ltb end a.word above
 
     room : has_no_room w past a ≡ false
     room =
@@ -171,33 +171,33 @@ module _ (w : Watched) (past : Past) (h : ℕ → List ℕ) (end begun : ℕ) (s
     low_same : (n : ℕ) → n ≤ end → with_it n ≡ h n
     low_same n low = ap (λ b. cond b (h n) a.hash) (le-leb n end low)
 
-    high_same : a.hash ≡ with_it a.number
+    high_same : a.hash ≡ with_it a.word
     high_same =
-        let out : nat_le a.number end ≡ false = grind (arith, nat_tests) in
-        sym (ap (λ b. cond b (h a.number) a.hash) out)
+        let out : nat_le a.word end ≡ false = grind (arith, nat_tests) in
+        sym (ap (λ b. cond b (h a.word) a.hash) out)
 
     shown_is : shown w then_learned ≡ pair_of a ∷ shown w past
     shown_is = ap (λ b. pairs_noted b (Some a) ++ ([] ++ shown w past)) hidden
 
     still_hidden : is_exposed w then_learned ≡ false
     still_hidden =
-        let on : OnLog with_it a.number (pair_of a ∷ shown w past) = (
+        let on : OnLog with_it a.word (pair_of a ∷ shown w past) = (
           omega arith,
           high_same,
-          grown h with_it end a.number (shown w past) low_same (omega arith)
+          grown h with_it end a.word (shown w past) low_same (omega arith)
               q.on_log,
         ) in
         or_from (has_fork (shown w then_learned)) (has_fault w then_learned)
-        (ap has_fork shown_is ∙ no_fork with_it a.number (pair_of a ∷ shown w past) on) q.sound
+        (ap has_fork shown_is ∙ no_fork with_it a.word (pair_of a ∷ shown w past) on) q.sound
 
     noted_is : noted_before w then_learned ≡ a ∷ noted_before w past
     noted_is = ap (λ b. unless_exposed b (Some a) ++ noted_before w past) still_hidden
 
     kept_is : kept w then_learned ≡ a ∷ []
     kept_is =
-        let rest = filter (λ x. nat_lt end x.number) (noted_before w past) in
-        ap₂ (λ (e : End) xs. filter (λ x. nat_lt e.number x.number) xs) q.at_end noted_is
-        ∙ (ap (λ b. cond b (a ∷ rest) rest) (lt-ltb end a.number above)
+        let rest = filter (λ x. nat_lt end x.word) (noted_before w past) in
+        ap₂ (λ (e : End) xs. filter (λ x. nat_lt e.number x.word) xs) q.at_end noted_is
+        ∙ (ap (λ b. cond b (a ∷ rest) rest) (lt-ltb end a.word above)
         ∙ ap (λ xs. a ∷ xs) (none_above end (noted_before w past) q.low))
 
     waiting : outbox w then_learned ≡ found
@@ -223,17 +223,17 @@ module _ (w : Watched) (past : Past) (h : ℕ → List ℕ) (end begun : ℕ) (s
     -- the segment begins after the end
     pub first : j.segment.segment.first ≡ end + 1
     -- it closes above the end
-    pub above : end < j.segment.segment.closing.number
+    pub above : end < j.segment.segment.closing.word
     -- at most 4,096 numbers later
-    pub near : j.segment.segment.closing.number ≤ end + 4_096
+    pub near : j.segment.segment.closing.word ≤ end + 4_096
     -- and at a number of at most 65,536
-    pub few : j.segment.segment.closing.number ≤ 65_536
+    pub few : j.segment.segment.closing.word ≤ 65_536
     -- there is room to keep what it may show
-    pub fits : length found + (j.segment.segment.closing.number - end) ≤ 4_096
+    pub fits : length found + (j.segment.segment.closing.word - end) ≤ 4_096
     -- its pairs are of the log `k`
-    pub pairs : OnLog k j.segment.segment.closing.number (segment_pairs j.segment.segment)
+    pub pairs : OnLog k j.segment.segment.closing.word (segment_pairs j.segment.segment)
     -- so is its closing hash
-    pub closing : j.segment.segment.closing.hash ≡ k j.segment.segment.closing.number
+    pub closing : j.segment.segment.closing.hash ≡ k j.segment.segment.closing.word
     -- up to the end `k` has the hashes of `h`
     pub same : (n : ℕ) → n ≤ end → k n ≡ h n
     -- the verdict on it is sound, with this state and what it shows
@@ -254,7 +254,7 @@ module _ (w : Watched) (past : Past) (h : ℕ → List ℕ) (end begun : ℕ) (s
       known = (Learn a, Noted) ∷ past
 
       abbrev wanted : Past
-      wanted = (Audit, Asked first a.number) ∷ known
+      wanted = (Audit, Asked first a.word) ∷ known
 
       abbrev given : Past
       given = (Answer c, Accepted) ∷ wanted
@@ -270,44 +270,44 @@ module _ (w : Watched) (past : Past) (h : ℕ → List ℕ) (end begun : ℕ) (s
 
       -- ---- the replies
 
-      reached : last_in_reach end (a ∷ []) ≡ a.number
+      reached : last_in_reach end (a ∷ []) ≡ a.word
       reached =
-          ap (λ b. fold max 0 (cond b (a.number ∷ []) [])) (le-leb a.number (end + 4_096) f.near) ∙ max_zero
-          a.number
+          ap (λ b. fold max 0 (cond b (a.word ∷ []) [])) (le-leb a.word (end + 4_096) f.near) ∙ max_zero
+          a.word
 
-      asked : ask_up_to end (length found) a.number ≡ Asked first a.number
+      asked : ask_up_to end (length found) a.word ≡ Asked first a.word
       asked =
-          let some : (a.number == 0) ≡ false = unlike a.number 0 (omega (arith, f.above)) in
-          let few : nat_lt 65_536 a.number ≡ false = grind (arith, nat_tests, f.few) in
-          let fits : nat_lt 4_096 (length found + (a.number - end)) ≡ false = grind
+          let some : (a.word == 0) ≡ false = unlike a.word 0 (omega (arith, f.above)) in
+          let few : nat_lt 65_536 a.word ≡ false = grind (arith, nat_tests, f.few) in
+          let fits : nat_lt 4_096 (length found + (a.word - end)) ≡ false = grind
           (arith, nat_tests, f.fits) in
           rw (some, few, fits, f.first) refl
 
-      audits : Owes w known Audit (Asked first a.number)
+      audits : Owes w known Audit (Asked first a.word)
       audits =
-          told w known Audit (Asked first a.number) (λ x. x)
+          told w known Audit (Asked first a.word) (λ x. x)
           (audit_told a f.above ∙ (ap (ask_up_to end (length found)) reached ∙ asked))
 
       answers : Owes w wanted (Answer c) Accepted
       answers =
           told w wanted (Answer c) Accepted (λ x. x)
-          (rw (eq-eqb first first refl, eq-eqb a.number a.number refl) refl)
+          (rw (eq-eqb first first refl, eq-eqb a.word a.word refl) refl)
 
-      on_given : OnLog k a.number (shown w given)
+      on_given : OnLog k a.word (shown w given)
       on_given =
-          let known_pairs : OnLog k a.number (shown w known) =
-          subst (OnLog k a.number) (sym (shown_is a f.above)) (
+          let known_pairs : OnLog k a.word (shown w known) =
+          subst (OnLog k a.word) (sym (shown_is a f.above)) (
             omega arith,
             f.closing,
-            grown h k end a.number (shown w past) f.same (omega (arith, f.above))
+            grown h k end a.word (shown w past) f.same (omega (arith, f.above))
                 q.on_log,
           ) in
-          both k a.number (segment_pairs j.segment.segment) (shown w known) f.pairs known_pairs
+          both k a.word (segment_pairs j.segment.segment) (shown w known) f.pairs known_pairs
 
       given_hidden : is_exposed w given ≡ false
       given_hidden =
           or_from (has_fork (shown w given)) (has_fault w given)
-          (no_fork k a.number (shown w given) on_given) q.sound
+          (no_fork k a.word (shown w given) on_given) q.sound
 
       begins_given : begins given ≡ begun
       begins_given = omega (arith, sum_by-cons, q.count)
@@ -367,16 +367,16 @@ module _ (w : Watched) (past : Past) (h : ℕ → List ℕ) (end begun : ℕ) (s
           ∙ (ap (drop (forwards past)) (append_assoc (all_found w past) new later)
           ∙ (q.rest (new ++ later) ∙ sym (append_assoc found new later)))
 
-      noted_low : Low a.number (noted_before w known)
+      noted_low : Low a.word (noted_before w known)
       noted_low =
-          subst (Low a.number) (sym (noted_is a f.above))
-          (omega arith, lower end a.number (noted_before w past) (omega (arith, f.above)) q.low)
+          subst (Low a.word) (sym (noted_is a f.above))
+          (omega arith, lower end a.word (noted_before w past) (omega (arith, f.above)) q.low)
 
       -- the audit of such a segment is owed, and the same holds after it
-      pub goes_on : Quiet w behind k a.number (begun + 1) t (found ++ new)
+      pub goes_on : Quiet w behind k a.word (begun + 1) t (found ++ new)
       goes_on = record {
         owed = (files, (begins_it, (answers, (audits, (learned_new a f.above, q.owed)))));
-        at_end = ap₂ (λ (e : End) v. moved_by e a.number v) q.at_end verdict_there;
+        at_end = ap₂ (λ (e : End) v. moved_by e a.word v) q.at_end verdict_there;
         sound = or_from (is_fault (verdict_on w.roster (end_of w out).state j)) (has_fault w out)
             (ap is_fault verdict_there) q.sound;
         on_log = on_given;
@@ -389,7 +389,7 @@ module _ (w : Watched) (past : Past) (h : ℕ → List ℕ) (end begun : ℕ) (s
   -- ---- what an audit is told where one more is learned
 
   -- an audit after one more authenticator is told this, and the steps before it are owed
-  pub then_asked : (a : Authenticator) → end < a.number → (r : Reply)
+  pub then_asked : (a : Authenticator) → end < a.word → (r : Reply)
       → ask_up_to end (length found) (last_in_reach end (a ∷ [])) ≡ r
       → Reaches w ((Learn a, Noted) ∷ past) Audit r
   then_asked a above r e = record {

@@ -146,7 +146,7 @@ sent_worked = ap (λ b. sha256 (send_content 6 b)) reply_worked ∙ sent_from
 -- the text of a link, from the hash before it, its number and kind and the digest of its content
 abbrev link_text : List ℕ → ℕ → ℕ → List ℕ → List ℕ
 link_text before number kind digest =
-    chain_text before (record { number = number; kind = kind; content = digest })
+    chain_text before (record { skipped = 0; number = number; kind = kind; content = digest })
 
 first_from : sha256 (link_text zeros 1 2 received_bytes) ≡ first_bytes
 unfolding first_words schedule rounds compress sha.hash_after digest_bytes sha256 zeros number_spelling

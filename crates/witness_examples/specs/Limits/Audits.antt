@@ -27,7 +27,7 @@ use Rattle.witness_examples.specs.Worked.{filed_two}
 abbrev pub audited_with : Past → JobParts → Verdict → Past
 audited_with past j verdict =
     (File (record { job = j; verdict = verdict }), Filed) ∷ (Begin, Job j) ∷ (Answer j.segment, Accepted)
-    ∷ (Audit, Asked j.segment.segment.first j.segment.segment.closing.number)
+    ∷ (Audit, Asked j.segment.segment.first j.segment.segment.closing.word)
     ∷ (Learn j.segment.segment.closing, Noted) ∷ past
 
 -- ---- a second audit, of one reading after another

@@ -54,7 +54,7 @@ state_read = having_read (opening_client 5) (record { seconds = 1; microseconds 
 abbrev pub signed : (secret : List ℕ) (leaf number : ℕ) (hash : List ℕ) → Authenticator
 signed secret leaf number hash = record {
   node = 5;
-  number = number;
+  word = number;
   hash = hash;
   signature = signature_of secret 1 leaf (signed_digest 5 number hash);
 }

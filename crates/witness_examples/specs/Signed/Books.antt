@@ -10,6 +10,7 @@ use Rattle.witness_spec.specs.Histories.{BookParts}
 use Rattle.witness_spec.specs.Contract.{opening_book}
 use Rattle.witness_examples.specs.Signed.Audited.{client, read_hash, state_read, signed, signed_segment}
 use Rattle.witness_examples.specs.Signed.Shown.{ones, twos, message, sender}
+use Rattle.authenticator.specs.declared.member.LogVersion.TheVariants.{One}
 
 -- after the audit of one reading: the end is 1, and one segment is accepted
 abbrev pub audited_book : (secret : List ℕ) → BookParts
@@ -39,9 +40,10 @@ forked_book secret = record {
   evidence = Some (record {
     node = 5;
     charge = Fork (record {
+      log_version = One;
       at = 1;
-      a = authenticator_showing (signed secret 0 1 ones);
-      b = Some (authenticator_showing (signed secret 1 1 twos));
+      a = authenticator_showing One (signed secret 0 1 ones);
+      b = Some (authenticator_showing One (signed secret 1 1 twos));
     });
   });
 }

@@ -110,12 +110,12 @@ only_reply w history e step good its none told reply =
 -- ---- answers
 
 answer_told : (stage : Stage) (c : ClosedParts) (first last : ℕ) → stage ≡ Wanted first last
-    → c.segment.first ≡ first → c.segment.closing.number ≡ last → Accepted ≡ answer_reply stage c
+    → c.segment.first ≡ first → c.segment.closing.word ≡ last → Accepted ≡ answer_reply stage c
 answer_told stage c first last is e f =
     sym (ap (λ s. answer_reply s c) is
     ∙ ap (λ b. cond b Accepted (Refused NotAsked))
-    (and_from (c.segment.first == first) (c.segment.closing.number == last)
-    (eq-eqb c.segment.first first e) (eq-eqb c.segment.closing.number last f)))
+    (and_from (c.segment.first == first) (c.segment.closing.word == last)
+    (eq-eqb c.segment.first first e) (eq-eqb c.segment.closing.word last f)))
 
 module _ (w : Watched) (history : History) (is : IsInRoster w) where
   answer_its : (c : ClosedParts) → c.roster ≡ w.roster → c.segment.closing.node ≡ w.member.node

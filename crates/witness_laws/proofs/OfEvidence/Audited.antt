@@ -89,7 +89,7 @@ none_audited w =
 
 -- a segment after the audited entries, with them
 record IsJoined (w : Watched) (past : Past) (s : SegmentParts) : Type 0 where
-  count : length (audited w past ++ s.entries) ≡ s.closing.number
+  count : length (audited w past ++ s.entries) ≡ s.closing.word
   hash : last_hash zeros (links_from 1 (audited w past ++ s.entries)) ≡ s.closing.hash
   each : EachFits (audited w past ++ s.entries)
   places : placed 1 zeros (audited w past ++ s.entries) ≡ placed 1 zeros (audited w past) ++ placed_in s
@@ -123,15 +123,15 @@ is_joined w past c e a next good =
 -- its last pair was shown
 last_shown : (w : Watched) (past : Past) (c : ClosedParts) → IsNext w past c
     → IsGoodSegment w c.segment
-    → IsAmong (c.segment.closing.number, c.segment.closing.hash) (shown w past)
+    → IsAmong (c.segment.closing.word, c.segment.closing.hash) (shown w past)
 last_shown w past c next good =
     let s = c.segment in
     let some = first_some w s good in
     let back : s.first ≡ s.first - 1 + 1 = omega (arith, some) in
     let links = links_from s.first s.entries in
-    accepted_shown w past s (s.closing.number, s.closing.hash) next.among
-    (subst (λ h. IsAmong (s.closing.number, h) (segment_pairs s)) (sym good.closed.ends.hash)
-    (last_there (s.first - 1) s.opening links s.closing.number
+    accepted_shown w past s (s.closing.word, s.closing.hash) next.among
+    (subst (λ h. IsAmong (s.closing.word, h) (segment_pairs s)) (sym good.closed.ends.hash)
+    (last_there (s.first - 1) s.opening links s.closing.word
     (subst (λ k. AreNumbered k links) back (entries_numbered s.first s.entries))
     (omega (arith, good.closed.ends.number, some, length-links s.first s.entries))))
 
@@ -194,18 +194,18 @@ module _ (w : Watched) (past : Past) (p : Step × Reply) where
       let state = (end_of w past).state in
       let k = is_joined w past j.segment e a next good in
       let run = is_sound w.roster state (placed_in s) t found v in
-      from_are (record { number = s.closing.number; state = t }) (audited w past ++ s.entries)
-      (ap (end_after w.roster (end_of w past)) is ∙ ap (moved_by (end_of w past) s.closing.number) v)
+      from_are (record { number = s.closing.word; state = t }) (audited w past ++ s.entries)
+      (ap (end_after w.roster (end_of w past)) is ∙ ap (moved_by (end_of w past) s.closing.word) v)
       (ap (λ x. audited w past ++ entries_filed w.roster state x) is
       ∙ ap (λ x. audited w past ++ sound_entries s.entries x) v)
       (record {
         count = k.count;
         there = shown_stays (
-          s.closing.number,
+          s.closing.word,
           last_hash zeros
               (links_from 1 (audited w past ++ s.entries)),
         )
-            (subst (λ h. IsAmong (s.closing.number, h) (shown w past)) (sym k.hash)
+            (subst (λ h. IsAmong (s.closing.word, h) (shown w past)) (sym k.hash)
             (last_shown w past j.segment next good));
         each = k.each;
         states = a.states ++ run.states;

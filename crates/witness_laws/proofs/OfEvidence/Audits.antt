@@ -46,7 +46,7 @@ pub record IsHeld (past : Past) (number : ℕ) : Type 0 where
   -- the number is not before its first
   pub from : segment.first ≤ number
   -- nor past its last
-  pub to : number ≤ segment.closing.number
+  pub to : number ≤ segment.closing.word
 
 -- a segment that was accepted lies after the end
 pub record IsNext (w : Watched) (past : Past) (c : ClosedParts) : Type 0 where
@@ -55,7 +55,7 @@ pub record IsNext (w : Watched) (past : Past) (c : ClosedParts) : Type 0 where
   -- its first number is the one after the end
   pub first : c.segment.first ≡ (end_of w past).number + 1
   -- its last number is one that may be audited
-  pub last : c.segment.closing.number ≤ MAX_AUDITED
+  pub last : c.segment.closing.word ≤ MAX_AUDITED
 
 -- an audit is of the part that follows the end
 abbrev pub IsAt : Watched → Past → Stage → Type 0
@@ -140,10 +140,10 @@ module _ (w : Watched) (past : Past) (p : Step × Reply) where
 
   -- a segment is accepted
   gives : (c : ClosedParts) → IsGoodSegment w c.segment
-      → stage_of past ≡ Wanted c.segment.first c.segment.closing.number
+      → stage_of past ≡ Wanted c.segment.first c.segment.closing.word
       → Did past p None (Some c) None (Given c) → Stand w past → Stand w (p ∷ past)
   gives c good wanted did k =
-      let at : IsAt w past (Wanted c.segment.first c.segment.closing.number) =
+      let at : IsAt w past (Wanted c.segment.first c.segment.closing.word) =
       subst (IsAt w past) wanted k.stage in
       let there : IsAmong c.segment (all_accepted (p ∷ past)) =
       subst (λ o. IsAmong c.segment (segment_of o ++ all_accepted past)) (sym did.accepts) (inl refl) in
@@ -169,10 +169,10 @@ module _ (w : Watched) (past : Past) (p : Step × Reply) where
 
   moved_to : (j : JobParts) (v : Verdict) → verdict_on w.roster (end_of w past).state j ≡ v
       → filed p.0 p.1 ≡ Some j
-      → end_of w (p ∷ past) ≡ moved_by (end_of w past) j.segment.segment.closing.number v
+      → end_of w (p ∷ past) ≡ moved_by (end_of w past) j.segment.segment.closing.word v
   moved_to j v is h =
       ap (end_after w.roster (end_of w past)) h
-      ∙ ap (moved_by (end_of w past) j.segment.segment.closing.number) is
+      ∙ ap (moved_by (end_of w past) j.segment.segment.closing.word) is
 
   moves : (j : JobParts) → IsNext w past j.segment → Did past p None None (Some j) NoAudit
       → Stand w past → (v : Verdict) → verdict_on w.roster (end_of w past).state j ≡ v → Stand w (p ∷ past)
@@ -188,9 +188,9 @@ module _ (w : Watched) (past : Past) (p : Step × Reply) where
   moves j next did k (Sound t found) is =
       let c = j.segment.segment in
       let good : IsGoodSegment w c = (k.segments c next.among).good in
-      let same : (end_of w (p ∷ past)).number ≡ c.closing.number =
+      let same : (end_of w (p ∷ past)).number ≡ c.closing.word =
       ap (λ (e : End). e.number) (moved_to j (Sound t found) is did.files) in
-      let more : (end_of w past).number ≤ c.closing.number =
+      let more : (end_of w past).number ≤ c.closing.word =
       omega (arith, next.first, good.closed.ends.number) in
       record {
         stage = subst (IsAt w (p ∷ past)) (sym did.stage) tt;
@@ -203,7 +203,7 @@ module _ (w : Watched) (past : Past) (p : Step × Reply) where
       }
     where
       by : (n : ℕ) (b : Bool) → nat_lt (end_of w past).number n ≡ b → 1 ≤ n
-          → n ≤ j.segment.segment.closing.number
+          → n ≤ j.segment.segment.closing.word
           → j.segment.segment.first ≡ (end_of w past).number + 1 → IsHeld (p ∷ past) n
       by n true e low high first = record {
         segment = j.segment.segment;

@@ -9,6 +9,7 @@ use Rattle.std.specs.Prelude.{find, ◌&&◌}
 use Rattle.std.proofs.lemmas.Bool.{and_parts, and_from, true≢false, ltb-true, ltb-false, leb-true, le-leb}
 use Rattle.std.proofs.lemmas.Option.{same_Some}
 use Rattle.authenticator.specs.declared.authenticator.Authenticator.{Authenticator}
+use Rattle.authenticator.specs.declared.member.LogVersion.TheVariants.{One}
 use Rattle.secure_log.specs.LogEntries.Entry.{entry_value}
 use Rattle.secure_log.specs.LogEntries.Chain.{Link, pairs, hash_after, links_from, IsAmong}
 use Rattle.secure_log.specs.Segment.{SegmentParts, ClosedParts, segment_pairs}
@@ -16,7 +17,7 @@ use Rattle.authenticator.specs.Signing.{is_same}
 use Rattle.authenticator.proofs.Signed.{same_list, list_same, is_false}
 use Rattle.witness_spec.specs.evidence_spec.Showing.{ShowingParts}
 use Rattle.witness_spec.specs.evidence_spec.Showing.{authenticator_showing, segment_showing}
-use Rattle.witness_spec.specs.evidence_spec.Laws.{ShowsPairs}
+use Rattle.witness_spec.specs.evidence_spec.Laws.{ShowsMarks}
 use Rattle.witness_spec.proofs.evidence_spec.Closed.{one_pair, own_pairs}
 use Rattle.witness_spec.proofs.evidence_spec.Places.{AreNumbered, entries_numbered, length-links, behind}
 use Rattle.witness_spec.specs.Replies.{Reply}
@@ -293,12 +294,12 @@ pub record IsGoodShowing (w : Watched) (s : ShowingParts) (ps : List Pair) : Typ
   -- it is of the node
   pub node : s.node ≡ w.member.node
   -- it is closed, has a text, and shows these pairs
-  pub shows : ShowsPairs w.roster s ps
+  pub shows : ShowsMarks One w.roster s ps
 
 -- a learned authenticator of the node, alone, shows its own pair
 pub good_authenticator : (w : Watched) (a : Authenticator) → IsLearned w a
-    → IsGoodShowing w (authenticator_showing a) (pair_of a ∷ [])
-good_authenticator w a good = record { node = good.node; shows = one_pair w.roster a good.text good.signed }
+    → IsGoodShowing w (authenticator_showing One a) (pair_of a ∷ [])
+good_authenticator w a good = record { node = good.node; shows = one_pair One w.roster a good.text good.signed }
 
 -- its first number is at least 1
 pub first_some : (w : Watched) (s : SegmentParts) → IsGoodSegment w s → 0 < s.first
@@ -329,10 +330,10 @@ pub record IsShownBefore (w : Watched) (past : Past) (n : ℕ) (x : List ℕ) : 
 
 module _ (w : Watched) (past : Past) (n : ℕ) (x : List ℕ) where
   abbrev at_number : Authenticator → Bool
-  at_number a = a.number == n
+  at_number a = a.word == n
 
   abbrev holds : SegmentParts → Bool
-  holds s = nat_le s.first n && nat_le n s.closing.number
+  holds s = nat_le s.first n && nat_le n s.closing.word
 
   -- a kept one has this hash
   by_kept : (a : Authenticator) → AreOwed w past → AreChecked w past → is_exposed w past ≡ false
@@ -340,18 +341,18 @@ module _ (w : Watched) (past : Past) (n : ℕ) (x : List ℕ) where
       → IsShownBefore w past n x
   by_kept a owed checked e i is =
       let f = found at_number (kept w past) a is in
-      let before = filtered (λ (b : Authenticator). nat_lt (end_of w past).number b.number)
+      let before = filtered (λ (b : Authenticator). nat_lt (end_of w past).number b.word)
       (noted_before w past) a f.0 in
-      let number : a.number ≡ n = eqb-true a.number n f.1 in
+      let number : a.word ≡ n = eqb-true a.word n f.1 in
       let there : IsAmong (n, a.hash) (shown w past) =
       subst (λ k. IsAmong (k, a.hash) (shown w past)) number (noted_shown w past a e before) in
       let hash : x ≡ a.hash = one_shown w past e n x a.hash i there in
       record {
-        showing = authenticator_showing a;
+        showing = authenticator_showing One a;
         is = ap (λ o. or_segment o (segment_holding n (all_accepted past))) is;
         ps = pair_of a ∷ [];
         good = good_authenticator w a (noted_good w past a owed checked before);
-        there = inl (ap (λ (k : ℕ). (k, x)) (sym number) ∙ ap (λ (y : List ℕ). (a.number, y)) hash);
+        there = inl (ap (λ (k : ℕ). (k, x)) (sym number) ∙ ap (λ (y : List ℕ). (a.word, y)) hash);
       }
 
   -- a segment that holds the number shows this hash
@@ -361,9 +362,9 @@ module _ (w : Watched) (past : Past) (n : ℕ) (x : List ℕ) where
   by_segment s stand e i none is =
       let f = found holds (all_accepted past) s is in
       let good = (stand.segments s f.0).good in
-      let both = and_parts (nat_le s.first n) (nat_le n s.closing.number) f.1 in
+      let both = and_parts (nat_le s.first n) (nat_le n s.closing.word) f.1 in
       let low : s.first ≤ n = leb-true s.first n both.0 in
-      let high : n ≤ s.closing.number = leb-true n s.closing.number both.1 in
+      let high : n ≤ s.closing.word = leb-true n s.closing.word both.1 in
       let some : 0 < s.first = first_some w s good in
       let back : s.first ≡ s.first - 1 + 1 = omega (arith, some) in
       let links = links_from s.first s.entries in
@@ -386,22 +387,22 @@ module _ (w : Watched) (past : Past) (n : ℕ) (x : List ℕ) where
       → IsHeld past n
   held stand some none (AtFirst same) =
       let zero_is : n ≡ 0 = ap (λ (q : Pair). q.0) same in absurd (omega (arith, some, zero_is))
-  held stand some none (OfNoted a i same) = by (nat_lt (end_of w past).number a.number) refl
+  held stand some none (OfNoted a i same) = by (nat_lt (end_of w past).number a.word) refl
     where
-      number : n ≡ a.number
+      number : n ≡ a.word
       number = ap (λ (q : Pair). q.0) same
 
-      by : (b : Bool) → nat_lt (end_of w past).number a.number ≡ b → IsHeld past n
+      by : (b : Bool) → nat_lt (end_of w past).number a.word ≡ b → IsHeld past n
       by false e =
           stand.held n some (omega (
             arith,
             ap (λ (q : Pair). q.0) same,
-            ltb-false (end_of w past).number a.number e,
+            ltb-false (end_of w past).number a.word e,
           ))
       by true e =
-          absurd (true≢false (sym (eq-eqb a.number n (sym (ap (λ (q : Pair). q.0) same)))
+          absurd (true≢false (sym (eq-eqb a.word n (sym (ap (λ (q : Pair). q.0) same)))
           ∙ not_found at_number (kept w past) a none
-          (passing (λ (b : Authenticator). nat_lt (end_of w past).number b.number)
+          (passing (λ (b : Authenticator). nat_lt (end_of w past).number b.word)
           (noted_before w past) a i e)))
   held stand some none (OfAccepted s i j) = by (nat_lt n s.first) refl
     where
@@ -413,7 +414,7 @@ module _ (w : Watched) (past : Past) (n : ℕ) (x : List ℕ) where
           let links = links_from s.first s.entries in
           let h = behind (s.first - 1) s.opening links n x
           (subst (λ k. AreNumbered k links) back (entries_numbered s.first s.entries)) j in
-          let high : n ≤ s.closing.number =
+          let high : n ≤ s.closing.word =
           omega (
             arith,
             h.count,
@@ -426,7 +427,7 @@ module _ (w : Watched) (past : Past) (n : ℕ) (x : List ℕ) where
           let low : s.first ≤ n + 1 = omega (arith, h.count, first) in
           at b e low high k.first
         where
-          at : (b : Bool) → nat_lt n s.first ≡ b → s.first ≤ n + 1 → n ≤ s.closing.number
+          at : (b : Bool) → nat_lt n s.first ≡ b → s.first ≤ n + 1 → n ≤ s.closing.word
               → s.first ≤ (end_of w past).number + 1 → IsHeld past n
           at true e low high first = stand.held n some (omega (arith, low, first, ltb-true n s.first e))
           at false e low high first =
@@ -437,8 +438,8 @@ module _ (w : Watched) (past : Past) (n : ℕ) (x : List ℕ) where
       → IsHeld past n → find holds (all_accepted past) ≡ o → IsShownBefore w past n x
   by_held (Some s) stand e i none h is = by_segment s stand e i none is
   by_held None stand e i none h is =
-      absurd (true≢false (sym (and_from (nat_le h.segment.first n) (nat_le n h.segment.closing.number)
-      (le-leb h.segment.first n h.from) (le-leb n h.segment.closing.number h.to))
+      absurd (true≢false (sym (and_from (nat_le h.segment.first n) (nat_le n h.segment.closing.word)
+      (le-leb h.segment.first n h.from) (le-leb n h.segment.closing.word h.to))
       ∙ not_found holds (all_accepted past) h.segment is h.among))
 
   by_number : (o : Option Authenticator) → AreOwed w past → AreChecked w past → Stand w past

@@ -21,7 +21,7 @@ use Rattle.authenticator.proofs.Signed.{is_false, list_same}
 use Rattle.witness_spec.specs.evidence_spec.Showing.{ShowingParts, authenticator_showing}
 use Rattle.witness_spec.specs.evidence_spec.Showing.{segment_showing}
 use Rattle.witness_spec.specs.evidence_spec.Evidence.{Charge, Fork, Replay, AcceptsCharge, is_charge}
-use Rattle.witness_spec.specs.evidence_spec.Evidence.{charge_item, charge_value}
+use Rattle.witness_spec.specs.evidence_spec.Evidence.{charge_item, charge_value, charge_version}
 use Rattle.witness_spec.proofs.evidence_spec.Places.{AreNumbered, entries_numbered, length-links, behind}
 use Rattle.witness_spec.proofs.evidence_spec.Places.{one_hash}
 use Rattle.witness_spec.specs.Events.{JobParts}
@@ -140,8 +140,8 @@ positive (suc n) h = omega arith
 pub record IsGoodCharge (w : Watched) (g : Charge) : Type 0 where
   -- the node's number has 32 bits
   pub small : w.member.node < 2 ^ 32
-  -- its log is of version 1
-  pub version : IsTrue (keeps_version w.roster w.member.node One)
+  -- its log is of the version of what is shown of it
+  pub version : IsTrue (keeps_version w.roster w.member.node (charge_version g))
   -- the charge is accepted
   pub accepted : AcceptsCharge w.roster w.member.node g
   -- the charge has a text
@@ -161,7 +161,7 @@ record IsNew (w : Watched) (new : ShowingParts) (ps : List Pair) : Type 0 where
   few : (n : ℕ) (x : List ℕ) → IsAmong (n, x) ps → Fits number_item n
 
 new_authenticator : (w : Watched) (a : Authenticator) → IsLearned w a
-    → IsNew w (authenticator_showing a) (pair_of a ∷ [])
+    → IsNew w (authenticator_showing One a) (pair_of a ∷ [])
 new_authenticator w a good = record {
   good = good_authenticator w a good;
   version = good.version;
@@ -192,7 +192,7 @@ new_segment w s good =
       one = λ n x y i j. one_hash (s.first - 1) s.opening links n x y are i j;
       few = λ n x i.
           let h = behind (s.first - 1) s.opening links n x are i in
-          lower_fits n s.closing.number
+          lower_fits n s.closing.word
           (omega (
             arith,
             h.count,
@@ -218,7 +218,7 @@ module _ (w : Watched) (past : Past) (p : Step × Reply) (owed : AreOwed w past)
 
   -- the charge of a fork at 0
   at_zero : (new : ShowingParts) (ps : List Pair) → IsNew w new ps → Forks ps (shown w past) 0
-      → IsGoodCharge w (Fork (record { at = 0; a = new; b = None }))
+      → IsGoodCharge w (Fork (record { log_version = One; at = 0; a = new; b = None }))
   at_zero new ps is f =
       let zero_is : f.other ≡ zeros =
       one_shown w past e 0 f.other zeros f.other_old (first_shown w past) in
@@ -238,7 +238,7 @@ module _ (w : Watched) (past : Past) (p : Step × Reply) (owed : AreOwed w past)
   -- the charge of a fork after 0, with what showed the other hash
   at_number : (n : ℕ) (new old : ShowingParts) (ps qs : List Pair) → IsNew w new ps
       → IsGoodShowing w old qs → (f : Forks ps (shown w past) n) → IsAmong (n, f.other) qs
-      → IsGoodCharge w (Fork (record { at = n; a = old; b = Some new }))
+      → IsGoodCharge w (Fork (record { log_version = One; at = n; a = old; b = Some new }))
   at_number n new old ps qs is before f there = record {
     small = omega (arith, is.good.shows.text.0, is.good.node);
     version = is.version;
@@ -314,19 +314,19 @@ module _ (w : Watched) (past : Past) (p : Step × Reply) (owed : AreOwed w past)
   charged_at new ps n true s is z =
       let f = first_is ps (shown w past) n is in
       let zero_is : n ≡ 0 = eqb-true n 0 z in
-      Charged (Fork (record { at = 0; a = new; b = None }))
+      Charged (Fork (record { log_version = One; at = 0; a = new; b = None }))
       (s.charge_is ∙ (ap (option_and_then (fork_of (kept w past) (all_accepted past) new)) is
       ∙ ap (fork_of (kept w past) (all_accepted past) new) zero_is))
       (fork_exposes new ps n s f) (at_zero new ps s.is (subst (Forks ps (shown w past)) zero_is f))
   charged_at new ps n false s is z =
       let f = first_is ps (shown w past) n is in
       let old = shown_before w past n f.other owed checked stand e (positive n z) f.other_old in
-      Charged (Fork (record { at = n; a = old.showing; b = Some new }))
+      Charged (Fork (record { log_version = One; at = n; a = old.showing; b = Some new }))
       (s.charge_is ∙ (ap (option_and_then (fork_of (kept w past) (all_accepted past) new)) is
-      ∙ (ap (λ b. cond b (Some (Fork (record { at = 0; a = new; b = None })))
-      (option_map (λ x. Fork (record { at = n; a = x; b = Some new }))
+      ∙ (ap (λ b. cond b (Some (Fork (record { log_version = One; at = 0; a = new; b = None })))
+      (option_map (λ x. Fork (record { log_version = One; at = n; a = x; b = Some new }))
       (showing_before (kept w past) (all_accepted past) n))) z
-      ∙ ap (option_map (λ x. Fork (record { at = n; a = x; b = Some new }))) old.is)))
+      ∙ ap (option_map (λ x. Fork (record { log_version = One; at = n; a = x; b = Some new }))) old.is)))
       (fork_exposes new ps n s f) (at_number n new old.showing ps old.ps s.is old.good f old.there)
 
   shows_new : (new : ShowingParts) (ps : List Pair) (o : Option ℕ) → ShowsNew new ps
@@ -388,7 +388,7 @@ module _ (w : Watched) (past : Past) (p : Step × Reply) (owed : AreOwed w past)
       → IsGoodCharge w (Replay (audited_with w past j.segment.segment))) → Charging w past p
   charging (Nothing did) c faulty = shows_nothing (stage_of past) did
   charging (Notes a is did) c faulty =
-      shows_new (authenticator_showing a) (pair_of a ∷ []) (first_fork (pair_of a ∷ []) (shown w past))
+      shows_new (authenticator_showing One a) (pair_of a ∷ []) (first_fork (pair_of a ∷ []) (shown w past))
       (record {
         is = new_authenticator w a (subst (IsCheckedStep w) is c);
         shown_is = shown_by (Some a) None did.notes did.accepts;

@@ -165,8 +165,8 @@ module _ (w : Watched) (log : List Entry) (one : OneHashAtANumber) (is : IsLog l
       let f = goes_on w.roster log end.number end.state j.segment.segment g.reached
       (subst (StageFits end) out g.stage) in
       let moved : end_of w (p ∷ past)
-      ≡ record { number = j.segment.segment.closing.number; state = f.after } =
-      ap (end_after w.roster end) did.files ∙ ap (moved_by end j.segment.segment.closing.number) f.sound in
+      ≡ record { number = j.segment.segment.closing.word; state = f.after } =
+      ap (end_after w.roster end) did.files ∙ ap (moved_by end j.segment.segment.closing.word) f.sound in
       record {
         shown_in = shown_on past p None None did.notes did.accepts nothing_in nothing_in g.shown_in;
         no_fault = ap (λ x. finds_fault w.roster end.state x || has_fault w past) did.files

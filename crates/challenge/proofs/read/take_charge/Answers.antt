@@ -1,20 +1,22 @@
-use Rattle.std.proofs.Common.{refl}
+use Rattle.std.proofs.Common.{refl, option_map}
 use Rattle.std.proofs.lemmas.Result.{err_from_is_err_and}
 use Rattle.xdr.specs.ReadFault.{xdr_fault}
 use Rattle.xdr.specs.ArraysAndUnions.{choice_ok, choice_err_unless}
 use Rattle.secure_log.specs.Segment.{segment_value}
-use Rattle.evidence_showings.specs.evidence_spec.Evidence.{fork_value, charge_item, is_charge}
-use Rattle.challenge.specs.Charges.{fork_in}
+use Rattle.authenticator.specs.declared.member.LogVersion.TheVariants.{One}
+use Rattle.evidence_showings.specs.Worded.{worded_value}
+use Rattle.evidence_showings.specs.evidence_spec.Showing.{showing_value}
+use Rattle.evidence_showings.specs.evidence_spec.Evidence.{charge_item, is_charge}
 use Rattle.challenge.proofs.read.take_charge.Goals as goal
 
-pub returns-in_err-fork-in-1 : goal.returns-in_err-fork-in-1
-returns-in_err-fork-in-1 c =
-    let p = err_from_is_err_and c.from_residual-in_err-fork-in-1.result c.from_residual-in_err-fork-in-1.ensures.1 in
-    rw (p.1, p.2) (choice_err_unless is_charge charge_item c.args.source.now 1 c.take_word.new.source (xdr_fault c.in_err-fork-in-1.field-0.0) (rw c.in-1.is at c.in_ok-take_word.ensures) refl c.in_err-fork-in-1.ensures)
+pub returns-in_err-at-in-1 : goal.returns-in_err-at-in-1
+returns-in_err-at-in-1 c =
+    let p = err_from_is_err_and c.from_residual-in_err-at-in-1.result c.from_residual-in_err-at-in-1.ensures.1 in
+    rw (p.1, p.2) (choice_err_unless is_charge charge_item c.args.source.now 1 c.take_word.new.source (xdr_fault c.in_err-at-in-1.field-0.0) (rw c.in-1.is at c.in_ok-take_word.ensures) refl c.in_err-at-in-1.ensures)
 
-pub returns-in_ok-fork-in-1 : goal.returns-in_ok-fork-in-1
-returns-in_ok-fork-in-1 c =
-    choice_ok is_charge charge_item c.args.source.now 1 c.take_word.new.source (fork_value (fork_in c.in_ok-fork-in-1.fork)) c.take_fork.new.source (rw c.in-1.is at c.in_ok-take_word.ensures) refl c.in_ok-fork-in-1.ensures
+pub returns-in_ok-at-in-1 : goal.returns-in_ok-at-in-1
+returns-in_ok-at-in-1 c =
+    choice_ok is_charge charge_item c.args.source.now 1 c.take_word.new.source (c.in_ok-at-in-1.at, ((showing_value One) c.in_ok-at-in-1.a, option_map (showing_value One) c.in_ok-at-in-1.b)) c.take_fork.new.source (rw c.in-1.is at c.in_ok-take_word.ensures) refl c.in_ok-at-in-1.ensures
 
 pub returns-in_err-log-in-2 : goal.returns-in_err-log-in-2
 returns-in_err-log-in-2 c =
@@ -24,3 +26,12 @@ returns-in_err-log-in-2 c =
 pub returns-in_ok-log-in-2 : goal.returns-in_ok-log-in-2
 returns-in_ok-log-in-2 c =
     choice_ok is_charge charge_item c.args.source.now 2 c.take_word.new.source (segment_value c.in_ok-log-in-2.log) c.take_log.new.source (rw c.in-2.is at c.in_ok-take_word.ensures) refl c.in_ok-log-in-2.ensures
+
+pub returns-in_err-at-in-3 : goal.returns-in_err-at-in-3
+returns-in_err-at-in-3 c =
+    let p = err_from_is_err_and c.from_residual-in_err-at-in-3.result c.from_residual-in_err-at-in-3.ensures.1 in
+    rw (p.1, p.2) (choice_err_unless is_charge charge_item c.args.source.now 3 c.take_word.new.source (xdr_fault c.in_err-at-in-3.field-0.0) (rw c.in-3.is at c.in_ok-take_word.ensures) refl c.in_err-at-in-3.ensures)
+
+pub returns-in_ok-at-in-3 : goal.returns-in_ok-at-in-3
+returns-in_ok-at-in-3 c =
+    choice_ok is_charge charge_item c.args.source.now 3 c.take_word.new.source (c.in_ok-at-in-3.at, (worded_value c.in_ok-at-in-3.a, option_map worded_value c.in_ok-at-in-3.b)) c.take_worded_fork.new.source (rw c.in-3.is at c.in_ok-take_word.ensures) refl c.in_ok-at-in-3.ensures

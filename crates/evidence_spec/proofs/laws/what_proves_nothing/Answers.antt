@@ -1,4 +1,3 @@
-use Rattle.replay_spec.specs.Opening.{opening_of}
 use Rattle.evidence_spec.proofs.Nothing.{own_texts, unsigned}
 use Rattle.evidence_spec.proofs.OneReading.{reading_proves_nothing}
 use Rattle.evidence_spec.proofs.laws.what_proves_nothing.Goals as goal
@@ -7,8 +6,7 @@ pub returns-clause-own : goal.returns-clause-own
 returns-clause-own c = own_texts
 
 pub returns-clause-unsigned : goal.returns-clause-unsigned
-returns-clause-unsigned c = λ ms member node at a b.
-    unsigned ms member node at a b (c.logs_grow.ensures.none ms (opening_of member))
+returns-clause-unsigned c = unsigned
 
 pub returns-clause-reading : goal.returns-clause-reading
 returns-clause-reading c = reading_proves_nothing

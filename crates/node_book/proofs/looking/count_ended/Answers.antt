@@ -12,8 +12,8 @@ returns-clause-count c =
     let n = c.args.number in
     let cs = c.args.segments.now in
     let passes = pass_in_front n cs c.requires.next c.requires.tile in
-    let parts = c.partition_point.ensures.partitioned (λ (s : ClosedParts). nat_lt s.segment.closing.number n)
+    let parts = c.partition_point.ensures.partitioned (λ (s : ClosedParts). nat_lt s.segment.closing.word n)
     (always_returns_same _ _ _ (λ a r f k. search (rules, of_calls)))
-    (is_partitioned (λ (s : ClosedParts). nat_lt s.segment.closing.number n) cs (count_ended n (segments_in cs)) passes) in
-    point_is_count (λ (s : ClosedParts). nat_lt s.segment.closing.number n) cs (count_ended n (segments_in cs))
+    (is_partitioned (λ (s : ClosedParts). nat_lt s.segment.closing.word n) cs (count_ended n (segments_in cs)) passes) in
+    point_is_count (λ (s : ClosedParts). nat_lt s.segment.closing.word n) cs (count_ended n (segments_in cs))
     c.partition_point.result passes c.partition_point.ensures.bound parts

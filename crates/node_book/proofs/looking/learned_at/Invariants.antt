@@ -4,5 +4,5 @@ use Rattle.node_book.proofs.looking.learned_at.Given as goal
 
 abbrev pub invariant-loop-authenticator : goal.invariant-loop-authenticator
 invariant-loop-authenticator l =
-    find (λ (a : Authenticator). a.number == l.number) l.learned
-    ≡ find (λ (a : Authenticator). a.number == l.number) (drop l.authenticator-index l.learned)
+    find (λ (a : Authenticator). a.word == l.number) l.learned
+    ≡ find (λ (a : Authenticator). a.word == l.number) (drop l.authenticator-index l.learned)

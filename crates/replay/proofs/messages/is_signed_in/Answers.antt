@@ -9,10 +9,10 @@ returns-in-Some c =
     signed_same c.args.roster.now
     (record {
       node = c.args.node;
-      number = c.args.number;
+      word = c.args.word;
       hash = c.args.hash.now;
       signature = c.args.signature.now;
     })
     member c.is_signed.result (sym c.member.ensures ∙ c.in-Some.is) c.is_signed.ensures
     (c.tests_as_it_is_signed.ensures.by_root member.root member.height
-    (signed_digest c.args.node c.args.number c.args.hash.now) c.args.signature.now)
+    (signed_digest c.args.node c.args.word c.args.hash.now) c.args.signature.now)

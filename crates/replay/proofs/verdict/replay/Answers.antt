@@ -9,9 +9,9 @@ use Rattle.replay.proofs.verdict.replay.Goals as goal
 
 pub replay_entries-requires-clause-numbers : goal.replay_entries-requires-clause-numbers
 replay_entries-requires-clause-numbers c =
-    let ends = subst (λ (x : SegmentParts). x.closing.number + 1 ≡ x.first + length x.entries)
+    let ends = subst (λ (x : SegmentParts). x.closing.word + 1 ≡ x.first + length x.entries)
     (sym c.segment-segment.ensures.segment) c.segment-segment.ensures.closed.ends.number in
-    let closing = ap (λ (a : Authenticator). a.number) c.closing.ensures in
+    let closing = ap (λ (a : Authenticator). a.word) c.closing.ensures in
     let last = c.get-last.ensures.value in
     let below = c.get-last.ensures.below in
     let first = c.first.ensures in

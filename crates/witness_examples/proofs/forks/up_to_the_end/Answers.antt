@@ -1,6 +1,7 @@
 use Rattle.std.proofs.Common.{◌≡◌, Bool, true, false, cond, Some, rules, refl, ap, ap₂}
 use Rattle.std.specs.Prelude.{◌++◌, filter, nat_lt, option_map}
 use Rattle.authenticator.proofs.Signed.{list_same}
+use Rattle.authenticator.specs.declared.member.LogVersion.TheVariants.{One}
 use Rattle.secure_log.specs.LogEntries.Chain.{zeros, hash_after, link_of}
 use Rattle.secure_log.specs.declared.log_entries.entry.Entry.TheVariants.{Clock}
 use Rattle.replay_spec.specs.Stepping.{step}
@@ -31,12 +32,12 @@ forks =
     (rw (short_first 1 zeros (link_of 1 (Clock 1 0))) refl)
 
 below_charge : new_charge node_five two_filed (Learn (learned 1 one_hash)) Noted
-    ≡ Some (forked 1 (segment_showing two_segment) (Some (authenticator_showing (learned 1 one_hash)))).charge
+    ≡ Some (forked 1 (segment_showing two_segment) (Some (authenticator_showing One (learned 1 one_hash)))).charge
 unfolding step
 below_charge = rw (short_first 1 zeros (link_of 1 (Clock 1 0))) refl
 
 end_charge : new_charge node_five two_filed (Learn (learned 2 one_hash)) Noted
-    ≡ Some (forked 2 (segment_showing two_segment) (Some (authenticator_showing (learned 2 one_hash)))).charge
+    ≡ Some (forked 2 (segment_showing two_segment) (Some (authenticator_showing One (learned 2 one_hash)))).charge
 unfolding step
 end_charge =
     rw (short_first 1 (hash_after zeros (link_of 1 (Clock 1 0))) (link_of 2 (Clock 2 0))) refl
@@ -98,5 +99,5 @@ returns-clause-at_evidence c = record {
 pub returns-clause-unkept : goal.returns-clause-unkept
 unfolding step
 returns-clause-unkept c =
-    ap (λ b. filter (λ a. nat_lt (end_of node_five below_forked).number a.number)
+    ap (λ b. filter (λ a. nat_lt (end_of node_five below_forked).number a.word)
     (unless_exposed b (Some (learned 1 one_hash)) ++ noted_before node_five two_filed)) forks

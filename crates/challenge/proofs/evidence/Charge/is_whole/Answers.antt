@@ -1,5 +1,8 @@
 use Rattle.challenge.proofs.evidence.Charge.is_whole.Goals as goal
 
+pub returns-in-Fork : goal.returns-in-Fork
+returns-in-Fork c = rw c.in-Fork.is c.is_whole.ensures
+
 -- a log is whole as its own call says
 pub returns-in-Replay : goal.returns-in-Replay
-returns-in-Replay c = rw c.in-Replay.is c.is_whole.ensures.value
+returns-in-Replay c = rw c.in-Replay.is c.is_whole-in-Replay.ensures.value

@@ -9,44 +9,44 @@ pub returns-in_default-clause-same : goal.returns-in_default-clause-same
 returns-in_default-clause-same c =
     let a = c.args.authenticator.now in
     let b = book_in c.args.self.now in
-    let shown : None ≡ hash_shown b a.number = cc in
-    (nothing_there b c.requires.ready c.requires.hidden a.number a.hash shown).0
+    let shown : None ≡ hash_shown b a.word = cc in
+    (nothing_there b c.requires.ready c.requires.hidden a.word a.hash shown).0
 
 pub returns-in_default-clause-another : goal.returns-in_default-clause-another
 returns-in_default-clause-another c =
     let a = c.args.authenticator.now in
     let b = book_in c.args.self.now in
-    let shown : None ≡ hash_shown b a.number = cc in
-    (nothing_there b c.requires.ready c.requires.hidden a.number a.hash shown).1
+    let shown : None ≡ hash_shown b a.word = cc in
+    (nothing_there b c.requires.ready c.requires.hidden a.word a.hash shown).1
 
 pub returns-then-is_same_hash-clause-same : goal.returns-then-is_same_hash-clause-same
 returns-then-is_same_hash-clause-same c =
     let a = c.args.authenticator.now in
     let b = book_in c.args.self.now in
-    let shown : Some c.in-Some.hash ≡ hash_shown b a.number = cc in
-    (same_there b c.requires.ready c.requires.hidden a.number a.hash c.in-Some.hash shown
+    let shown : Some c.in-Some.hash ≡ hash_shown b a.word = cc in
+    (same_there b c.requires.ready c.requires.hidden a.word a.hash c.in-Some.hash shown
     (c.is_same_hash.ensures.0 c.if-is_same_hash.true)).0
 
 pub returns-then-is_same_hash-clause-another : goal.returns-then-is_same_hash-clause-another
 returns-then-is_same_hash-clause-another c =
     let a = c.args.authenticator.now in
     let b = book_in c.args.self.now in
-    let shown : Some c.in-Some.hash ≡ hash_shown b a.number = cc in
-    (same_there b c.requires.ready c.requires.hidden a.number a.hash c.in-Some.hash shown
+    let shown : Some c.in-Some.hash ≡ hash_shown b a.word = cc in
+    (same_there b c.requires.ready c.requires.hidden a.word a.hash c.in-Some.hash shown
     (c.is_same_hash.ensures.0 c.if-is_same_hash.true)).1
 
 pub returns-else-is_same_hash-clause-same : goal.returns-else-is_same_hash-clause-same
 returns-else-is_same_hash-clause-same c =
     let a = c.args.authenticator.now in
     let b = book_in c.args.self.now in
-    let shown : Some c.in-Some.hash ≡ hash_shown b a.number = cc in
-    (other_there b c.requires.ready c.requires.hidden a.number a.hash c.in-Some.hash shown
+    let shown : Some c.in-Some.hash ≡ hash_shown b a.word = cc in
+    (other_there b c.requires.ready c.requires.hidden a.word a.hash c.in-Some.hash shown
     (λ same. true≢false (sym (c.is_same_hash.ensures.1 same) ∙ c.if-is_same_hash.false))).0
 
 pub returns-else-is_same_hash-clause-another : goal.returns-else-is_same_hash-clause-another
 returns-else-is_same_hash-clause-another c =
     let a = c.args.authenticator.now in
     let b = book_in c.args.self.now in
-    let shown : Some c.in-Some.hash ≡ hash_shown b a.number = cc in
-    (other_there b c.requires.ready c.requires.hidden a.number a.hash c.in-Some.hash shown
+    let shown : Some c.in-Some.hash ≡ hash_shown b a.word = cc in
+    (other_there b c.requires.ready c.requires.hidden a.word a.hash c.in-Some.hash shown
     (λ same. true≢false (sym (c.is_same_hash.ensures.1 same) ∙ c.if-is_same_hash.false))).1

@@ -9,7 +9,7 @@ returns-then-is_used-clause-signed c = (
   λ _. signed_here (ref_bytes c.borrowed.result) c.args.member.now.root c.args.member.now.height
       (record {
         node = c.args.node;
-        number = c.args.number;
+        word = c.args.word;
         hash = c.args.hash.now;
         signature = c.args.signature.now;
       })
@@ -24,7 +24,7 @@ keep-requires-clause-own c = record {
   height = c.args.member.now.height;
   authenticator = record {
     node = c.args.node;
-    number = c.args.number;
+    word = c.args.word;
     hash = c.args.hash.now;
     signature = c.args.signature.now;
   };

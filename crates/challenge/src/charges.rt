@@ -1,0 +1,90 @@
+//! Charges as they stand in a text.
+
+ghost use Rattle.std.specs.Prelude.{◌≡◌, IfNone, IfOk, IfSome, IsTrue, false, option_map};
+ghost use Rattle.authenticator.specs.declared.member.LogVersion.TheVariants.{Two};
+ghost use Rattle.evidence_showings.specs.Worded.{worded_value};
+ghost use Rattle.evidence_showings.specs.evidence_spec.Showing.{links_follow, showing_value};
+ghost use Rattle.evidence_showings.specs.evidence_spec.Evidence.{charge_value, is_whole_charge, second_follows};
+ghost use Rattle.challenge.specs.Charges.{charge_in};
+ghost use Rattle.challenge.specs.ReadCharges.{read_value};
+
+use crate::evidence::{AuditedLog, Charge, Fork};
+use authenticator::{LogVersion, Number};
+use evidence_showings::{Showing, WordedShowing};
+use std::alloc::{AllocError, Global};
+
+/// What is shown against a node, as it stands in a text. Nothing is checked of the words of a log of version 2, nor
+/// of a log's entries and its first number.
+#[derive(Drop)]
+pub(crate) enum ReadCharge {
+    /// A number, and one showing or two, of a log of version 1.
+    Fork(Number, Showing, Option<Showing>),
+    /// A log.
+    Replay(AuditedLog),
+    /// A number, and one showing or two, of a log of version 2.
+    WordedFork(Number, WordedShowing, Option<WordedShowing>),
+}
+
+impl ReadCharge {
+    /// The charge; None where words of a log of version 2 don't follow. `AllocError` comes only where a growth was
+    /// refused.
+    pub(crate) fn into_charge(self, alloc: Global) -> Result<Option<Charge>, AllocError>
+        ensures some { IfOk result (λ o. IfSome o (λ c. charge_value (charge_in c) ≡ read_value self)) }
+        ensures none { IfOk result (λ o. IfNone o (is_whole_charge (read_value self) ≡ false)) }
+    {
+        match self {
+            ReadCharge::Fork(at, a, b) => Ok(Some(Charge::Fork(Fork {
+                log_version: LogVersion::One,
+                at,
+                a,
+                b,
+            }))),
+            ReadCharge::Replay(log) => Ok(Some(Charge::Replay(log))),
+            ReadCharge::WordedFork(at, a, b) => worded_fork(alloc, at, a, b),
+        }
+    }
+}
+
+/// A fork of a log of version 2; None where its words don't follow.
+fn worded_fork(
+    alloc: Global,
+    at: Number,
+    a: WordedShowing,
+    b: Option<WordedShowing>,
+) -> Result<Option<Charge>, AllocError>
+    ensures some { IfOk result (λ o. IfSome o (λ c.
+        charge_value (charge_in c) ≡ (3, (at, (worded_value a, option_map worded_value b))))) }
+    ensures none { IfOk result (λ o. IfNone o
+        (is_whole_charge (3, (at, (worded_value a, option_map worded_value b))) ≡ false)) }
+{
+    let Some(a) = a.into_showing(alloc)? else {
+        return Ok(None);
+    };
+    let Some(b) = second_showing(alloc, b)? else {
+        return Ok(None);
+    };
+    Ok(Some(Charge::Fork(Fork {
+        log_version: LogVersion::Two,
+        at,
+        a,
+        b,
+    })))
+}
+
+/// The second showing, if there is one; None where there is one whose words don't follow.
+fn second_showing(
+    alloc: Global,
+    second: Option<WordedShowing>,
+) -> Result<Option<Option<Showing>>, AllocError>
+    ensures some { IfOk result (λ o. IfSome o (λ b.
+        option_map (showing_value Two) b ≡ option_map worded_value second)) }
+    ensures none { IfOk result (λ o. IfNone o (second_follows (option_map worded_value second) ≡ false)) }
+{
+    let Some(second) = second else {
+        return Ok(Some(None));
+    };
+    match second.into_showing(alloc)? {
+        Some(showing) => Ok(Some(Some(showing))),
+        None => Ok(None),
+    }
+}

@@ -1,0 +1,39 @@
+use Rattle.std.proofs.Common.{◌≡◌, ◌+◌, ◌++◌, ◌<◌, ◌∙◌, [], ◌∷◌, ap, arith, drop, length, map, rules, subst, sym, take, true}
+use Rattle.std.specs.Prelude.{◌&&◌, ◌/◌, ◌^◌}
+use Rattle.std.proofs.lemmas.List.{take_more}
+use Rattle.authenticator.specs.declared.member.LogVersion.TheVariants.{Two}
+use Rattle.evidence_spec.specs.secure_log.LogEntries.Chain.{last_number}
+use Rattle.evidence_spec.specs.Showing.{ShownLink, link_value, numbered, words_follow}
+use Rattle.evidence_showings.specs.Worded.{WordedLinkParts, follows, worded_link_value, words_in}
+use Rattle.evidence_showings.proofs.Words.{follow_first, head_is, last_snoc, one_more}
+use Rattle.evidence_showings.proofs.worded.shown_links.Goals as goal
+
+-- one link more, whose word follows
+pub loop-place-preserved : goal.loop-place-preserved
+loop-place-preserved c =
+    let there : c.loop-place.place < length c.args.links.now = search rules in
+    let x = c.index-links-place.result in
+    let w = x.entry_word in
+    let here = head_is c.args.links.now c.loop-place.place x there c.index-links-place.is in
+    let word : c.link.inside.word ≡ w = ap (λ (l : WordedLinkParts). l.entry_word) c.link.view_is in
+    let told = subst (λ k. (follows c.loop-place.number k ≡ true)
+    × (c.in-Some.next ≡ c.loop-place.number + 1 + k / 2 ^ 32)) word c.in-Some.ensures.some in
+    let rest = drop (c.loop-place.place + 1) c.args.links.now in
+    let y : ShownLink = record { skipped = w / 2 ^ 32; kind = x.kind; content = x.content } in
+    let items : c.push.new.self.items ≡ c.loop-place.shown.items ++ y ∷ [] =
+    c.in_ok-push.ensures.items ∙ ap (λ z. c.loop-place.shown.items ++ z ∷ []) c.shown.ensures in
+    let i = c.loop-place.invariant in
+    record {
+      words = i.words ∙ ap (λ ks. words_follow c.loop-place.number (words_in ks)) here
+          ∙ follow_first c.loop-place.number w (words_in rest)
+          ∙ ap (λ b. b && words_follow (c.loop-place.number + 1 + w / 2 ^ 32) (words_in rest)) told.0
+          ∙ ap (λ n. words_follow n (words_in rest)) (sym told.1);
+      last = ap (λ ls. last_number c.args.before (numbered c.args.before ls)) items
+          ∙ last_snoc c.args.before c.loop-place.shown.items y
+          ∙ ap (λ n. n + 1 + w / 2 ^ 32) i.last ∙ sym told.1;
+      same = ap (λ ls. map (link_value Two) (numbered c.args.before ls)) items
+          ∙ one_more c.args.before c.loop-place.shown.items c.loop-place.number
+          (take c.loop-place.place c.args.links.now) x i.last told.0 i.same
+          ∙ ap (map worded_link_value) (sym (take_more c.args.links.now c.loop-place.place x there
+          ∙ ap (λ z. take c.loop-place.place c.args.links.now ++ z ∷ []) (sym c.index-links-place.is)));
+    }

@@ -1,0 +1,165 @@
+-- A chain whose last pair is one of a log's has its marks among the log's, gaps included, where no two texts have
+-- one digest.
+-- Serves: what_is_shown_is_of_the_log, accepted_evidence_proves.
+use Rattle.std.proofs.Common.{◌≡◌, ℕ, ◌+◌, ◌<◌, ◌≤◌, List, [], ◌∷◌, ◌++◌, length, inl, inr, refl}
+use Rattle.std.proofs.Common.{sym, ap, subst, ◌∙◌, arith, append_assoc, length-append}
+use Rattle.std.proofs.lemmas.Bool.{cases_lt}
+use Rattle.std.specs.Prelude.{◌⊎◌}
+use Rattle.std.specs.List.{AllByRecursion}
+use Rattle.replay_spec.specs.authenticator.declared.member.LogVersion.{LogVersion}
+use Rattle.replay_spec.specs.secure_log.LogEntries.Chain.{AreNumbered, Link, IsLink, IsChain, IsEndOf, IsAmong}
+use Rattle.replay_spec.specs.secure_log.LogEntries.Chain.{NoCollision, zeros, hash_after, last_hash, last_number}
+use Rattle.replay_spec.specs.secure_log.LogEntries.Chain.{pairs, marks, chain_texts}
+use Rattle.replay_spec.proofs.secure_log.OfLogEntries.FewerTexts.{Within, fewer, left, right, both, beginning}
+use Rattle.replay_spec.proofs.secure_log.OfLogEntries.Chains.{chain_end}
+use Rattle.replay_spec.proofs.secure_log.OfLogEntries.Marks.{marks_parts, marks_begin}
+use Rattle.evidence_spec.proofs.Places.{all_front}
+use Rattle.evidence_spec.proofs.Chained.{last_hash-append}
+use Rattle.evidence_spec.proofs.Gaps.{rise}
+
+last_number-append : (before : ℕ) (xs ys : List Link)
+    → last_number before (xs ++ ys) ≡ last_number (last_number before xs) ys
+last_number-append before [] ys = refl
+last_number-append before (x ∷ xs) ys = last_number-append x.number xs ys
+
+-- of numbered links the first are numbered, and the others after them
+numbered_front : (before : ℕ) (xs ys : List Link) → AreNumbered before (xs ++ ys) → AreNumbered before xs
+numbered_front before [] ys n = tt
+numbered_front before (x ∷ xs) ys n = (n.0, numbered_front x.number xs ys n.1)
+
+numbered_rest : (before : ℕ) (xs ys : List Link) → AreNumbered before (xs ++ ys)
+    → AreNumbered (last_number before xs) ys
+numbered_rest before [] ys n = n
+numbered_rest before (x ∷ xs) ys n = numbered_rest x.number xs ys n.1
+
+-- a number and a hash are those after the first links of a chain
+record StandsAfter (before : ℕ) (opening : List ℕ) (links : List Link) (number : ℕ) (hash : List ℕ) : Type 0 where
+  front : List Link
+  rest : List Link
+  whole : links ≡ front ++ rest
+  is_number : number ≡ last_number before front
+  is_hash : hash ≡ last_hash opening front
+
+at_once : (before : ℕ) (opening : List ℕ) (links : List Link) (number : ℕ) (hash : List ℕ)
+    → ◌≡◌ {A = ℕ × List ℕ} (number, hash) (before, opening) → StandsAfter before opening links number hash
+at_once before opening links number hash e = record {
+  front = [];
+  rest = links;
+  whole = refl;
+  is_number = ap (λ (p : ℕ × List ℕ). p.0) e;
+  is_hash = ap (λ (p : ℕ × List ℕ). p.1) e;
+}
+
+behind : (before : ℕ) (opening : List ℕ) (links : List Link) (number : ℕ) (hash : List ℕ)
+    → IsAmong (number, hash) (pairs before opening links) → StandsAfter before opening links number hash
+behind before opening [] number hash (inl e) = at_once before opening [] number hash e
+behind before opening [] number hash (inr i) = absurd i
+behind before opening (l ∷ links) number hash (inl e) = at_once before opening (l ∷ links) number hash e
+behind before opening (l ∷ links) number hash (inr i) =
+    let rest = behind l.number (hash_after opening l) links number hash i in
+    record {
+      front = l ∷ rest.front;
+      rest = rest.rest;
+      whole = ap (λ ls. l ∷ ls) rest.whole;
+      is_number = rest.is_number;
+      is_hash = rest.is_hash;
+    }
+
+-- links that come from zeros as a log does, and stand at the end of others that are numbered, are all of them
+not_longer : (before : ℕ) (xs front : List Link) → AreNumbered before (xs ++ front) → AreNumbered 0 front
+    → last_number before (xs ++ front) ≡ last_number 0 front → length xs ≡ 0
+not_longer before xs [] n m e =
+    let low = rise before xs (numbered_front before xs [] n) in
+    omega (arith, low, last_number-append before xs [], e)
+not_longer before xs (f ∷ fs) n m e =
+    let low = rise before xs (numbered_front before xs (f ∷ fs) n) in
+    omega (arith, low, (numbered_rest before xs (f ∷ fs) n).0, m.0)
+
+-- the number before links that stand at the end of others
+same_before : (before : ℕ) (b links : List Link) → AreNumbered before links → AreNumbered 0 (b ++ links)
+    → last_number before links ≡ last_number 0 (b ++ links) → last_number 0 b ≡ before
+same_before before b [] n m e = omega (arith, last_number-append 0 b [], e)
+same_before before b (l ∷ ls) n m e = omega (arith, (numbered_rest 0 b (l ∷ ls) m).0, n.0)
+
+module _ (v : LogVersion) (log links : List Link) (before : ℕ) (opening : List ℕ) (log_chain : IsChain v zeros log)
+    (chain : IsChain v opening links) (log_numbered : AreNumbered 0 log) (links_numbered : AreNumbered before links)
+    (unlike : NoCollision (chain_texts zeros log ++ chain_texts opening links))
+    (closing : IsAmong (last_number before links, last_hash opening links) (pairs 0 zeros log)) where
+  b : StandsAfter 0 zeros log (last_number before links) (last_hash opening links)
+  b = behind 0 zeros log (last_number before links) (last_hash opening links) closing
+
+  front_chain : IsChain v zeros b.front
+  front_chain = record {
+    opened = log_chain.opened;
+    each = all_front (IsLink v) b.front b.rest (subst (AllByRecursion (IsLink v)) b.whole log_chain.each);
+  }
+
+  front_numbered : AreNumbered 0 b.front
+  front_numbered = numbered_front 0 b.front b.rest (subst (AreNumbered 0) b.whole log_numbered)
+
+  begins : Within (chain_texts zeros b.front) (chain_texts zeros log)
+  begins = subst (λ ls. Within (chain_texts zeros b.front) (chain_texts zeros ls)) (sym b.whole)
+      (beginning zeros b.front b.rest)
+
+  abbrev cs : List (List ℕ)
+  cs = chain_texts zeros log ++ chain_texts opening links
+
+  apart : NoCollision (chain_texts opening links ++ chain_texts zeros b.front)
+  apart = fewer (chain_texts opening links ++ chain_texts zeros b.front) cs
+      (both (chain_texts opening links) (chain_texts zeros b.front) cs
+      (right (chain_texts zeros log) (chain_texts opening links))
+      (λ t k. left (chain_texts zeros log) (chain_texts opening links) t (begins t k))) unlike
+
+  apart' : NoCollision (chain_texts zeros b.front ++ chain_texts opening links)
+  apart' = fewer (chain_texts zeros b.front ++ chain_texts opening links) cs
+      (both (chain_texts zeros b.front) (chain_texts opening links) cs
+      (λ t k. left (chain_texts zeros log) (chain_texts opening links) t (begins t k))
+      (right (chain_texts zeros log) (chain_texts opening links))) unlike
+
+  -- where it were longer than the log up to there, it would begin before the log does
+  too_long : length b.front < length links → ⊥
+  too_long lt =
+      let end : IsEndOf zeros b.front opening links =
+      chain_end v zeros opening b.front links front_chain chain apart' (sym b.is_hash) (omega (arith, lt)) in
+      let numbers : AreNumbered before (end.before ++ b.front) =
+      subst (AreNumbered before) end.whole links_numbered in
+      let number : last_number before (end.before ++ b.front) ≡ last_number 0 b.front =
+      ap (last_number before) (sym end.whole) ∙ b.is_number in
+      omega (
+        arith,
+        not_longer before end.before b.front numbers front_numbered number,
+        ap length end.whole,
+        length-append end.before b.front,
+        lt,
+      )
+
+  is_end : length links ≤ length b.front → IsEndOf opening links zeros b.front
+  is_end le = chain_end v opening zeros links b.front chain front_chain apart b.is_hash le
+
+  at_the_end : (number : ℕ) (mark : List ℕ) → IsEndOf opening links zeros b.front
+      → IsAmong (number, mark) (marks before opening links) → IsAmong (number, mark) (marks 0 zeros log)
+  at_the_end number mark end i =
+      let from : last_number 0 end.before ≡ before =
+      same_before before end.before links links_numbered (subst (AreNumbered 0) end.whole front_numbered)
+      (b.is_number ∙ ap (last_number 0) end.whole) in
+      let whole : log ≡ end.before ++ (links ++ b.rest) =
+      b.whole ∙ ap (λ ls. ls ++ b.rest) end.whole ∙ append_assoc end.before links b.rest in
+      let m = marks_parts 0 zeros end.before (links ++ b.rest) in
+      let own : marks (last_number 0 end.before) (last_hash zeros end.before) (links ++ b.rest)
+      ≡ marks before opening (links ++ b.rest) =
+      ap (λ n. marks n (last_hash zeros end.before) (links ++ b.rest)) from
+      ∙ ap (λ h. marks before h (links ++ b.rest)) end.hash in
+      let all : marks 0 zeros log ≡ m.0 ++ marks before opening (links ++ b.rest) =
+      ap (marks 0 zeros) whole ∙ m.1 ∙ ap (λ ms. m.0 ++ ms) own in
+      subst (IsAmong (number, mark)) (sym all)
+      (right m.0 (marks before opening (links ++ b.rest)) (number, mark)
+      (marks_begin before opening links b.rest (number, mark) i))
+
+  pub in_log : (number : ℕ) (mark : List ℕ) → IsAmong (number, mark) (marks before opening links)
+      → IsAmong (number, mark) (marks 0 zeros log)
+  in_log number mark i = by_length (cases_lt (length b.front) (length links))
+    where
+      by_length : (length b.front < length links) ⊎ (length links ≤ length b.front)
+          → IsAmong (number, mark) (marks 0 zeros log)
+      by_length (inl lt) = absurd (too_long lt)
+      by_length (inr le) = at_the_end number mark (is_end le) i
