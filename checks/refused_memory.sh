@@ -17,7 +17,7 @@ readonly REFUSED=400
 # Of each subject one more than the requests that the calls have, and how many what is made first has, which aren't refused.
 declare -rA MOST=(
     [replies]=29 [files]=36 [keys]=8 [log]=84 [state]=124 [client]=25 [server]=54 [streams]=19 [steps]=28 [entries]=27
-    [segments]=67 [evidence]=107 [fork]=99 [books]=34 [filings]=13 [served]=27 [returned]=13 [jobs]=41 [rounds]=64 [stored]=0
+    [segments]=67 [evidence]=107 [fork]=47 [books]=34 [filings]=13 [served]=27 [returned]=13 [jobs]=41 [rounds]=64 [stored]=0
 )
 declare -rA MADE=(
     [replies]=0 [files]=8 [keys]=0 [log]=13 [state]=1 [client]=10 [server]=18 [streams]=17 [steps]=20 [entries]=28
@@ -179,7 +179,7 @@ check_subject() {
             # These two copy a signature, and write no text of it.
             least_refused 6 of_authenticator from_start
             ;;
-        fork) least_refused 9 read_case write_case evidence_text read_evidence Evidence::try_clone ;;
+        fork) least_refused 7 read_case write_case evidence_text read_evidence Evidence::try_clone ;;
         # Nothing else takes memory: neither AckIn, Begin and PutBack, nor Ask of the indication and of evidence at hand.
         books)
             exactly_refused 4 'Deliver of an authenticator' 1 SendChallenge 5 'Ask of the challenges' \
