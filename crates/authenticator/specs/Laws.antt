@@ -4,7 +4,8 @@ use Rattle.xdr.specs.Item.{array, spelling}
 use Rattle.merkle_keys.specs.Signing.{SignatureParts, Signed}
 use Rattle.authenticator.specs.Signed.{IsSignedIn}
 use Rattle.authenticator.specs.Signing.{is_signed, is_signed_in}
-use Rattle.authenticator.specs.Roster.{IsRoster, member_item, member_values, roster_item, roster_value, some_gaps}
+use Rattle.authenticator.specs.Roster.{IsRoster, member_item, member_values, roster_item, roster_value}
+use Rattle.authenticator.specs.Roster.{some_gaps}
 use Rattle.authenticator.specs.declared.roster.TheConstants.{MAX_MEMBERS}
 use Rattle.authenticator.specs.declared.member.LogVersion.{LogVersion}
 use Rattle.authenticator.specs.Numbers.{IsNumber, number_in, skipped_in, word_of}

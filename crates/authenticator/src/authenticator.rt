@@ -17,8 +17,8 @@ use std::alloc::{AllocError, Global};
 use xdr::texts::FromText;
 use xdr::{FromXdr, ReadFault, Reader, Writer, put_back_on_err};
 
-/// What a node says by its signature: that its log has this hash at the entry with this word. Nothing is checked
-/// of it: `check` makes a `Checked` value of one that is a member's and signed.
+/// What a node says by its signature: that its log has this hash at the entry with this word. Nothing is
+/// checked of it: `check` makes a `Checked` value of one that is a member's and signed.
 #[derive(Drop)]
 pub struct Authenticator {
     /// The number of the node that signs.

@@ -36,8 +36,8 @@ impl Model for ListedRoster {
 }
 
 impl ListedRoster {
-    /// The roster of these members. `None` comes exactly where they and the form are no roster's text: where a
-    /// number isn't above the one before, or the second form lists no log of version 2. Takes no memory.
+    /// The roster of these members. `None` comes exactly where they and the form are no roster's text: where
+    /// a number isn't above the one before, or the second form lists no log of version 2. Takes no memory.
     pub fn into_roster(self) -> Option<Roster>
         ensures some { IfSome result (λ r. roster_value r ≡ listed_value self) }
         ensures none { IfNone result

@@ -147,8 +147,8 @@ impl Roster {
         }
     }
 
-    /// The roster whose text the bytes are, in either form. `NotAText` comes exactly where they are the text of none,
-    /// `NoMemory` only where a growth was refused.
+    /// The roster whose text the bytes are, in either form. `NotAText` comes exactly where they are the text
+    /// of none, `NoMemory` only where a growth was refused.
     pub fn read(alloc: Global, bytes: &[u8]) -> Result<Roster, TextFault>
         ensures exact { GivesText is_no_text roster_text roster_value bytes.now result }
         ensures found { IfOk result (λ r. IsText roster_text (roster_value r) bytes.now) }

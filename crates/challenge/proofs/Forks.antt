@@ -7,7 +7,8 @@ use Rattle.authenticator.specs.declared.member.LogVersion.{LogVersion}
 use Rattle.authenticator.specs.declared.member.LogVersion.TheVariants.{One, Two}
 use Rattle.evidence_showings.specs.evidence_spec.Showing.{links_follow, showing_value}
 use Rattle.evidence_showings.specs.evidence_spec.Evidence.{ForkParts, charge_item, fork_charge, fork_item}
-use Rattle.evidence_showings.specs.evidence_spec.Evidence.{fork_value, is_charge, is_whole_charge, second_follows}
+use Rattle.evidence_showings.specs.evidence_spec.Evidence.{fork_value, is_charge, is_whole_charge}
+use Rattle.evidence_showings.specs.evidence_spec.Evidence.{second_follows}
 
 -- a fork of a log of version 1 has the text of its kind
 pub fits_one : (v : LogVersion) (f : ForkParts) → v ≡ One → Fits (fork_item One) (fork_value One f)

@@ -20,7 +20,8 @@ use Rattle.replay.specs.declared.outcome.Outcome.TheVariants as outcomes
 use Rattle.evidence_showings.specs.declared.mark.Mark.{Mark}
 use Rattle.evidence_showings.specs.evidence_spec.Showing.{ShowingParts, Shows}
 use Rattle.evidence_showings.specs.evidence_spec.Evidence.{Charge, Fork, Replay, EvidenceParts, AcceptsFork}
-use Rattle.evidence_showings.specs.evidence_spec.Evidence.{AcceptsReplay, AcceptsCharge, Accepts, charge_version}
+use Rattle.evidence_showings.specs.evidence_spec.Evidence.{AcceptsReplay, AcceptsCharge, Accepts}
+use Rattle.evidence_showings.specs.evidence_spec.Evidence.{charge_version}
 use Rattle.challenge.specs.declared.finding.Finding.{Finding}
 use Rattle.challenge.specs.declared.finding.Finding.TheVariants as found
 use Rattle.challenge.specs.declared.finding.NotAccepted.{NotAccepted}

@@ -1,4 +1,9 @@
 -- What evidence in memory says.
+use Rattle.std.specs.Prelude.{◌≡◌, ◌<◌, ⊤, IfSome}
+use Rattle.std.specs.List.{AllByRecursion}
+use Rattle.authenticator.specs.declared.member.LogVersion.{LogVersion}
+use Rattle.authenticator.specs.declared.member.LogVersion.TheVariants.{One, Two}
+use Rattle.evidence_showings.specs.evidence_spec.Showing.{ShowingParts}
 use Rattle.evidence_showings.specs.evidence_spec.Evidence.{ForkParts}
 use Rattle.evidence_showings.specs.evidence_spec.Evidence as spec
 use Rattle.challenge.specs.declared.evidence.Fork.{Fork}
@@ -13,3 +18,14 @@ fork_in f = record { log_version = f.log_version; at = f.at; a = f.a; b = f.b }
 abbrev pub charge_in : Charge → spec.Charge
 charge_in (charges.Fork f) = spec.Fork (fork_in f)
 charge_in (charges.Replay log) = spec.Replay log
+
+-- A showing says no more than its text of a log of a version does: in version 1 its links skip nothing, in
+-- version 2 its first number is at least 1.
+abbrev pub SaysNoMore : LogVersion → ShowingParts → Type 0
+SaysNoMore One s = AllByRecursion (λ l. l.skipped ≡ 0) s.links
+SaysNoMore Two s = 0 < s.first
+
+-- A charge as it is read: its showings say no more than their texts, so that the text tells all of it.
+abbrev pub IsWritten : spec.Charge → Type 0
+IsWritten (spec.Fork f) = SaysNoMore f.log_version f.a × IfSome f.b (SaysNoMore f.log_version)
+IsWritten (spec.Replay s) = ⊤

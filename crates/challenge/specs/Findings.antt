@@ -80,8 +80,8 @@ pub record IsClosedOf (v : LogVersion) (ms : List Member) (node : ℕ) (s : Show
   pub version : IsTrue (keeps_version ms node v)
   pub closed : IsClosedShowing v ms s
 
--- A showing lacks something first, by name: it is to be of the node, whose log is to be of this version where it
--- is a member, to end in its closing, and that is to be signed.
+-- A showing lacks something first, by name: it is to be of the node, whose log is to be of this version where
+-- it is a member, to end in its closing, and that is to be signed.
 abbrev pub ShowingLacks : LogVersion → List Member → (node : ℕ) → ShowingParts → NotAccepted → Type 0
 ShowingLacks v ms node s reasons.AnotherNode = ¬ (s.node ≡ node)
 ShowingLacks v ms node s reasons.OtherVersion = (s.node ≡ node) × IsFalse (keeps_version ms node v)
@@ -133,8 +133,8 @@ pub record HasNoFault (ms : List Member) (node : ℕ) (s : SegmentParts) : Type 
   pub none : (fault : spec.ReplayFault) (number : ℕ)
       → ¬ (verdict_of ms (opening_of member) (placed_in s) ≡ Fault fault number)
 
--- A log lacks something first, by name: it is to be of the node, whose log is to be of version 1 where it is a
--- member, from its first entry on, to end in its closing, that is to be signed, and a replay is to find a
+-- A log lacks something first, by name: it is to be of the node, whose log is to be of version 1 where it is
+-- a member, from its first entry on, to end in its closing, that is to be signed, and a replay is to find a
 -- fault.
 abbrev pub LogLacks : List Member → (node : ℕ) → SegmentParts → NotAccepted → Type 0
 LogLacks ms node s reasons.AnotherNode = ¬ (s.node ≡ node)

@@ -7,6 +7,7 @@ ghost use Rattle.xdr.specs.Texts.Text.{GivesText, IsText};
 ghost use Rattle.evidence_showings.specs.evidence_spec.Evidence.{evidence_value};
 ghost use Rattle.authenticator.specs.Roster.{roster_value};
 ghost use Rattle.challenge.specs.Cases.{case_item, case_text, case_value};
+ghost use Rattle.challenge.specs.Charges.{IsWritten};
 ghost use Rattle.challenge.specs.FaultNumbers.{is_garbage};
 ghost use Rattle.challenge.specs.declared.fault.EvidenceFault.TheVariants.{NoMemory};
 
@@ -37,6 +38,7 @@ pub fn read_case(alloc: Global, bytes: Vec<u8>) -> Result<Case, EvidenceFault>
     ensures found { IfOk result (λ c. IsText case_text (case_value c) bytes.items) }
     ensures only { (v : Value case_text.item) → IsText case_text v bytes.items →
         MatchResult result (λ c. case_value c ≡ v) (λ e. e ≡ NoMemory) }
+    ensures written { IfOk result (λ c. IsWritten c.evidence.charge) }
 {
     are_bytes(&bytes);
     case_of(alloc, Source::new(bytes))
@@ -44,7 +46,8 @@ pub fn read_case(alloc: Global, bytes: Vec<u8>) -> Result<Case, EvidenceFault>
 
 /// The case whose text is what is left of the bytes, to their end.
 fn case_of(alloc: Global, mut source: Source) -> Result<Case, EvidenceFault>
-    ensures { GivesText is_garbage case_text case_value source result }
+    ensures text { GivesText is_garbage case_text case_value source result }
+    ensures written { IfOk result (λ c. IsWritten c.evidence.charge) }
 {
     are_bytes(source.rest());
     let listed = take_roster(alloc, &mut source)?;

@@ -1,24 +1,26 @@
 //! Charges as they stand in a text.
 
 ghost use Rattle.std.specs.Prelude.{◌≡◌, IfNone, IfOk, IfSome, IsTrue, false, option_map};
-ghost use Rattle.authenticator.specs.declared.member.LogVersion.TheVariants.{Two};
+ghost use Rattle.authenticator.specs.declared.member.LogVersion.TheVariants.{One, Two};
+ghost use Rattle.evidence_showings.specs.Plain.{plain_value};
 ghost use Rattle.evidence_showings.specs.Worded.{worded_value};
 ghost use Rattle.evidence_showings.specs.evidence_spec.Showing.{links_follow, showing_value};
-ghost use Rattle.evidence_showings.specs.evidence_spec.Evidence.{charge_value, is_whole_charge, second_follows};
-ghost use Rattle.challenge.specs.Charges.{charge_in};
+ghost use Rattle.evidence_showings.specs.evidence_spec.Evidence.{charge_value, is_whole_charge};
+ghost use Rattle.evidence_showings.specs.evidence_spec.Evidence.{second_follows};
+ghost use Rattle.challenge.specs.Charges.{IsWritten, SaysNoMore, charge_in};
 ghost use Rattle.challenge.specs.ReadCharges.{read_value};
 
 use crate::evidence::{AuditedLog, Charge, Fork};
 use authenticator::{LogVersion, Number};
-use evidence_showings::{Showing, WordedShowing};
+use evidence_showings::{PlainShowing, Showing, WordedShowing};
 use std::alloc::{AllocError, Global};
 
-/// What is shown against a node, as it stands in a text. Nothing is checked of the words of a log of version 2, nor
-/// of a log's entries and its first number.
+/// What is shown against a node, as it stands in a text. Nothing is checked of the words of a log of version
+/// 2, nor of a log's entries and its first number.
 #[derive(Drop)]
 pub(crate) enum ReadCharge {
     /// A number, and one showing or two, of a log of version 1.
-    Fork(Number, Showing, Option<Showing>),
+    Fork(Number, PlainShowing, Option<PlainShowing>),
     /// A log.
     Replay(AuditedLog),
     /// A number, and one showing or two, of a log of version 2.
@@ -26,22 +28,65 @@ pub(crate) enum ReadCharge {
 }
 
 impl ReadCharge {
-    /// The charge; None where words of a log of version 2 don't follow. `AllocError` comes only where a growth was
-    /// refused.
+    /// The charge; None where words of a log of version 2 don't follow. `AllocError` comes only where a
+    /// growth was refused.
     pub(crate) fn into_charge(self, alloc: Global) -> Result<Option<Charge>, AllocError>
         ensures some { IfOk result (λ o. IfSome o (λ c. charge_value (charge_in c) ≡ read_value self)) }
         ensures none { IfOk result (λ o. IfNone o (is_whole_charge (read_value self) ≡ false)) }
+        ensures written { IfOk result (λ o. IfSome o (λ c. IsWritten (charge_in c))) }
     {
         match self {
-            ReadCharge::Fork(at, a, b) => Ok(Some(Charge::Fork(Fork {
-                log_version: LogVersion::One,
-                at,
-                a,
-                b,
-            }))),
+            ReadCharge::Fork(at, a, b) => {
+                let fork = plain_fork(alloc, at, a, b)?;
+                Ok(Some(fork))
+            }
             ReadCharge::Replay(log) => Ok(Some(Charge::Replay(log))),
             ReadCharge::WordedFork(at, a, b) => worded_fork(alloc, at, a, b),
         }
+    }
+}
+
+/// A fork of a log of version 1.
+fn plain_fork(
+    alloc: Global,
+    at: Number,
+    a: PlainShowing,
+    b: Option<PlainShowing>,
+) -> Result<Charge, AllocError>
+    ensures some { IfOk result (λ c.
+        charge_value (charge_in c) ≡ (1, (at, (plain_value a, option_map plain_value b)))) }
+    ensures written { IfOk result (λ c. IsWritten (charge_in c)) }
+{
+    let a = plain_showing(alloc, a)?;
+    let b = plain_second(alloc, b)?;
+    Ok(Charge::Fork(Fork {
+        log_version: LogVersion::One,
+        at,
+        a,
+        b,
+    }))
+}
+
+/// A showing of a log of version 1, whose links skip nothing.
+fn plain_showing(alloc: Global, plain: PlainShowing) -> Result<Showing, AllocError>
+    ensures text { IfOk result (λ s. showing_value One s ≡ plain_value plain) }
+    ensures written { IfOk result (SaysNoMore One) }
+{
+    let showing = plain.into_showing(alloc)?;
+    Ok(showing)
+}
+
+/// The second showing, if there is one.
+fn plain_second(alloc: Global, second: Option<PlainShowing>) -> Result<Option<Showing>, AllocError>
+    ensures text { IfOk result (λ b. option_map (showing_value One) b ≡ option_map plain_value second) }
+    ensures written { IfOk result (λ b. IfSome b (SaysNoMore One)) }
+{
+    match second {
+        Some(second) => {
+            let showing = plain_showing(alloc, second)?;
+            Ok(Some(showing))
+        }
+        None => Ok(None),
     }
 }
 
@@ -56,6 +101,7 @@ fn worded_fork(
         charge_value (charge_in c) ≡ (3, (at, (worded_value a, option_map worded_value b))))) }
     ensures none { IfOk result (λ o. IfNone o
         (is_whole_charge (3, (at, (worded_value a, option_map worded_value b))) ≡ false)) }
+    ensures written { IfOk result (λ o. IfSome o (λ c. IsWritten (charge_in c))) }
 {
     let Some(a) = a.into_showing(alloc)? else {
         return Ok(None);
@@ -79,6 +125,7 @@ fn second_showing(
     ensures some { IfOk result (λ o. IfSome o (λ b.
         option_map (showing_value Two) b ≡ option_map worded_value second)) }
     ensures none { IfOk result (λ o. IfNone o (second_follows (option_map worded_value second) ≡ false)) }
+    ensures written { IfOk result (λ o. IfSome o (λ b. IfSome b (SaysNoMore Two))) }
 {
     let Some(second) = second else {
         return Ok(Some(None));

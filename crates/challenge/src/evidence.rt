@@ -6,7 +6,8 @@ ghost use Rattle.authenticator.specs.declared.member.LogVersion.TheVariants.{One
 ghost use Rattle.evidence_showings.specs.evidence_spec.Showing.{links_follow, showing_item, showing_value};
 ghost use Rattle.evidence_showings.specs.evidence_spec.Evidence.{evidence_item, evidence_value};
 ghost use Rattle.evidence_showings.specs.evidence_spec.Evidence.{charge_value, evidence_text};
-ghost use Rattle.evidence_showings.specs.evidence_spec.Evidence.{fork_charge, is_whole_charge, second_follows};
+ghost use Rattle.evidence_showings.specs.evidence_spec.Evidence.{fork_charge, is_whole_charge};
+ghost use Rattle.evidence_showings.specs.evidence_spec.Evidence.{second_follows};
 ghost use Rattle.evidence_showings.specs.evidence_spec.Evidence as spec;
 ghost use Rattle.challenge.specs.Charges.{charge_in, fork_in};
 
@@ -101,7 +102,8 @@ impl Evidence {
         &self.charge
     }
 
-    /// It has a text, as its type and those of its parts keep it: does nothing, and tells a caller's proof.
+    /// It has a text, as its type and those of its parts keep it: tells a caller's proof, and changes
+    /// nothing. Of a fork of a log of version 2 it looks at each link once.
     pub fn has_text(&self)
         ensures fits { Fits evidence_item (evidence_value self.now) }
         ensures whole { IsTrue (evidence_text.test (evidence_value self.now)) }
@@ -122,7 +124,8 @@ impl Charge {
         }
     }
 
-    /// Each part has a spelling, as the types of its parts keep it: does nothing, and tells a caller's proof.
+    /// Each part has a spelling, as the types of its parts keep it: tells a caller's proof, as `has_text`
+    /// does.
     fn fits(&self)
         requires { IsTrue (is_whole_charge (charge_value (charge_in self.now))) }
         ensures { Fits (choice spec.is_charge spec.charge_item) (charge_value (charge_in self.now)) }
@@ -145,7 +148,8 @@ impl Fork {
         }
     }
 
-    /// Each part has a spelling, as the types of its parts keep it: does nothing, and tells a caller's proof.
+    /// Each part has a spelling, as the types of its parts keep it: tells a caller's proof. Of a log of
+    /// version 2 it looks at each link once.
     fn fits(&self)
         requires { IsTrue (is_whole_charge (fork_charge self.now.log_version (fork_in self.now))) }
         ensures { Fits (choice spec.is_charge spec.charge_item)

@@ -5,8 +5,8 @@ ghost use Rattle.xdr.specs.Item.{array, fixed, optional, pair, word};
 ghost use Rattle.xdr.specs.Reading.{GivesUnless};
 ghost use Rattle.xdr.specs.ReadFault.{xdr_fault};
 ghost use Rattle.authenticator.specs.Roster.{listed_value, roster_item};
+ghost use Rattle.evidence_showings.specs.Plain.{plain_value};
 ghost use Rattle.evidence_showings.specs.Worded.{worded_value};
-ghost use Rattle.evidence_showings.specs.evidence_spec.Showing.{showing_value};
 ghost use Rattle.evidence_showings.specs.evidence_spec.Evidence.{MAX_AUDITED, fork_item};
 ghost use Rattle.authenticator.specs.Numbers.{number_item};
 ghost use Rattle.authenticator.specs.declared.member.LogVersion.TheVariants.{One, Two};
@@ -16,7 +16,7 @@ ghost use Rattle.challenge.specs.Taking.{LeavesOf};
 
 use crate::source::Source;
 use authenticator::{Authenticator, ListedRoster, Number};
-use evidence_showings::{MAX_AUDITED, Showing, WordedShowing};
+use evidence_showings::{MAX_AUDITED, PlainShowing, WordedShowing};
 use secure_log::log_entries::Entry;
 use std::alloc::Global;
 use xdr::{FromXdr, ReadFault, Reader, XdrFault};
@@ -143,12 +143,12 @@ pub(crate) fn take_authenticator(
 pub(crate) fn take_fork(
     alloc: Global,
     source: &mut Source,
-) -> Result<(Number, Showing, Option<Showing>), ReadFault>
+) -> Result<(Number, PlainShowing, Option<PlainShowing>), ReadFault>
     ensures { GivesUnless xdr_fault (fork_item One)
-        (λ f. (f.0, (showing_value One f.1, option_map (showing_value One) f.2)))
+        (λ f. (f.0, (plain_value f.1, option_map plain_value f.2)))
         source.old result source.new }
 {
-    let (fork, left): ((Number, Showing, Option<Showing>), usize) = fork_in_front(
+    let (fork, left): ((Number, PlainShowing, Option<PlainShowing>), usize) = fork_in_front(
         alloc,
         source.rest(),
     )?;

@@ -10,6 +10,7 @@ ghost use Rattle.evidence_showings.specs.evidence_spec.Evidence.{MAX_AUDITED};
 ghost use Rattle.evidence_showings.specs.evidence_spec.Evidence.{charge_item, is_charge};
 ghost use Rattle.evidence_showings.specs.evidence_spec.Evidence.{evidence_item, evidence_text};
 ghost use Rattle.evidence_showings.specs.evidence_spec.Evidence.{evidence_value};
+ghost use Rattle.challenge.specs.Charges.{IsWritten};
 ghost use Rattle.challenge.specs.FaultNumbers.{is_garbage};
 ghost use Rattle.challenge.specs.ReadCharges.{read_value};
 ghost use Rattle.challenge.specs.declared.fault.EvidenceFault.TheVariants.{NoMemory};
@@ -34,6 +35,7 @@ pub fn read_evidence(alloc: Global, bytes: Vec<u8>) -> Result<Evidence, Evidence
     ensures found { IfOk result (λ e. IsText evidence_text (evidence_value e) bytes.items) }
     ensures only { (v : Value evidence_text.item) → IsText evidence_text v bytes.items →
         MatchResult result (λ e. evidence_value e ≡ v) (λ e. e ≡ NoMemory) }
+    ensures written { IfOk result (λ e. IsWritten e.charge) }
 {
     are_bytes(&bytes);
     evidence_of(alloc, Source::new(bytes))
@@ -42,7 +44,8 @@ pub fn read_evidence(alloc: Global, bytes: Vec<u8>) -> Result<Evidence, Evidence
 /// The evidence whose text is what is left of the bytes, to their end.
 #[tactic(auto, unfolding(xdr::specs::Texts::Text::text_at))]
 pub(crate) fn evidence_of(alloc: Global, mut source: Source) -> Result<Evidence, EvidenceFault>
-    ensures { GivesText is_garbage evidence_text evidence_value source result }
+    ensures text { GivesText is_garbage evidence_text evidence_value source result }
+    ensures written { IfOk result (λ e. IsWritten e.charge) }
 {
     let (node, charge) = take_parts(alloc, &mut source)?;
     if !source.rest().is_empty() {

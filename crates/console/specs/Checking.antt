@@ -8,6 +8,7 @@ use Rattle.authenticator.specs.declared.member.Member.{Member}
 use Rattle.challenge.specs.evidence_spec.Evidence.{Accepts}
 use Rattle.challenge.specs.evidence_spec.Proving.{Proves}
 use Rattle.challenge.specs.Cases.{case_text, case_value}
+use Rattle.challenge.specs.Charges.{IsWritten}
 use Rattle.challenge.specs.Findings.{Finds}
 use Rattle.challenge.specs.declared.case.Case.{Case}
 use Rattle.challenge.specs.declared.finding.Finding.TheVariants as finding
@@ -45,11 +46,13 @@ JudgesCase trusted c (NoEvidence why) = JudgesReason trusted c why
 
 -- ---- what is said of bytes
 
--- The bytes are a roster's text with that of evidence after it, of which this is said. Exposed: it is against
--- this node, accepted under that roster, and so proves that no log of the node is honest.
+-- The bytes are a roster's text with that of evidence after it, which says no more than its text, and of
+-- which this is said. Exposed: it is against this node, accepted under that roster, and so proves that no log
+-- of the node is honest.
 pub record JudgesText (trusted : Option (List Member)) (bytes : List ℕ) (judgement : Judgement) : Type 0 where
   pub case : Case
   pub text : text_at case_text bytes ≡ Some (case_value case)
+  pub written : IsWritten case.evidence.charge
   pub judged : JudgesCase trusted case judgement
 
 abbrev pub Judges : Option (List Member) → List ℕ → Judgement → Type 0

@@ -7,8 +7,8 @@ use Rattle.console.specs.declared.input.Contents.{Contents}
 use Rattle.console.specs.declared.input.Contents.TheVariants.{Whole, Front}
 
 -- The most bytes of a file with evidence: 3,080 of a roster of 64 members in its second form, 8 of the node
--- and the charge, and 1,916,551,780 of a log of 65,536 entries. A fork has far fewer. An entry has 29,244 bytes at most: a message
--- received, with a body of 12,288 bytes and a signature whose path has 16 hashes.
+-- and the charge, and 1,916,551,780 of a log of 65,536 entries. An entry has 29,244 bytes at most: a message
+-- received, with a body of 12,288 bytes and a signature whose path has 16 hashes. A fork has far fewer.
 abbrev pub longest_case : ℕ
 longest_case = 1916554868
 

@@ -1,18 +1,17 @@
 -- The mark of a number after some links: where it lies in a gap, at a link, or past the last.
 -- Serves: mark_after, Showing::mark_at.
-use Rattle.std.proofs.Common.{◌≡◌, ℕ, zero, suc, ◌+◌, ◌-◌, ◌<◌, ◌≤◌, List, [], ◌∷◌, ◌++◌, inl, inr, refl, sym, ap}
+use Rattle.std.proofs.Common.{◌≡◌, ℕ, zero, suc, ◌+◌, ◌-◌, ◌<◌, ◌≤◌, List, [], ◌∷◌, inl, inr, refl, sym, ap}
 use Rattle.std.proofs.Common.{subst, ◌∙◌, arith}
 use Rattle.std.specs.Prelude.{◌⊎◌, ◌↔◌, Option, Some, None}
 use Rattle.std.proofs.lemmas.Bool.{cases_lt}
-use Rattle.evidence_spec.specs.secure_log.LogEntries.Chain.{AreNumbered, IsAmong, Link, hash_after, marks, no_entry}
+use Rattle.evidence_spec.specs.secure_log.LogEntries.Chain.{AreNumbered, IsAmong, Link, hash_after, marks}
+use Rattle.evidence_spec.specs.secure_log.LogEntries.Chain.{no_entry}
 use Rattle.evidence_spec.specs.secure_log.LogEntries.Chain.{none_from}
 use Rattle.evidence_spec.proofs.secure_log.OfLogEntries.FewerTexts.{left, right, either}
 use Rattle.evidence_spec.proofs.secure_log.OfLogEntries.Marks.{one_mark}
-use Rattle.evidence_spec.specs.Showing.{MaySkip, ShownLink, numbered}
+use Rattle.evidence_spec.specs.Showing.{ShownLink, numbered}
 use Rattle.evidence_spec.proofs.Gaps.{shown_after}
 use Rattle.evidence_showings.specs.Showings.{numbered_link}
-use Rattle.authenticator.specs.declared.member.LogVersion.{LogVersion}
-use Rattle.std.specs.List.{AllByRecursion}
 
 none_below : (first count n : ℕ) (x : List ℕ) → IsAmong (n, x) (none_from first count) → n < first + count
 none_below first zero n x i = absurd i

@@ -1,24 +1,25 @@
 -- Words of shown links: those that follow, and what links may skip.
--- Serves: may_skip, closes, Showing::has_words, Showing::of_words, WordedShowing::into_showing, read_parts, add_links.
+-- Serves: may_skip, closes, Showing::has_words, Showing::of_words, WordedShowing::into_showing, read_parts,
+-- add_links.
 use Rattle.std.proofs.Common.{◌≡◌, ℕ, ◌+◌, ◌-◌, ◌<◌, ◌≤◌, ◌^◌, Bool, true, false, List, [], ◌∷◌, ◌++◌, length}
 use Rattle.std.proofs.Common.{drop, get_or, map, refl, sym, ap, ap₂, subst, ◌∙◌, arith}
-use Rattle.std.specs.Prelude.{◌*◌, ◌/◌, ◌%◌, ◌&&◌, ◌==◌, ◌↔◌, IsTrue, nat_le}
+use Rattle.std.specs.Prelude.{◌*◌, ◌/◌, ◌%◌, ◌&&◌, ◌==◌, ◌↔◌, nat_le}
 use Rattle.std.specs.List.{AllByRecursion}
 use Rattle.std.proofs.lemmas.Bool.{le-leb, leb-true, lt-ltb, eqb-true, eq-eqb, and_parts, and_from}
 use Rattle.std.proofs.lemmas.List.{drop_more, length-map, map-append}
 use Rattle.xdr.specs.Item.{Fits}
 use Rattle.authenticator.specs.declared.member.LogVersion.{LogVersion}
 use Rattle.authenticator.specs.declared.member.LogVersion.TheVariants.{One, Two}
-use Rattle.authenticator.specs.Numbers.{is_number, number_in, word_of}
+use Rattle.authenticator.specs.Numbers.{number_in, word_of}
 use Rattle.authenticator.proofs.Words.{word_is}
 use Rattle.evidence_spec.specs.secure_log.LogEntries.Chain.{Link, last_number}
 use Rattle.evidence_spec.specs.secure_log.declared.segment.TheConstants.{MAX_ENTRIES}
 use Rattle.evidence_spec.proofs.Gaps.{closing_number, length-shown, rise, shown_after}
 use Rattle.evidence_spec.specs.Showing.{ClosesAt, MAX_SKIPPED, MaySkip, ShownLink, ShowingParts, last_word}
 use Rattle.evidence_spec.specs.Showing.{link_item, link_value}
-use Rattle.evidence_spec.specs.Showing.{links_follow, links_in, numbered, showing_item, showing_value, words_follow}
+use Rattle.evidence_spec.specs.Showing.{links_in, numbered, showing_item, showing_value, words_follow}
 use Rattle.evidence_showings.specs.Showings.{HasText, HasWords, numbered_link, word_after}
-use Rattle.evidence_showings.specs.Worded.{WordedLinkParts, follows, worded_link_value, words_in}
+use Rattle.evidence_showings.specs.Worded.{WordedLinkParts, follows, worded_link_value}
 
 -- ---- one link more
 

@@ -17,8 +17,8 @@ HasText s = Fits (showing_item One) (showing_value One s)
 abbrev pub HasWords : ShowingParts → Type 0
 HasWords s = AllByRecursion (MaySkip Two) (links_in s)
 
--- A showing speaks of numbers from 1 on, skips as a log of this version may, and ends in the word and hash of its
--- closing, which is of the same node.
+-- A showing speaks of numbers from 1 on, skips as a log of this version may, and ends in the word and hash of
+-- its closing, which is of the same node.
 pub record Ends (v : LogVersion) (s : ShowingParts) : Type 0 where
   pub first : 0 < s.first
   pub skips : AllByRecursion (MaySkip v) (links_in s)

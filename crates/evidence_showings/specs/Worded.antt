@@ -33,7 +33,8 @@ worded_value s =
 abbrev pub words_in : List WordedLinkParts → List ℕ
 words_in ls = map (λ v. v.0) (map worded_link_value ls)
 
--- a word follows on a number: it skips at most MAX_SKIPPED, and its number is that one, 1 more, and what it skips
+-- a word follows on a number: it skips at most MAX_SKIPPED, and its number is that one, 1 more, and what it
+-- skips
 abbrev pub follows : (before entry_word : ℕ) → Bool
 follows before entry_word =
     nat_le (entry_word / 2 ^ 32) MAX_SKIPPED && (entry_word % 2 ^ 32 == before + 1 + entry_word / 2 ^ 32)

@@ -19,5 +19,6 @@ pub use evidence_spec::laws::accepted_evidence_proves;
 pub use kind::EntryKind;
 pub use link::ShownLink;
 pub use mark::Mark;
+pub use read::PlainShowing;
 pub use showing::Showing;
 pub use worded::WordedShowing;

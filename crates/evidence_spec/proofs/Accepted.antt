@@ -14,7 +14,8 @@ use Rattle.replay_spec.specs.authenticator.Signed.{IsSignedBy, IsSignedIn}
 use Rattle.replay_spec.proofs.authenticator.Members.{member_node}
 use Rattle.replay_spec.specs.secure_log.declared.log_entries.entry.Entry.{Entry}
 use Rattle.replay_spec.specs.secure_log.LogEntries.Entry.{entry_item, entry_value}
-use Rattle.replay_spec.specs.secure_log.LogEntries.Chain.{Link, Logged, NoCollision, IsAmong, zeros, chain_texts}
+use Rattle.replay_spec.specs.secure_log.LogEntries.Chain.{Link, Logged, NoCollision, IsAmong, zeros}
+use Rattle.replay_spec.specs.secure_log.LogEntries.Chain.{chain_texts}
 use Rattle.replay_spec.specs.secure_log.LogEntries.Chain.{links_from, marks, pairs, without_gaps}
 use Rattle.replay_spec.specs.secure_log.Log.{log_pairs}
 use Rattle.replay_spec.specs.secure_log.Segment.{SegmentParts, FitsWithin}

@@ -1,11 +1,12 @@
--- A chain without gaps whose last pair is one of a log is a part of the log's chain, and its pairs are the log's.
--- Serves: what_is_shown_is_of_the_log.
+-- A chain without gaps whose last pair is one of a log is a part of the log's chain, and its pairs are the
+-- log's. Serves: what_is_shown_is_of_the_log.
 use Rattle.std.proofs.Common.{◌≡◌, ℕ, ◌+◌, ◌-◌, ◌<◌, List, [], ◌∷◌, ◌++◌, length, refl, sym, ap, subst, ◌∙◌}
 use Rattle.std.proofs.Common.{arith, append_assoc, length-append}
 use Rattle.std.proofs.lemmas.List.{length-replicate}
 use Rattle.std.specs.List.{AllByRecursion}
 use Rattle.replay_spec.specs.authenticator.declared.member.LogVersion.TheVariants.{One}
-use Rattle.replay_spec.specs.secure_log.LogEntries.Chain.{Link, IsLink, IsChain, IsEndOf, zeros, hash_after, last_hash}
+use Rattle.replay_spec.specs.secure_log.LogEntries.Chain.{Link, IsLink, IsChain, IsEndOf, zeros, hash_after}
+use Rattle.replay_spec.specs.secure_log.LogEntries.Chain.{last_hash}
 use Rattle.replay_spec.specs.secure_log.LogEntries.Chain.{pairs, chain_texts, NoCollision, IsAmong}
 use Rattle.replay_spec.proofs.secure_log.OfLogEntries.Chains.{chain_end}
 use Rattle.replay_spec.proofs.secure_log.OfLogEntries.FewerTexts.{Within, fewer, left, right, both, beginning}

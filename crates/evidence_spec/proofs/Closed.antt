@@ -15,14 +15,17 @@ use Rattle.replay_spec.specs.authenticator.declared.member.Member.{Member}
 use Rattle.replay_spec.specs.authenticator.Numbers.{is_number, number_in}
 use Rattle.replay_spec.specs.authenticator.Signed.{IsSignedIn, authenticator_item, authenticator_value}
 use Rattle.replay_spec.specs.secure_log.declared.log_entries.entry.Entry.{Entry}
-use Rattle.replay_spec.specs.secure_log.declared.log_entries.entry.Entry.TheVariants.{Send, Recv, Ack, Clock, Check}
+use Rattle.replay_spec.specs.secure_log.declared.log_entries.entry.Entry.TheVariants.{Send, Recv, Ack, Clock}
+use Rattle.replay_spec.specs.secure_log.declared.log_entries.entry.Entry.TheVariants.{Check}
 use Rattle.replay_spec.specs.secure_log.LogEntries.Entry.{is_kind, kind_number, entry_value, content}
 use Rattle.replay_spec.specs.secure_log.LogEntries.Chain.{last_hash, links_from, link_of, marks}
 use Rattle.replay_spec.proofs.secure_log.OfLogEntries.Marks.{marks_are_pairs}
 use Rattle.replay_spec.specs.secure_log.declared.segment.TheConstants.{MAX_ENTRIES}
 use Rattle.replay_spec.specs.secure_log.Segment.{SegmentParts, IsClosed, FitsWithin, segment_pairs}
-use Rattle.evidence_spec.specs.Showing.{ClosesAt, MaySkip, numbered, last_word, link_item, link_value, links_in}
-use Rattle.evidence_spec.specs.Showing.{authenticator_showing, segment_showing, shown_link, start_item, start_value}
+use Rattle.evidence_spec.specs.Showing.{ClosesAt, MaySkip, numbered, last_word, link_item, link_value}
+use Rattle.evidence_spec.specs.Showing.{links_in}
+use Rattle.evidence_spec.specs.Showing.{authenticator_showing, segment_showing, shown_link, start_item}
+use Rattle.evidence_spec.specs.Showing.{start_value}
 use Rattle.evidence_spec.specs.Laws.{ShowsMarks}
 use Rattle.evidence_spec.proofs.Places.{length-links}
 use Rattle.evidence_spec.proofs.Shown.{next_fits}

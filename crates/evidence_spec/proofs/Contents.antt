@@ -10,7 +10,8 @@ use Rattle.xdr.proofs.Exact.{one_meaning}
 use Rattle.merkle_keys.specs.Signing.{SignatureParts, signature_item, signature_value}
 use Rattle.replay_spec.specs.secure_log.LogEntries.Signatures.{signature_digest}
 use Rattle.replay_spec.specs.secure_log.declared.log_entries.entry.Entry.{Entry}
-use Rattle.replay_spec.specs.secure_log.declared.log_entries.entry.Entry.TheVariants.{Send, Recv, Ack, Clock, Check}
+use Rattle.replay_spec.specs.secure_log.declared.log_entries.entry.Entry.TheVariants.{Send, Recv, Ack, Clock}
+use Rattle.replay_spec.specs.secure_log.declared.log_entries.entry.Entry.TheVariants.{Check}
 use Rattle.replay_spec.specs.secure_log.LogEntries.Entry.{entry_item, entry_value, content}
 use Rattle.replay_spec.specs.secure_log.LogEntries.Chain.{NoCollision}
 use Rattle.evidence_spec.specs.Proving.{signature_text, entry_texts}

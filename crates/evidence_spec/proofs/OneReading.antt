@@ -14,7 +14,8 @@ use Rattle.replay_spec.specs.authenticator.declared.member.LogVersion.TheVariant
 use Rattle.replay_spec.specs.authenticator.Numbers.{number_in}
 use Rattle.replay_spec.specs.secure_log.declared.log_entries.entry.Entry.TheVariants.{Clock}
 use Rattle.replay_spec.specs.secure_log.LogEntries.Entry.{content}
-use Rattle.replay_spec.specs.secure_log.LogEntries.Chain.{Logged, zeros, chain_text, link_of, without_gaps, NoCollision}
+use Rattle.replay_spec.specs.secure_log.LogEntries.Chain.{Logged, zeros, chain_text, link_of, without_gaps}
+use Rattle.replay_spec.specs.secure_log.LogEntries.Chain.{NoCollision}
 use Rattle.replay_spec.specs.secure_log.Log.{log_hash}
 use Rattle.replay_spec.specs.state_spec.State.{State, opening_client}
 use Rattle.replay_spec.specs.Steps.{after_entry}

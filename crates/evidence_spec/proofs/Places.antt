@@ -4,7 +4,8 @@ use Rattle.std.proofs.Common.{◌≡◌, ℕ, suc, ◌+◌, List, [], ◌∷◌,
 use Rattle.std.proofs.Common.{subst, ◌∙◌, arith}
 use Rattle.std.specs.List.{AllByRecursion}
 use Rattle.replay_spec.specs.secure_log.declared.log_entries.entry.Entry.{Entry}
-use Rattle.replay_spec.specs.secure_log.LogEntries.Chain.{Link, hash_after, last_hash, pairs, links_from, IsAmong}
+use Rattle.replay_spec.specs.secure_log.LogEntries.Chain.{Link, hash_after, last_hash, pairs, links_from}
+use Rattle.replay_spec.specs.secure_log.LogEntries.Chain.{IsAmong}
 
 -- links are numbered one after the other, from `first` on
 abbrev pub AreNumbered : (first : ℕ) → List Link → Type 0

@@ -4,7 +4,8 @@ use Rattle.std.proofs.Common.{◌≡◌, ℕ, ◌+◌, List, [], ◌∷◌, ◌+
 use Rattle.std.proofs.Common.{append_assoc, length-append, inr, arith}
 use Rattle.replay_spec.specs.authenticator.declared.member.Member.{Member}
 use Rattle.replay_spec.specs.secure_log.declared.log_entries.entry.Entry.{Entry}
-use Rattle.replay_spec.specs.secure_log.LogEntries.Chain.{zeros, hash_after, link_of, links_from, last_hash, pairs}
+use Rattle.replay_spec.specs.secure_log.LogEntries.Chain.{zeros, hash_after, link_of, links_from, last_hash}
+use Rattle.replay_spec.specs.secure_log.LogEntries.Chain.{pairs}
 use Rattle.replay_spec.specs.secure_log.LogEntries.Chain.{IsAmong}
 use Rattle.replay_spec.proofs.secure_log.OfLogEntries.Pairs.{last_hash-parts}
 use Rattle.replay_spec.specs.secure_log.Log.{log_hash, log_pairs}

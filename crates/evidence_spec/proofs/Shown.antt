@@ -10,7 +10,8 @@ use Rattle.replay_spec.specs.authenticator.declared.member.LogVersion.{LogVersio
 use Rattle.replay_spec.specs.authenticator.declared.member.LogVersion.TheVariants.{One, Two}
 use Rattle.replay_spec.specs.authenticator.declared.member.Member.{Member}
 use Rattle.replay_spec.specs.secure_log.declared.log_entries.entry.Entry.{Entry}
-use Rattle.replay_spec.specs.secure_log.LogEntries.Chain.{AreNumbered, IsChain, Logged, zeros, links_from, chain_texts}
+use Rattle.replay_spec.specs.secure_log.LogEntries.Chain.{AreNumbered, IsChain, Logged, zeros, links_from}
+use Rattle.replay_spec.specs.secure_log.LogEntries.Chain.{chain_texts}
 use Rattle.replay_spec.specs.secure_log.LogEntries.Chain.{IsAmong, NoCollision, last_number}
 use Rattle.replay_spec.proofs.secure_log.OfLogEntries.Chains.{links-are-links}
 use Rattle.replay_spec.specs.secure_log.Log.{log_pairs}
@@ -24,7 +25,8 @@ use Rattle.evidence_spec.specs.Proving.{segment_texts, showing_texts, texts_of}
 use Rattle.evidence_spec.specs.Laws.{IsPartOf}
 use Rattle.replay_spec.proofs.secure_log.OfLogEntries.FewerTexts.{Within, fewer, left, right, both}
 use Rattle.evidence_spec.proofs.Places.{entries_numbered, length-links}
-use Rattle.evidence_spec.proofs.Gaps.{closing_number, log_are_links, logged_after, shown_after, shown_are_links}
+use Rattle.evidence_spec.proofs.Gaps.{closing_number, log_are_links, logged_after, shown_after}
+use Rattle.evidence_spec.proofs.Gaps.{shown_are_links}
 use Rattle.evidence_spec.proofs.ShownMarks.{in_log}
 use Rattle.evidence_spec.proofs.Chained.{IsPartOfChain, zeros-length, ends_in_log, shown_in_log}
 use Rattle.evidence_spec.proofs.Parts.{each_of_values, entries_in_log}

@@ -1,14 +1,15 @@
--- A chain whose last pair is one of a log's has its marks among the log's, gaps included, where no two texts have
--- one digest.
--- Serves: what_is_shown_is_of_the_log, accepted_evidence_proves.
+-- A chain whose last pair is one of a log's has its marks among the log's, gaps included, where no two texts
+-- have one digest. Serves: what_is_shown_is_of_the_log, accepted_evidence_proves.
 use Rattle.std.proofs.Common.{◌≡◌, ℕ, ◌+◌, ◌<◌, ◌≤◌, List, [], ◌∷◌, ◌++◌, length, inl, inr, refl}
 use Rattle.std.proofs.Common.{sym, ap, subst, ◌∙◌, arith, append_assoc, length-append}
 use Rattle.std.proofs.lemmas.Bool.{cases_lt}
 use Rattle.std.specs.Prelude.{◌⊎◌}
 use Rattle.std.specs.List.{AllByRecursion}
 use Rattle.replay_spec.specs.authenticator.declared.member.LogVersion.{LogVersion}
-use Rattle.replay_spec.specs.secure_log.LogEntries.Chain.{AreNumbered, Link, IsLink, IsChain, IsEndOf, IsAmong}
-use Rattle.replay_spec.specs.secure_log.LogEntries.Chain.{NoCollision, zeros, hash_after, last_hash, last_number}
+use Rattle.replay_spec.specs.secure_log.LogEntries.Chain.{AreNumbered, Link, IsLink, IsChain, IsEndOf}
+use Rattle.replay_spec.specs.secure_log.LogEntries.Chain.{IsAmong}
+use Rattle.replay_spec.specs.secure_log.LogEntries.Chain.{NoCollision, zeros, hash_after, last_hash}
+use Rattle.replay_spec.specs.secure_log.LogEntries.Chain.{last_number}
 use Rattle.replay_spec.specs.secure_log.LogEntries.Chain.{pairs, marks, chain_texts}
 use Rattle.replay_spec.proofs.secure_log.OfLogEntries.FewerTexts.{Within, fewer, left, right, both, beginning}
 use Rattle.replay_spec.proofs.secure_log.OfLogEntries.Chains.{chain_end}

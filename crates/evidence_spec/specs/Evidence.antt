@@ -9,7 +9,8 @@ use Rattle.replay_spec.specs.authenticator.declared.member.Member.{Member}
 use Rattle.replay_spec.specs.authenticator.Roster.{keeps_version, member_of}
 use Rattle.replay_spec.specs.authenticator.Numbers.{number_item}
 use Rattle.replay_spec.specs.secure_log.LogEntries.Chain.{zeros}
-use Rattle.replay_spec.specs.secure_log.Segment.{SegmentParts, IsClosed, bounded_item, segment_value, is_whole}
+use Rattle.replay_spec.specs.secure_log.Segment.{SegmentParts, IsClosed, bounded_item, segment_value}
+use Rattle.replay_spec.specs.secure_log.Segment.{is_whole}
 use Rattle.replay_spec.specs.Placed.{placed_in}
 use Rattle.replay_spec.specs.Stepping.{ReplayFault}
 use Rattle.replay_spec.specs.Replay.{Fault, verdict_of}
@@ -22,8 +23,8 @@ use Rattle.evidence_spec.specs.Showing.{links_follow}
 abbrev pub MAX_AUDITED : ℕ
 MAX_AUDITED = limits.MAX_AUDITED
 
--- A fork of a log of a version: at a number two marks are shown, by one showing each. With one showing alone, it
--- shows another hash than 32 zero bytes before the first entry.
+-- A fork of a log of a version: at a number two marks are shown, by one showing each. With one showing alone,
+-- it shows another hash than 32 zero bytes before the first entry.
 pub record ForkParts : Type 0 where
   pub log_version : LogVersion
   pub at : ℕ
@@ -109,8 +110,8 @@ evidence_text = record { item = evidence_item; test = λ v. is_whole_charge v.1 
 
 -- ---- what is accepted
 
--- Two showings of a node are closed and show two marks at a number: two hashes, or a hash and that no entry has
--- the number.
+-- Two showings of a node are closed and show two marks at a number: two hashes, or a hash and that no entry
+-- has the number.
 pub record ShowsTwo (v : LogVersion) (ms : List Member) (node at : ℕ) (a b : ShowingParts) : Type 0 where
   pub a_node : a.node ≡ node
   pub b_node : b.node ≡ node
@@ -153,7 +154,7 @@ abbrev pub AcceptsCharge : List Member → (node : ℕ) → Charge → Type 0
 AcceptsCharge ms node (Fork f) = AcceptsFork f.log_version ms node f.at f.a f.b
 AcceptsCharge ms node (Replay s) = AcceptsReplay ms node s
 
--- Evidence is accepted under a roster: the log of the node that it is against, where that is a member, is of the
--- version of what is shown of it, and the charge is accepted.
+-- Evidence is accepted under a roster: the log of the node that it is against, where that is a member, is of
+-- the version of what is shown of it, and the charge is accepted.
 abbrev pub Accepts : List Member → EvidenceParts → Type 0
 Accepts ms e = IsTrue (keeps_version ms e.node (charge_version e.charge)) × AcceptsCharge ms e.node e.charge

@@ -45,8 +45,8 @@ OneMarkAtANumber =
     (log : List Logged) (number : ℕ) (one other : List ℕ)
     → IsAmong (number, one) (marks_of log) → IsAmong (number, other) (marks_of log) → one ≡ other
 
--- Where a showing's closing is a pair of a log of its version, and no two texts have one digest, all marks that
--- it shows are the log's.
+-- Where a showing's closing is a pair of a log of its version, and no two texts have one digest, all marks
+-- that it shows are the log's.
 abbrev pub ShownIsOfTheLog : Type 0
 ShownIsOfTheLog =
     (v : LogVersion) (ms : List Member) (log : List Logged) (s : ShowingParts) (number : ℕ) (mark : List ℕ)
@@ -98,9 +98,9 @@ pub record IsSoundIn (ms : List Member) (log : List Entry) (state : State) (s : 
   pub sound : segment_verdict ms state s ≡ Sound after found
   pub reached : Reached ms log s.closing.word after
 
--- A segment of a log, right after a number at which the log has reached a state, replays sound from that state,
--- and the log has reached the state after it at the segment's closing number. No digest is spoken of: that the
--- segment is the log's is a premise.
+-- A segment of a log, right after a number at which the log has reached a state, replays sound from that
+-- state, and the log has reached the state after it at the segment's closing number. No digest is spoken of:
+-- that the segment is the log's is a premise.
 abbrev pub SegmentsGoOnSound : Type 0
 SegmentsGoOnSound =
     (ms : List Member) (log : List Entry) (number : ℕ) (state : State) (s : SegmentParts)

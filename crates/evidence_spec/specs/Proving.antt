@@ -12,9 +12,11 @@ use Rattle.replay_spec.specs.authenticator.declared.authenticator.Authenticator.
 use Rattle.replay_spec.specs.authenticator.Roster.{member_of}
 use Rattle.replay_spec.specs.authenticator.Signed.{IsSignedIn}
 use Rattle.replay_spec.specs.secure_log.declared.log_entries.entry.Entry.{Entry}
-use Rattle.replay_spec.specs.secure_log.declared.log_entries.entry.Entry.TheVariants.{Send, Recv, Ack, Clock, Check}
+use Rattle.replay_spec.specs.secure_log.declared.log_entries.entry.Entry.TheVariants.{Send, Recv, Ack, Clock}
+use Rattle.replay_spec.specs.secure_log.declared.log_entries.entry.Entry.TheVariants.{Check}
 use Rattle.replay_spec.specs.secure_log.LogEntries.Entry.{entry_item, entry_value, content}
-use Rattle.replay_spec.specs.secure_log.LogEntries.Chain.{zeros, links_from, chain_texts, NoCollision, IsAmong}
+use Rattle.replay_spec.specs.secure_log.LogEntries.Chain.{zeros, links_from, chain_texts, NoCollision}
+use Rattle.replay_spec.specs.secure_log.LogEntries.Chain.{IsAmong}
 use Rattle.replay_spec.specs.secure_log.LogEntries.Chain.{Link, Logged, logged_links, marks, pairs, span}
 use Rattle.replay_spec.specs.secure_log.Log.{log_pairs}
 use Rattle.replay_spec.specs.secure_log.Segment.{SegmentParts}
@@ -25,14 +27,15 @@ use Rattle.replay_spec.specs.HonestLogs.{IsHonestWithGaps}
 use Rattle.evidence_spec.specs.Showing.{ShowingParts, links_in}
 use Rattle.evidence_spec.specs.Evidence.{Charge, Fork, Replay, EvidenceParts}
 
--- Entries are those of a log of version 1: each has a text, bodies are bytes, and their numbers are of 64 bits.
+-- Entries are those of a log of version 1: each has a text, bodies are bytes, and their numbers are of 64
+-- bits.
 pub record IsLog (entries : List Entry) : Type 0 where
   pub each : AllByRecursion (λ e. Fits entry_item (entry_value e)) entries
   pub bytes : AllByRecursion HasBytes entries
   pub few : length entries < 2 ^ 64
 
--- The numbers of a log of a version: in version 1 none is skipped, and they are of 64 bits; in version 2 they, and
--- how many are skipped just before each entry, are of 32 bits.
+-- The numbers of a log of a version: in version 1 none is skipped, and they are of 64 bits; in version 2
+-- they, and how many are skipped just before each entry, are of 32 bits.
 abbrev pub HasNumbers : LogVersion → List Logged → Type 0
 HasNumbers One log = AllByRecursion (λ l. l.skipped ≡ 0) log × (span log < 2 ^ 64)
 HasNumbers Two log = span log < 2 ^ 32
@@ -116,8 +119,8 @@ abbrev pub closings : Charge → List Authenticator
 closings (Fork f) = f.a.closing ∷ option_closings f.b
 closings (Replay s) = s.closing ∷ []
 
--- An authenticator isn't forged against a log of version 1 of a node: if it is of that node, and signed, then its
--- number and hash are a pair of the log.
+-- An authenticator isn't forged against a log of version 1 of a node: if it is of that node, and signed, then
+-- its number and hash are a pair of the log.
 abbrev pub IsUnforged : List Member → (node : ℕ) → List Entry → Authenticator → Type 0
 IsUnforged ms node log a = a.node ≡ node → IsSignedIn ms a → IsAmong (a.word, a.hash) (log_pairs log)
 
@@ -128,9 +131,9 @@ IsUnforgedIn v ms node log a =
 
 -- ---- what is proved
 
--- A log of a node, of the version that the roster gives it, stands against evidence: it is honest from the state
--- that the node begins with, none of the evidence's signatures is forged, and no two of their texts have one
--- digest.
+-- A log of a node, of the version that the roster gives it, stands against evidence: it is honest from the
+-- state that the node begins with, none of the evidence's signatures is forged, and no two of their texts
+-- have one digest.
 pub record Withstands (ms : List Member) (member : Member) (charge : Charge) (log : List Logged) : Type 0 where
   pub is_log : IsLogOf member.log_version log
   pub state : State

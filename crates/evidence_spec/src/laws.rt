@@ -8,7 +8,8 @@ ghost use Rattle.evidence_spec.specs.Laws.{AuthenticatorsShowOnePair, SegmentsSh
 ghost use Rattle.evidence_spec.specs.Laws.{OwnTextsProveNothing, UnsignedProveNothing};
 ghost use Rattle.evidence_spec.specs.Laws.{OneReadingProvesNothing};
 
-/// A log has one hash at each number, and one whose numbers have gaps one mark: a hash, or that no entry has it.
+/// A log has one hash at each number, and one whose numbers have gaps one mark: a hash, or that no entry has
+/// it.
 pub fn one_hash_at_a_number()
     ensures hash { OneHashAtANumber }
     ensures mark { OneMarkAtANumber }
@@ -21,8 +22,8 @@ pub fn what_is_shown_is_of_the_log()
     ensures segment { SegmentIsOfTheLog }
 {}
 
-/// A segment of a log, right after a number at which the log has reached a state, replays sound from that state,
-/// and the log has reached the state after it at its closing number.
+/// A segment of a log, right after a number at which the log has reached a state, replays sound from that
+/// state, and the log has reached the state after it at its closing number.
 pub fn a_segment_after_a_reached_place_is_sound()
     ensures { SegmentsGoOnSound }
 {}

@@ -19,8 +19,8 @@ const PLACE: u64 = u64::MAX - 1;
 /// The most numbers that are skipped just before an entry.
 const SKIPPED: u64 = 64;
 
-/// The number of an entry whose word follows on the number before it, if it does: the low half of the word, and
-/// the high half is how many numbers are skipped between the two.
+/// The number of an entry whose word follows on the number before it, if it does: the low half of the word,
+/// and the high half is how many numbers are skipped between the two.
 fn following(before: u64, word: u64) -> Option<u64> {
     let skipped = word >> 32;
     let number = before.checked_add(1)?.checked_add(skipped)?;

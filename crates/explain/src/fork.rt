@@ -83,8 +83,8 @@ fn add_word(facts: &mut Facts, version: LogVersion, word: Word) {
     add_skipped(facts, word.skipped(version));
 }
 
-/// Adds what closes a log of this version or a part of one: what it says, who is to have signed it, and whether
-/// that verifies by the node's key.
+/// Adds what closes a log of this version or a part of one: what it says, who is to have signed it, and
+/// whether that verifies by the node's key.
 pub(crate) fn add_closing(
     facts: &mut Facts,
     roster: &Roster,

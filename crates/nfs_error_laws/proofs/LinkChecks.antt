@@ -14,7 +14,8 @@ use Rattle.nfs_spec.specs.Procedures.{link}
 use Rattle.nfs_laws.proofs.OfSteps.Steps.{found_ok, dir_ok}
 use Rattle.nfs_error_laws.specs.Checks.{is_dir}
 use Rattle.nfs_error_laws.specs.Tables.{link_checks}
-use Rattle.nfs_error_laws.proofs.StepsInTurn.{HasStat, in_turn, done, of_check, of_same, of_file, of_dir, test_at}
+use Rattle.nfs_error_laws.proofs.StepsInTurn.{HasStat, in_turn, done, of_check, of_same, of_file, of_dir}
+use Rattle.nfs_error_laws.proofs.StepsInTurn.{test_at}
 use Rattle.nfs_error_laws.proofs.StepsInTurn.{of_edit, of_free}
 
 -- LINK: the file, its kind, the directory, the edit, the free name, and room

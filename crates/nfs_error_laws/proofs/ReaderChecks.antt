@@ -15,7 +15,8 @@ use Rattle.nfs_spec.specs.Procedures.{read_link, read, read_dir, stat_fs}
 use Rattle.nfs_laws.proofs.OfSteps.Steps.{found_ok, directory_ok, dir_ok}
 use Rattle.nfs_error_laws.specs.Tables.{file_checks, lookup_checks, read_link_checks, read_checks}
 use Rattle.nfs_error_laws.specs.Tables.{read_dir_checks}
-use Rattle.nfs_error_laws.proofs.StepsInTurn.{HasStat, in_turn, done, of_file, of_dir, of_listing_at, of_bytes_at}
+use Rattle.nfs_error_laws.proofs.StepsInTurn.{HasStat, in_turn, done, of_file, of_dir, of_listing_at}
+use Rattle.nfs_error_laws.proofs.StepsInTurn.{of_bytes_at}
 use Rattle.nfs_error_laws.proofs.StepsInTurn.{of_target_at, of_test_at, test_at}
 
 -- GETATTR: STALE

@@ -13,7 +13,8 @@ use Rattle.nfs_spec.specs.Procedures.{remove, remove_dir}
 use Rattle.nfs_laws.proofs.OfSteps.Steps.{found_ok, directory_ok, dir_ok, number_ok, entry_found}
 use Rattle.nfs_error_laws.specs.Checks.{holds_named, is_dir}
 use Rattle.nfs_error_laws.specs.Tables.{remove_checks, remove_dir_checks}
-use Rattle.nfs_error_laws.proofs.StepsInTurn.{HasStat, in_turn, done, of_same, of_that_file, of_dir, test_named}
+use Rattle.nfs_error_laws.proofs.StepsInTurn.{HasStat, in_turn, done, of_same, of_that_file, of_dir}
+use Rattle.nfs_error_laws.proofs.StepsInTurn.{test_named}
 use Rattle.nfs_error_laws.proofs.StepsInTurn.{named_file, of_listing, of_edit, of_number}
 
 module _ (w : Files) (tree : IsFileTree w) (who : Caller) (now : Timeval) (dir : ℕ) (name : List ℕ) where

@@ -19,7 +19,8 @@ use Rattle.nfs_laws.specs.Steps.Granted.{IsFound}
 use Rattle.nfs_laws.proofs.OfSteps.Steps.{found_ok, dir_ok, number_ok, entry_found}
 use Rattle.nfs_error_laws.specs.Checks.{Checks, holds_named, is_dir, lists_nothing}
 use Rattle.nfs_error_laws.specs.Tables.{is_same_file, is_named_above, rename_checks}
-use Rattle.nfs_error_laws.proofs.StepsInTurn.{HasStat, in_turn, done, of_same, of_that_file, of_dir, test_named}
+use Rattle.nfs_error_laws.proofs.StepsInTurn.{HasStat, in_turn, done, of_same, of_that_file, of_dir}
+use Rattle.nfs_error_laws.proofs.StepsInTurn.{test_named}
 use Rattle.nfs_error_laws.proofs.StepsInTurn.{named_file, of_edit, of_number}
 
 branch : {A : Type 0} (b : Bool) (x : A) (r : Result A Stat) (cs : Checks) → HasStat r cs

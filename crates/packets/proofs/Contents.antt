@@ -2,7 +2,8 @@
 -- Serves: read_packet by its four parts, packets_are_read_as_spelled.
 use Rattle.std.proofs.Common.{◌≡◌, List, [], ◌∷◌, map, refl, ap, ap₂}
 use Rattle.envelopes.specs.secure_log.declared.log_entries.entry.Entry.{Entry}
-use Rattle.envelopes.specs.secure_log.declared.log_entries.entry.Entry.TheVariants.{Send, Recv, Ack, Clock, Check}
+use Rattle.envelopes.specs.secure_log.declared.log_entries.entry.Entry.TheVariants.{Send, Recv, Ack, Clock}
+use Rattle.envelopes.specs.secure_log.declared.log_entries.entry.Entry.TheVariants.{Check}
 use Rattle.envelopes.specs.secure_log.LogEntries.Entry.{entry_value}
 use Rattle.envelopes.specs.secure_log.Segment.{SegmentParts, segment_value}
 use Rattle.packets.specs.Values.{entry_said, segment_said}

@@ -28,7 +28,8 @@ use Rattle.packets.specs.Packet.{delivery_of}
 use Rattle.envelopes.specs.secure_log.authenticator.Signing.{is_signed_in, is_same}
 use Rattle.packets.specs.Judging.{judged, ends, may_be, is_member, is_of_members, judged_delivery}
 use Rattle.packets.specs.Judging.{judged_option, Refuses, GivesDelivery}
-use Rattle.envelopes.proofs.secure_log.authenticator.Signed.{is_false, of_signed_in, signed_by_member, unsigned_by_member}
+use Rattle.envelopes.proofs.secure_log.authenticator.Signed.{is_false, of_signed_in, signed_by_member}
+use Rattle.envelopes.proofs.secure_log.authenticator.Signed.{unsigned_by_member}
 use Rattle.envelopes.proofs.secure_log.authenticator.Signed.{same_list, list_same}
 use Rattle.packets.proofs.Contents.{segment_back}
 

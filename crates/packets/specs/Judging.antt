@@ -5,7 +5,9 @@ use Rattle.envelopes.specs.secure_log.authenticator.declared.member.LogVersion.T
 use Rattle.envelopes.specs.secure_log.authenticator.Roster.{keeps_version, member_of}
 use Rattle.envelopes.specs.secure_log.authenticator.declared.member.Member.{Member}
 use Rattle.envelopes.specs.secure_log.authenticator.declared.refusal.Refusal.{Refusal}
-use Rattle.envelopes.specs.secure_log.authenticator.declared.refusal.Refusal.TheVariants.{UnknownNode, Garbage, BadSignature}
+use Rattle.envelopes.specs.secure_log.authenticator.declared.refusal.Refusal.TheVariants.{UnknownNode}
+use Rattle.envelopes.specs.secure_log.authenticator.declared.refusal.Refusal.TheVariants.{Garbage}
+use Rattle.envelopes.specs.secure_log.authenticator.declared.refusal.Refusal.TheVariants.{BadSignature}
 use Rattle.envelopes.specs.secure_log.authenticator.declared.refusal.Refusal.TheVariants.{NoMemory}
 use Rattle.envelopes.specs.secure_log.LogEntries.Chain.{last_hash, links_from}
 use Rattle.envelopes.specs.secure_log.Segment.{SegmentParts}
@@ -18,8 +20,8 @@ ends s =
     (s.closing.node == s.node) && ((s.closing.word + 1 == s.first + length s.entries)
     && is_same s.closing.hash (last_hash s.opening (links_from s.first s.entries)))
 
--- whether what is delivered may be at all under a roster: an envelope's sender isn't its receiver, and a segment
--- is of a log of version 1, as its node's is where that is a member, and ends in its closing
+-- whether what is delivered may be at all under a roster: an envelope's sender isn't its receiver, and a
+-- segment is of a log of version 1, as its node's is where that is a member, and ends in its closing
 abbrev pub may_be : List Member → Delivery → Bool
 may_be ms (Learn a) = true
 may_be ms (SendChallenge e) = not (e.from == e.to)

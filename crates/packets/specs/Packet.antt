@@ -3,7 +3,8 @@ use Rattle.std.specs.Prelude.{◌≡◌, ℕ, ◌==◌, List, ◌++◌, Ok, Err,
 use Rattle.xdr.specs.Item.{number_spelling, spelling}
 use Rattle.xdr.specs.Reading.{Read, number_at}
 use Rattle.xdr.specs.Texts.Text.{IsText, text_at}
-use Rattle.envelopes.specs.secure_log.authenticator.Signed.{authenticator_item, authenticator_text, authenticator_value}
+use Rattle.envelopes.specs.secure_log.authenticator.Signed.{authenticator_item, authenticator_text}
+use Rattle.envelopes.specs.secure_log.authenticator.Signed.{authenticator_value}
 use Rattle.envelopes.specs.secure_log.authenticator.declared.authenticator.Authenticator.{Authenticator}
 use Rattle.envelopes.specs.Envelope.{envelope_item, envelope_text, envelope_value, envelope_shows}
 use Rattle.envelopes.specs.Acknowledgement.{ack_item, ack_text, ack_value, ack_shows}

@@ -5,7 +5,9 @@ use Rattle.envelopes.specs.secure_log.authenticator.Roster.{keeps_version, membe
 use Rattle.envelopes.specs.secure_log.authenticator.Signed.{IsSignedIn}
 use Rattle.envelopes.specs.secure_log.authenticator.declared.member.Member.{Member}
 use Rattle.envelopes.specs.secure_log.authenticator.declared.refusal.Refusal.{Refusal}
-use Rattle.envelopes.specs.secure_log.authenticator.declared.refusal.Refusal.TheVariants.{UnknownNode, Garbage, BadSignature}
+use Rattle.envelopes.specs.secure_log.authenticator.declared.refusal.Refusal.TheVariants.{UnknownNode}
+use Rattle.envelopes.specs.secure_log.authenticator.declared.refusal.Refusal.TheVariants.{Garbage}
+use Rattle.envelopes.specs.secure_log.authenticator.declared.refusal.Refusal.TheVariants.{BadSignature}
 use Rattle.envelopes.specs.secure_log.authenticator.declared.refusal.Refusal.TheVariants.{NoMemory}
 use Rattle.envelopes.specs.secure_log.Segment.{Ends}
 use Rattle.packets.specs.Packet.{Delivery, Learn, SendChallenge, Answer, AckIn, Says, delivery_shows}

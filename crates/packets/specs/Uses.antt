@@ -6,8 +6,8 @@ use Rattle.envelopes.specs.secure_log.authenticator.declared.member.Member.{Memb
 use Rattle.envelopes.specs.secure_log.authenticator.declared.refusal.Refusal.{Refusal}
 use Rattle.packets.specs.Packet.{Delivery, delivery_shows}
 
--- What is there after a packet is taken or refused is what was there, or what may be there once the signature that the
--- packet shows was found to be that of the member who signs it.
+-- What is there after a packet is taken or refused is what was there, or what may be there once the signature
+-- that the packet shows was found to be that of the member who signs it.
 abbrev pub MayUse : {S : Type 0} → (uses : S → Member → Authenticator → S → Type 0) → List Member
     → Result Delivery Refusal → (old new : S) → Type 0
 MayUse uses ms (Ok d) old new = (new ≡ old) ⊎

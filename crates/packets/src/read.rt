@@ -12,10 +12,10 @@ use envelopes::{Refusal, Roster, SegmentFault, check_segment};
 use std::alloc::Global;
 use xdr::Reader;
 
-/// Reads and checks a packet: `Garbage` where the bytes are none, an envelope's sender is its receiver, the node
-/// of a segment is a member whose log isn't of version 1, or a segment doesn't end in its closing; else `UnknownNode` where who signs, or an envelope's receiver, is no
-/// member; else `BadSignature` where who is to sign it didn't. `NoMemory` comes only where a growth was
-/// refused.
+/// Reads and checks a packet: `Garbage` where the bytes are none, an envelope's sender is its receiver, the
+/// node of a segment is a member whose log isn't of version 1, or a segment doesn't end in its closing; else
+/// `UnknownNode` where who signs, or an envelope's receiver, is no member; else `BadSignature` where who is
+/// to sign it didn't. `NoMemory` comes only where a growth was refused.
 pub fn read_packet(alloc: Global, roster: &Roster, bytes: &[u8]) -> Result<Packet, Refusal>
     ensures answers { GivesDelivery (judged roster.now bytes.now) delivery_in result }
     ensures under { IfOk result (IsUnder roster.now) }

@@ -91,7 +91,7 @@ is_wrong_reply (Client clock) e = false
 -- ---- BadReceive
 
 -- A RECV's sender is the node itself or a stranger, or its signature isn't the sender's, of the hash that is
--- made from sender, number, hash before it and body.
+-- made from sender, word, hash before it and body.
 abbrev pub is_bad_receive : List Member → State → Entry → Bool
 is_bad_receive ms s (Send to body) = false
 is_bad_receive ms s (Recv from seq prev body signature) =
@@ -102,7 +102,7 @@ is_bad_receive ms s (Check digest) = false
 
 -- ---- Repeated
 
--- A RECV's sender, number and hash are among those received.
+-- A RECV's sender, word and hash are among those received.
 abbrev pub is_repeated : State → Entry → Bool
 is_repeated s (Send to body) = false
 is_repeated s (Recv from seq prev body signature) =

@@ -67,7 +67,7 @@ pub record MayReceive (ms : List Member) (s : State) (from seq : ℕ) (prev body
   pub other : from ≢ s.node
   -- it's a member, and signed the hash that is made from its SEND
   pub signed : IsSignedIn ms (sender_shown s.node from seq prev body signature)
-  -- no message of this sender, number and hash was received before
+  -- no message of this sender, word and hash was received before
   pub fresh : is_received s.received (received_message s.node from seq prev body) ≡ false
 
 -- An ACK may stand there.

@@ -11,7 +11,8 @@ use Rattle.witness_laws.specs.witness_spec.Replies.{Accepted}
 use Rattle.witness_laws.specs.witness_spec.Watched.{Watched}
 use Rattle.witness_laws.specs.witness_spec.Steps.{Answer, Past}
 use Rattle.witness_laws.specs.witness_spec.Pairs.{Pair, pair_of}
-use Rattle.witness_laws.specs.witness_spec.Standing.{shown, all_accepted, open_after, Stage, Wanted, audited, forwards}
+use Rattle.witness_laws.specs.witness_spec.Standing.{shown, all_accepted, open_after, Stage, Wanted, audited}
+use Rattle.witness_laws.specs.witness_spec.Standing.{forwards}
 use Rattle.witness_laws.specs.witness_spec.Exposing.{evidence}
 use Rattle.witness_laws.specs.witness_spec.Histories.{HoldSame}
 use Rattle.witness_book_laws.specs.Books.{Book, exposed, book_shown}

@@ -22,7 +22,8 @@ use Rattle.witness_laws.specs.witness_spec.Refusals.{NoJob, WrongJob}
 use Rattle.witness_laws.specs.witness_spec.Events.{JobParts}
 use Rattle.witness_laws.specs.witness_spec.Replies.{Reply, Noted, Opened, Accepted, Closed, Asked, Job, Filed}
 use Rattle.witness_laws.specs.witness_spec.Replies.{Returned, Forwarded, FileRefused}
-use Rattle.witness_laws.specs.witness_spec.Steps.{Step, Learn, SendChallenge, Answer, AckIn, Audit, Begin, File, PutBack}
+use Rattle.witness_laws.specs.witness_spec.Steps.{Step, Learn, SendChallenge, Answer, AckIn, Audit, Begin}
+use Rattle.witness_laws.specs.witness_spec.Steps.{File, PutBack}
 use Rattle.witness_laws.specs.witness_spec.Steps.{Forward, Ask}
 use Rattle.witness_laws.specs.witness_spec.Standing.{End}
 use Rattle.witness_book_laws.specs.Books.{Book, book_opening, exposed, job_out}

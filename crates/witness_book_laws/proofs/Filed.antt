@@ -25,7 +25,8 @@ use Rattle.witness_laws.specs.witness_spec.Replies.{Filed}
 use Rattle.witness_laws.specs.witness_spec.Watched.{Watched}
 use Rattle.witness_laws.specs.witness_spec.Steps.{File, Past}
 use Rattle.witness_laws.specs.witness_spec.Pairs.{pair_of, first_pair}
-use Rattle.witness_laws.specs.witness_spec.Standing.{End, end_of, moved_by, verdict_on, sound_entries, audited, shown}
+use Rattle.witness_laws.specs.witness_spec.Standing.{End, end_of, moved_by, verdict_on, sound_entries}
+use Rattle.witness_laws.specs.witness_spec.Standing.{audited, shown}
 use Rattle.witness_laws.specs.witness_spec.Standing.{noted_before}
 use Rattle.witness_laws.specs.witness_spec.Standing.{kept, Out, sound_found, all_found, forwards}
 use Rattle.witness_laws.specs.witness_spec.Exposing.{replay_of, evidence}
@@ -37,7 +38,8 @@ use Rattle.witness_book_laws.specs.Going.{having_filed, after_file}
 use Rattle.witness_book_laws.specs.Fitting.{NumbersDiffer, IsOne, IsMore, AgreesAt, FitsTogether}
 use Rattle.witness_book_laws.proofs.Lists.{filtered, same_filter}
 use Rattle.witness_laws.proofs.OfEvidence.Before.{passing, on_right}
-use Rattle.witness_book_laws.proofs.Kept.{differ_filter, showing_of, Shower, AtFirst, Exposing, Learned, Segment}
+use Rattle.witness_book_laws.proofs.Kept.{differ_filter, showing_of, Shower, AtFirst, Exposing, Learned}
+use Rattle.witness_book_laws.proofs.Kept.{Segment}
 use Rattle.witness_book_laws.proofs.Kept.{shower}
 use Rattle.witness_book_laws.proofs.Kept.{shows, same_through}
 use Rattle.witness_book_laws.proofs.Segments.{tile_more, audited_are}

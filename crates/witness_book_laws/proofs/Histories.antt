@@ -22,10 +22,12 @@ use Rattle.witness_laws.specs.witness_spec.Events.{PublicKey, Event, IsEvent}
 use Rattle.witness_laws.specs.witness_spec.Events as events
 use Rattle.witness_laws.specs.witness_spec.Replies.{Reply, is_want_of_memory}
 use Rattle.witness_laws.specs.witness_spec.Watched.{Watched, IsInRoster}
-use Rattle.witness_laws.specs.witness_spec.Steps.{Step, Learn, SendChallenge, Answer, AckIn, Audit, Begin, File, PutBack}
+use Rattle.witness_laws.specs.witness_spec.Steps.{Step, Learn, SendChallenge, Answer, AckIn, Audit, Begin}
+use Rattle.witness_laws.specs.witness_spec.Steps.{File, PutBack}
 use Rattle.witness_laws.specs.witness_spec.Steps.{Forward}
 use Rattle.witness_laws.specs.witness_spec.Steps.{Ask, OwnStep, Past}
-use Rattle.witness_laws.specs.witness_spec.Whose.{step_of, is_key_of, same_roster, signed_step, sent_step, closed_step}
+use Rattle.witness_laws.specs.witness_spec.Whose.{step_of, is_key_of, same_roster, signed_step, sent_step}
+use Rattle.witness_laws.specs.witness_spec.Whose.{closed_step}
 use Rattle.witness_laws.specs.witness_spec.Whose.{delivered_step, judged_step, whose}
 use Rattle.witness_laws.specs.witness_spec.Histories.{History, own_step, own, IsHistory, AreOwed, own_of}
 use Rattle.witness_laws.proofs.OwnSteps.{of_learned, own_owed}

@@ -17,7 +17,8 @@ use Rattle.witness_laws.specs.witness_spec.Owing.{Owes}
 use Rattle.witness_book_laws.specs.Replying.{BookOwes}
 use Rattle.witness_book_laws.proofs.Replies.{owes_same}
 use Rattle.witness_laws.specs.witness_spec.Pairs.{Pair, differ, first_fork}
-use Rattle.witness_laws.specs.witness_spec.Standing.{shown, is_exposed, kept, all_accepted, Stage, NoAudit, Wanted, Given}
+use Rattle.witness_laws.specs.witness_spec.Standing.{shown, is_exposed, kept, all_accepted, Stage, NoAudit}
+use Rattle.witness_laws.specs.witness_spec.Standing.{Wanted, Given}
 use Rattle.witness_laws.specs.witness_spec.Standing.{Out}
 use Rattle.witness_laws.specs.witness_spec.Standing.{stage_of, audited, all_found, forwards}
 use Rattle.witness_laws.specs.witness_spec.Exposing.{segment_holding, or_segment, fork_of, new_fork, evidence}

@@ -18,7 +18,8 @@ use Rattle.witness_laws.specs.witness_spec.Replies.{Noted}
 use Rattle.witness_laws.specs.witness_spec.Watched.{Watched}
 use Rattle.witness_laws.specs.witness_spec.Steps.{Learn, Past}
 use Rattle.witness_laws.specs.witness_spec.Pairs.{pair_of, first_pair, same_pair, is_shown}
-use Rattle.witness_laws.specs.witness_spec.Standing.{End, end_of, pairs_noted, shown, is_exposed, unless_exposed}
+use Rattle.witness_laws.specs.witness_spec.Standing.{End, end_of, pairs_noted, shown, is_exposed}
+use Rattle.witness_laws.specs.witness_spec.Standing.{unless_exposed}
 use Rattle.witness_laws.specs.witness_spec.Standing.{noted_before, kept}
 use Rattle.witness_laws.specs.witness_spec.Standing.{Stage, NoAudit, Wanted, Given, Out, audited, forwards}
 use Rattle.witness_laws.specs.witness_spec.Exposing.{evidence}

@@ -32,15 +32,19 @@ use Rattle.witness_laws.proofs.OwnSteps.{own_owed}
 use Rattle.witness_laws.proofs.Checked.{AreChecked, own_checked}
 use Rattle.witness_laws.specs.witness_spec.Refusals.{ChallengesFull, LearnedFull, NoJob, WrongJob}
 use Rattle.witness_laws.specs.witness_spec.Events.{JobParts, DoneParts}
-use Rattle.witness_laws.specs.witness_spec.Replies.{Reply, Noted, Already, Opened, Accepted, Closed, Asked, Job, Filed}
+use Rattle.witness_laws.specs.witness_spec.Replies.{Reply, Noted, Already, Opened, Accepted, Closed, Asked}
+use Rattle.witness_laws.specs.witness_spec.Replies.{Job, Filed}
 use Rattle.witness_laws.specs.witness_spec.Replies.{Returned}
-use Rattle.witness_laws.specs.witness_spec.Replies.{Forwarded, Refused, FileRefused, PutBackRefused, Challenge, SendOf}
+use Rattle.witness_laws.specs.witness_spec.Replies.{Forwarded, Refused, FileRefused, PutBackRefused}
+use Rattle.witness_laws.specs.witness_spec.Replies.{Challenge, SendOf}
 use Rattle.witness_laws.specs.witness_spec.Replies.{AuditOf}
-use Rattle.witness_laws.specs.witness_spec.Steps.{Step, Learn, SendChallenge, Answer, AckIn, Audit, Begin, File, PutBack}
+use Rattle.witness_laws.specs.witness_spec.Steps.{Step, Learn, SendChallenge, Answer, AckIn, Audit, Begin}
+use Rattle.witness_laws.specs.witness_spec.Steps.{File, PutBack}
 use Rattle.witness_laws.specs.witness_spec.Steps.{Forward, Ask, Past}
 use Rattle.witness_laws.specs.witness_spec.Limits.{MAX_LEARNED, MAX_CHALLENGES, MAX_AUDITED, MAX_OUTBOX}
 use Rattle.witness_laws.specs.witness_spec.Pairs.{Pair, pair_of, differ, is_shown, is_fork}
-use Rattle.witness_laws.specs.witness_spec.Standing.{Stage, Given, Out, Wanted, is_answered, is_send_of, sound_found}
+use Rattle.witness_laws.specs.witness_spec.Standing.{Stage, Given, Out, Wanted, is_answered, is_send_of}
+use Rattle.witness_laws.specs.witness_spec.Standing.{sound_found}
 use Rattle.witness_laws.specs.witness_spec.Owing.{is_send, is_open, back_reply}
 use Rattle.witness_book_laws.proofs.Known.{owes_known}
 use Rattle.witness_book_laws.proofs.Histories.{AreDone, own_done, done_event, known, exposed_or_not}

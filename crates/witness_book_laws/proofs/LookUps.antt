@@ -21,7 +21,8 @@ use Rattle.witness_laws.specs.witness_spec.Exposing.{segment_holding}
 use Rattle.witness_laws.proofs.OfEvidence.Before.{one_shown}
 use Rattle.witness_book_laws.specs.Books.{Book, exposed, exposing_pairs, book_shown}
 use Rattle.witness_book_laws.specs.Fitting.{IsWhole, FitsTogether, IsBookOf}
-use Rattle.witness_book_laws.specs.LookUps.{hash_among, hash_held, hash_shown, is_hash, is_other_hash, HasOneHash}
+use Rattle.witness_book_laws.specs.LookUps.{hash_among, hash_held, hash_shown, is_hash, is_other_hash}
+use Rattle.witness_book_laws.specs.LookUps.{HasOneHash}
 use Rattle.witness_book_laws.proofs.Lists.{same_truth, passer, passed}
 use Rattle.witness_laws.proofs.OfEvidence.Before.{found, not_found}
 use Rattle.witness_book_laws.proofs.Kept.{Shower, AtFirst, Exposing, Learned, Segment, shower, shows}

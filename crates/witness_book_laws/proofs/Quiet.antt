@@ -12,13 +12,16 @@ use Rattle.witness_laws.specs.evidence_spec.Evidence.{EvidenceParts}
 use Rattle.witness_laws.specs.witness_spec.Events.{JobParts, Question}
 use Rattle.witness_laws.specs.witness_spec.Replies.{Reply, Opened, Closed, Asked, Job, Returned, Forwarded}
 use Rattle.witness_laws.specs.witness_spec.Watched.{Watched}
-use Rattle.witness_laws.specs.witness_spec.Steps.{Step, SendChallenge, AckIn, Audit, Begin, PutBack, Forward, Ask, Past}
+use Rattle.witness_laws.specs.witness_spec.Steps.{Step, SendChallenge, AckIn, Audit, Begin, PutBack, Forward}
+use Rattle.witness_laws.specs.witness_spec.Steps.{Ask, Past}
 use Rattle.witness_laws.specs.witness_spec.Done.{noted, accepted, begun, filed, forwarded}
 use Rattle.witness_laws.specs.witness_spec.Histories.{HoldSame}
 use Rattle.witness_laws.specs.witness_spec.Standing.{End, end_of, end_after, pairs_noted, pairs_accepted}
 use Rattle.witness_laws.specs.witness_spec.Standing.{shown, is_exposed, unless_exposed, noted_before, kept}
-use Rattle.witness_laws.specs.witness_spec.Standing.{segment_of, all_accepted, stage_after, stage_of, begins, open_after}
-use Rattle.witness_laws.specs.witness_spec.Standing.{open_challenges, found_filed, all_found, forwards, outbox}
+use Rattle.witness_laws.specs.witness_spec.Standing.{segment_of, all_accepted, stage_after, stage_of, begins}
+use Rattle.witness_laws.specs.witness_spec.Standing.{open_after}
+use Rattle.witness_laws.specs.witness_spec.Standing.{open_challenges, found_filed, all_found, forwards}
+use Rattle.witness_laws.specs.witness_spec.Standing.{outbox}
 use Rattle.witness_laws.specs.witness_spec.Exposing.{charge_of, evidence}
 use Rattle.witness_book_laws.specs.Books.{Book, book_shown}
 use Rattle.witness_book_laws.specs.Going.{after_send_challenge, after_ack, after_audit, after_begin}

@@ -7,20 +7,26 @@ use Rattle.authenticator.specs.declared.authenticator.Authenticator.{Authenticat
 use Rattle.secure_log.specs.Segment.{ClosedParts}
 use Rattle.envelopes.specs.Acknowledgement.{acked_message}
 use Rattle.witness_laws.specs.witness_spec.Refusals.{LearnedFull, NothingToAudit, NoJob, WrongJob}
-use Rattle.witness_laws.specs.witness_spec.Events.{JobParts, Question, ItsIndication, ItsChallenges, ItsEvidence}
-use Rattle.witness_laws.specs.witness_spec.Replies.{Reply, Noted, Already, Job, Filed, Returned, Told, OpenList}
+use Rattle.witness_laws.specs.witness_spec.Events.{JobParts, Question, ItsIndication, ItsChallenges}
+use Rattle.witness_laws.specs.witness_spec.Events.{ItsEvidence}
+use Rattle.witness_laws.specs.witness_spec.Replies.{Reply, Noted, Already, Job, Filed, Returned, Told}
+use Rattle.witness_laws.specs.witness_spec.Replies.{OpenList}
 use Rattle.witness_laws.specs.witness_spec.Replies.{EvidenceIs}
 use Rattle.witness_laws.specs.witness_spec.Replies.{Refused, FileRefused, PutBackRefused, Exposed}
 use Rattle.witness_laws.specs.witness_spec.Watched.{Watched}
-use Rattle.witness_laws.specs.witness_spec.Steps.{Step, Learn, SendChallenge, Answer, AckIn, Audit, Begin, File, PutBack}
+use Rattle.witness_laws.specs.witness_spec.Steps.{Step, Learn, SendChallenge, Answer, AckIn, Audit, Begin}
+use Rattle.witness_laws.specs.witness_spec.Steps.{File, PutBack}
 use Rattle.witness_laws.specs.witness_spec.Steps.{Forward, Ask, Past}
 use Rattle.witness_laws.specs.witness_spec.Limits.{MAX_LEARNED, MAX_ASKED}
 use Rattle.witness_laws.specs.witness_spec.Pairs.{pair_of, same_pair, differ, is_shown, is_fork}
-use Rattle.witness_laws.specs.witness_spec.Standing.{End, Stage, NoAudit, Wanted, Given, Out, end_of, shown, is_exposed}
+use Rattle.witness_laws.specs.witness_spec.Standing.{End, Stage, NoAudit, Wanted, Given, Out, end_of, shown}
+use Rattle.witness_laws.specs.witness_spec.Standing.{is_exposed}
 use Rattle.witness_laws.specs.witness_spec.Standing.{kept}
-use Rattle.witness_laws.specs.witness_spec.Standing.{stage_of, begins, out_at, open_challenges, without_evidence, outbox}
+use Rattle.witness_laws.specs.witness_spec.Standing.{stage_of, begins, out_at, open_challenges}
+use Rattle.witness_laws.specs.witness_spec.Standing.{without_evidence, outbox}
 use Rattle.witness_laws.specs.witness_spec.Owing as owing
-use Rattle.witness_laws.specs.witness_spec.Owing.{Owes, ask_reply, ask_up_to, last_in_reach, answer_reply, back_reply}
+use Rattle.witness_laws.specs.witness_spec.Owing.{Owes, ask_reply, ask_up_to, last_in_reach, answer_reply}
+use Rattle.witness_laws.specs.witness_spec.Owing.{back_reply}
 use Rattle.witness_laws.specs.witness_spec.Owing.{challenge_reply, ack_reply, forward_reply, reply_told}
 use Rattle.witness_laws.specs.witness_spec.Histories.{HoldSame}
 use Rattle.witness_book_laws.specs.Books.{Book, exposed, book_shown, job_out_at, job_out}

@@ -18,27 +18,33 @@ use Rattle.envelopes.specs.declared.acknowledgement.Ack.{Ack}
 use Rattle.witness_laws.specs.state_spec.State.{State}
 use Rattle.replay_spec.specs.Replay.{segment_verdict}
 use Rattle.secure_log.specs.LogEntries.Chain.{IsAmong}
-use Rattle.witness_laws.specs.witness_spec.Refusals.{NotAsked, TooFar, BookFull, OutboxFull, LearnedFull, NothingToAudit}
+use Rattle.witness_laws.specs.witness_spec.Refusals.{NotAsked, TooFar, BookFull, OutboxFull, LearnedFull}
+use Rattle.witness_laws.specs.witness_spec.Refusals.{NothingToAudit}
 use Rattle.witness_laws.specs.witness_spec.Events.{JobParts, DoneParts, Question}
-use Rattle.witness_laws.specs.witness_spec.Replies.{Reply, Noted, Already, Opened, Accepted, Closed, Asked, Job, Filed}
+use Rattle.witness_laws.specs.witness_spec.Replies.{Reply, Noted, Already, Opened, Accepted, Closed, Asked}
+use Rattle.witness_laws.specs.witness_spec.Replies.{Job, Filed}
 use Rattle.witness_laws.specs.witness_spec.Replies.{Returned}
 use Rattle.witness_laws.specs.witness_spec.Replies.{Forwarded, Refused, Challenge}
 use Rattle.witness_laws.specs.witness_spec.Watched.{Watched}
-use Rattle.witness_laws.specs.witness_spec.Steps.{Step, Learn, SendChallenge, Answer, AckIn, Audit, Begin, File, PutBack}
+use Rattle.witness_laws.specs.witness_spec.Steps.{Step, Learn, SendChallenge, Answer, AckIn, Audit, Begin}
+use Rattle.witness_laws.specs.witness_spec.Steps.{File, PutBack}
 use Rattle.witness_laws.specs.witness_spec.Steps.{Forward, Ask, Past}
 use Rattle.witness_laws.specs.witness_spec.Limits.{MAX_AUDITED, MAX_OUTBOX}
 use Rattle.witness_laws.specs.witness_spec.Pairs.{pair_of, is_shown}
 use Rattle.witness_laws.specs.witness_spec.Done as did
 use Rattle.witness_laws.specs.witness_spec.Done.{forwarded}
-use Rattle.witness_laws.specs.witness_spec.Standing.{End, end_of, entries_filed, audited, shown, is_exposed, Stage}
+use Rattle.witness_laws.specs.witness_spec.Standing.{End, end_of, entries_filed, audited, shown, is_exposed}
+use Rattle.witness_laws.specs.witness_spec.Standing.{Stage}
 use Rattle.witness_laws.specs.witness_spec.Standing.{NoAudit, Wanted}
 use Rattle.witness_laws.specs.witness_spec.Standing.{Given, Out, all_found, forwards, outbox}
-use Rattle.witness_laws.specs.witness_spec.Owing.{has_no_room, answer_reply, last_in_reach, ask_up_to, ask_reply}
+use Rattle.witness_laws.specs.witness_spec.Owing.{has_no_room, answer_reply, last_in_reach, ask_up_to}
+use Rattle.witness_laws.specs.witness_spec.Owing.{ask_reply}
 use Rattle.witness_laws.specs.witness_spec.Owing.{back_reply}
 use Rattle.witness_laws.specs.witness_spec.Owing.{forward_reply, Owes}
 use Rattle.witness_book_laws.specs.Books.{Book, exposed, job_of, job_out_at, job_out}
 use Rattle.witness_book_laws.specs.Replying.{reply_to_audit, reply_to_begin, BookOwes}
-use Rattle.witness_book_laws.specs.Going.{after_learn, after_send_challenge, after_answer, after_ack, after_audit}
+use Rattle.witness_book_laws.specs.Going.{after_learn, after_send_challenge, after_answer, after_ack}
+use Rattle.witness_book_laws.specs.Going.{after_audit}
 use Rattle.witness_book_laws.specs.Going.{after_begin, after_file, after_put_back, after_forward, book_after}
 use Rattle.witness_book_laws.specs.Fitting.{NumbersDiffer, IsMore, IsFaulty, AgreesAt, FitsTogether}
 use Rattle.witness_laws.proofs.Checked.{IsCheckedStep}

@@ -11,7 +11,8 @@ use Rattle.witness_laws.specs.evidence_spec.Evidence.{Charge, Fork, Replay, Evid
 use Rattle.witness_laws.specs.witness_spec.Events.{JobParts}
 use Rattle.witness_laws.specs.witness_spec.Replies.{Challenge, Indication, Exposed}
 use Rattle.witness_laws.specs.witness_spec.Pairs.{Pair, pair_of, first_pair, last_of, marks_of}
-use Rattle.witness_laws.specs.witness_spec.Standing.{End, Stage, NoAudit, Wanted, Given, Out, without_evidence}
+use Rattle.witness_laws.specs.witness_spec.Standing.{End, Stage, NoAudit, Wanted, Given, Out}
+use Rattle.witness_laws.specs.witness_spec.Standing.{without_evidence}
 use Rattle.witness_laws.specs.witness_spec.Histories.{BookParts}
 
 -- What a witness keeps of one node. Each list has the oldest first.

@@ -13,9 +13,11 @@ use Rattle.replay_spec.specs.Replay.{Verdict, Sound, Fault}
 use Rattle.witness_laws.specs.evidence_spec.Showing.{ShowingParts, authenticator_showing, segment_showing}
 use Rattle.witness_laws.specs.evidence_spec.Evidence.{Charge, Replay, EvidenceParts}
 use Rattle.witness_laws.specs.witness_spec.Events.{JobParts, DoneParts}
-use Rattle.witness_laws.specs.witness_spec.Replies.{Reply, Noted, Opened, Accepted, Closed, Asked, Job, Filed, Returned}
+use Rattle.witness_laws.specs.witness_spec.Replies.{Reply, Noted, Opened, Accepted, Closed, Asked, Job, Filed}
+use Rattle.witness_laws.specs.witness_spec.Replies.{Returned}
 use Rattle.witness_laws.specs.witness_spec.Replies.{Forwarded, AuditOf, SendOf}
-use Rattle.witness_laws.specs.witness_spec.Steps.{Step, Learn, SendChallenge, Answer, AckIn, Audit, Begin, File, PutBack}
+use Rattle.witness_laws.specs.witness_spec.Steps.{Step, Learn, SendChallenge, Answer, AckIn, Audit, Begin}
+use Rattle.witness_laws.specs.witness_spec.Steps.{File, PutBack}
 use Rattle.witness_laws.specs.witness_spec.Steps.{Forward, Ask, Past}
 use Rattle.witness_laws.specs.witness_spec.Pairs.{Pair, pair_of, first_fork, number_of, last_of, marks_of}
 use Rattle.witness_laws.specs.witness_spec.Standing.{moved_by, sound_found, is_answered, is_send_of}

@@ -7,17 +7,21 @@ use Rattle.envelopes.specs.Acknowledgement.{acked_message}
 use Rattle.envelopes.specs.declared.envelope.Envelope.{Envelope}
 use Rattle.envelopes.specs.declared.acknowledgement.Ack.{Ack}
 use Rattle.witness_laws.specs.witness_spec.Refusals.{LearnedFull, NothingToAudit, Busy, NoJob, WrongJob}
-use Rattle.witness_laws.specs.witness_spec.Events.{JobParts, DoneParts, Question, ItsIndication, ItsChallenges}
+use Rattle.witness_laws.specs.witness_spec.Events.{JobParts, DoneParts, Question, ItsIndication}
+use Rattle.witness_laws.specs.witness_spec.Events.{ItsChallenges}
 use Rattle.witness_laws.specs.witness_spec.Events.{ItsEvidence}
-use Rattle.witness_laws.specs.witness_spec.Replies.{Reply, Noted, Already, Job, Filed, Returned, Told, OpenList}
+use Rattle.witness_laws.specs.witness_spec.Replies.{Reply, Noted, Already, Job, Filed, Returned, Told}
+use Rattle.witness_laws.specs.witness_spec.Replies.{OpenList}
 use Rattle.witness_laws.specs.witness_spec.Replies.{EvidenceIs}
 use Rattle.witness_laws.specs.witness_spec.Replies.{Refused, FileRefused, PutBackRefused}
-use Rattle.witness_laws.specs.witness_spec.Steps.{Step, Learn, SendChallenge, Answer, AckIn, Audit, Begin, File, PutBack}
+use Rattle.witness_laws.specs.witness_spec.Steps.{Step, Learn, SendChallenge, Answer, AckIn, Audit, Begin}
+use Rattle.witness_laws.specs.witness_spec.Steps.{File, PutBack}
 use Rattle.witness_laws.specs.witness_spec.Steps.{Forward, Ask}
 use Rattle.witness_laws.specs.witness_spec.Limits.{MAX_LEARNED}
 use Rattle.witness_laws.specs.witness_spec.Pairs.{pair_of, is_shown, is_fork, number_of}
 use Rattle.witness_laws.specs.witness_spec.Standing.{Stage, NoAudit, Wanted, Given, Out}
-use Rattle.witness_laws.specs.witness_spec.Owing.{challenge_reply, answer_reply, ack_reply, ask_reply, back_reply}
+use Rattle.witness_laws.specs.witness_spec.Owing.{challenge_reply, answer_reply, ack_reply, ask_reply}
+use Rattle.witness_laws.specs.witness_spec.Owing.{back_reply}
 use Rattle.witness_laws.specs.witness_spec.Owing.{forward_reply}
 use Rattle.witness_book_laws.specs.Books.{Book, exposed, book_shown, job_of, job_out, book_indication}
 

@@ -28,9 +28,9 @@ pub(crate) enum Routed {
 /// Whose step an event is, by the event and the roster alone. Bytes are read and checked; what was checked
 /// before is a step only where that was under the key, or the roster, that counts here. `UnknownNode` comes
 /// where a node that the event is of is no member, else `BadSignature` where it was checked under another key
-/// or roster, or isn't signed; `Garbage` where bytes are no packet, and of an authenticator of a member whose log
-/// isn't of version 1, before the others. `NoMemory` comes only where a growth was
-/// refused, of bytes alone. A job or a done value that is refused comes back with the reply.
+/// or roster, or isn't signed; `Garbage` where bytes are no packet, and of an authenticator of a member whose
+/// log isn't of version 1, before the others. `NoMemory` comes only where a growth was refused, of bytes
+/// alone. A job or a done value that is refused comes back with the reply.
 #[tactic(auto, using(crate::proofs::Routes::given_goes))]
 pub(crate) fn route(alloc: Global, roster: &Roster, event: Event) -> Routed
     ensures { RoutesTo roster.now event result }

@@ -232,8 +232,8 @@ pub record AnswersAudit (w : Watched) (history : History) (c : ClosedParts) : Ty
 abbrev pub answer_of : List Member → OpenSegment → Authenticator → ClosedParts
 answer_of ms s closing = record { segment = with_closing s closing; roster = ms }
 
--- The part of a node's log of version 1 that was asked for, closed by the node's signature at its last number,
--- answers the audit.
+-- The part of a node's log of version 1 that was asked for, closed by the node's signature at its last
+-- number, answers the audit.
 abbrev pub AnswersAreAccepted : Type 0
 AnswersAreAccepted =
     (w : Watched) (history : History) (log : LogParts) (first last : ℕ) (s : OpenSegment)

@@ -40,7 +40,7 @@ HonestServersStay =
 
 -- ---- honest logs
 
--- No message is received at two places of an honest log, by sender, number and hash; nor is one that was
+-- No message is received at two places of an honest log, by sender, word and hash; nor is one that was
 -- received before it.
 abbrev pub NoMessageTwice : Type 0
 NoMessageTwice =

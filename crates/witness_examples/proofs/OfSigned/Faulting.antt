@@ -27,8 +27,10 @@ use Rattle.witness_spec.specs.Histories.{own, own_step}
 use Rattle.witness_spec.specs.Laws.{HasFaultyFile}
 use Rattle.witness_examples.specs.Signed.Audited.{client, client_key, alone}
 use Rattle.witness_examples.specs.Signed.Faulty.{back_hash, back_end, back_segment, back_closed, back_job}
-use Rattle.witness_examples.specs.Signed.Faulty.{back_done, back_learned, back_asked, back_answered, back_begun}
-use Rattle.witness_examples.specs.Signed.Faulty.{back_filed, back_events, back_steps, learned_back, asked_back}
+use Rattle.witness_examples.specs.Signed.Faulty.{back_done, back_learned, back_asked, back_answered}
+use Rattle.witness_examples.specs.Signed.Faulty.{back_begun}
+use Rattle.witness_examples.specs.Signed.Faulty.{back_filed, back_events, back_steps, learned_back}
+use Rattle.witness_examples.specs.Signed.Faulty.{asked_back}
 use Rattle.witness_examples.specs.Signed.Faulty.{answered_back, begun_back, filed_back}
 use Rattle.witness_examples.proofs.OfSigned.Signing.{leaf_signs}
 use Rattle.witness_examples.proofs.OfSigned.Auditing.{learned_whose, roster_is, signed_event}

@@ -31,8 +31,8 @@ pub fn the_call_is_owed_the_reply()
 {}
 
 /// Whatever its secret, a server that received the call, read its clock and sent that reply is learned of,
-/// audited, answers, and its log is filed sound; then it is Trusted, and what its log shows of the client's is
-/// forwarded.
+/// audited, answers, and its log is filed sound; then it is Trusted, and what its log shows of the client's
+/// is forwarded.
 pub fn a_server_that_answered_is_audited()
     ensures learned { (secret : List ℕ) →
         Owes (watched (server_and_caller secret) (server secret)) [] (Learn (served_end secret)) Noted }

@@ -11,7 +11,8 @@ ghost use Rattle.witness_spec.specs.Standing.{indication};
 ghost use Rattle.witness_spec.specs.Histories.{IsHistory, own};
 ghost use Rattle.witness_spec.specs.Laws.{HasFaultyFile};
 ghost use Rattle.witness_examples.specs.Signed.Audited.{alone, client};
-ghost use Rattle.witness_examples.specs.Signed.Faulty.{back_end, back_closed, back_job, back_done, back_events};
+ghost use Rattle.witness_examples.specs.Signed.Faulty.{back_end, back_closed, back_job, back_done};
+ghost use Rattle.witness_examples.specs.Signed.Faulty.{back_events};
 ghost use Rattle.witness_examples.specs.Signed.Faulty.{back_steps, learned_back, asked_back, answered_back};
 ghost use Rattle.witness_examples.specs.Signed.Faulty.{begun_back, filed_back};
 

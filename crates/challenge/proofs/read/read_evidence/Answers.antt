@@ -8,9 +8,9 @@ use Rattle.challenge.proofs.read.read_evidence.Goals as goal
 pub returns-clause-found : goal.returns-clause-found
 returns-clause-found c =
     let same : c.deref.result.now ≡ c.args.bytes.items = search rules in
-    text_found is_garbage evidence_text evidence_value c.args.bytes.items c.evidence_of.result (rw same at c.are_bytes.ensures) (rw c.new.ensures at c.evidence_of.ensures)
+    text_found is_garbage evidence_text evidence_value c.args.bytes.items c.evidence_of.result (rw same at c.are_bytes.ensures) (rw c.new.ensures at c.evidence_of.ensures.text)
 
 pub returns-clause-only : goal.returns-clause-only
 returns-clause-only c =
     let same : c.deref.result.now ≡ c.args.bytes.items = search rules in
-    only_by_text evidence_text evidence_value c.args.bytes.items c.evidence_of.result (rw same at c.are_bytes.ensures) (rw c.new.ensures at c.evidence_of.ensures)
+    only_by_text evidence_text evidence_value c.args.bytes.items c.evidence_of.result (rw same at c.are_bytes.ensures) (rw c.new.ensures at c.evidence_of.ensures.text)

@@ -3,9 +3,8 @@ use Rattle.std.proofs.lemmas.Result.{err_from_is_err_and}
 use Rattle.xdr.specs.ReadFault.{xdr_fault}
 use Rattle.xdr.specs.ArraysAndUnions.{choice_ok, choice_err_unless}
 use Rattle.secure_log.specs.Segment.{segment_value}
-use Rattle.authenticator.specs.declared.member.LogVersion.TheVariants.{One}
+use Rattle.evidence_showings.specs.Plain.{plain_value}
 use Rattle.evidence_showings.specs.Worded.{worded_value}
-use Rattle.evidence_showings.specs.evidence_spec.Showing.{showing_value}
 use Rattle.evidence_showings.specs.evidence_spec.Evidence.{charge_item, is_charge}
 use Rattle.challenge.proofs.read.take_charge.Goals as goal
 
@@ -16,7 +15,7 @@ returns-in_err-at-in-1 c =
 
 pub returns-in_ok-at-in-1 : goal.returns-in_ok-at-in-1
 returns-in_ok-at-in-1 c =
-    choice_ok is_charge charge_item c.args.source.now 1 c.take_word.new.source (c.in_ok-at-in-1.at, ((showing_value One) c.in_ok-at-in-1.a, option_map (showing_value One) c.in_ok-at-in-1.b)) c.take_fork.new.source (rw c.in-1.is at c.in_ok-take_word.ensures) refl c.in_ok-at-in-1.ensures
+    choice_ok is_charge charge_item c.args.source.now 1 c.take_word.new.source (c.in_ok-at-in-1.at, (plain_value c.in_ok-at-in-1.a, option_map plain_value c.in_ok-at-in-1.b)) c.take_fork.new.source (rw c.in-1.is at c.in_ok-take_word.ensures) refl c.in_ok-at-in-1.ensures
 
 pub returns-in_err-log-in-2 : goal.returns-in_err-log-in-2
 returns-in_err-log-in-2 c =

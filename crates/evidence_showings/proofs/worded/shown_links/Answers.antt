@@ -1,4 +1,5 @@
-use Rattle.std.proofs.Common.{◌≡◌, ◌+◌, ◌++◌, ◌<◌, ◌∙◌, [], ◌∷◌, ap, arith, drop, length, map, rules, subst, sym, take, true}
+use Rattle.std.proofs.Common.{◌≡◌, ◌+◌, ◌++◌, ◌<◌, ◌∙◌, [], ◌∷◌, ap, drop, length, map, rules, subst, sym}
+use Rattle.std.proofs.Common.{take, true}
 use Rattle.std.specs.Prelude.{◌&&◌, ◌/◌, ◌^◌}
 use Rattle.std.proofs.lemmas.List.{take_more}
 use Rattle.authenticator.specs.declared.member.LogVersion.TheVariants.{Two}

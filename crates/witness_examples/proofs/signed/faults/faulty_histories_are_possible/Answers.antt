@@ -14,7 +14,8 @@ use Rattle.witness_examples.specs.Signed.Faulty.{begun_back, filed_back}
 use Rattle.witness_examples.proofs.OfSigned.Auditing.{learned_whose, owed}
 use Rattle.witness_examples.proofs.OfSigned.Faulting.{back_is, back_closed_is, back_replayed, back_whose}
 use Rattle.witness_examples.proofs.OfSigned.Faulting.{own_learned_back, own_asked_back, own_answered_back}
-use Rattle.witness_examples.proofs.OfSigned.Faulting.{own_begun_back, own_filed_back, own_all_back, is_exposed}
+use Rattle.witness_examples.proofs.OfSigned.Faulting.{own_begun_back, own_filed_back, own_all_back}
+use Rattle.witness_examples.proofs.OfSigned.Faulting.{is_exposed}
 use Rattle.witness_examples.proofs.OfSigned.Faulting.{is_faulty}
 use Rattle.witness_examples.proofs.signed.faults.faulty_histories_are_possible.Goals as goal
 
