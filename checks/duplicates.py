@@ -11,6 +11,8 @@ CONTRACT = "a function and the private one that does its work have one contract"
 FIELDS = "a pattern names each field of an entry"
 ORDER = "the refusals of a check in their order, with a cache of signatures and without"
 SHAPE = "proofs of two functions of one shape, whose goals have names of their own"
+LENDS = "segments of logs of version 1, and of either version, lend their parts alike"
+CLOSES = "the number that closes the links of a showing, and of a segment"
 
 # Pairs of files whose lines may agree, each with the reason. Paths begin at crates/.
 ALIKE = {
@@ -26,6 +28,12 @@ ALIKE = {
     ("envelopes/src/checks.rt", "witness_service/src/checking.rt"): ORDER,
     ("witness_books/proofs/books/noted_step_of/Answers.antt", "witness_books/proofs/books/step_of/Answers.antt"): SHAPE,
     ("file_tree/proofs/tree/Tree/create/Answers.antt", "file_tree/proofs/tree/Tree/create/Answers.antt"): SHAPE,
+    ("secure_log/proofs/logged/logged_end/Answers.antt", "secure_log/proofs/logged/logged_end/Answers.antt"): SHAPE,
+    ("secure_log/proofs/logged/last_word/Answers.antt", "secure_log/proofs/write/add_each_logged/Answers.antt"): SHAPE,
+    ("secure_log/proofs/worded/WordedSegment/into_segment/Answers.antt",
+     "secure_log/proofs/worded/WordedSegment/into_segment/Answers.antt"): SHAPE,
+    ("secure_log/src/segment.rt", "secure_log/src/versioned.rt"): LENDS,
+    ("evidence_spec/proofs/Gaps.antt", "secure_log/proofs/Gaps.antt"): CLOSES,
 }
 
 SKIPPED = re.compile(r"^(\s*(//|--).*|\s*(pub |ghost )*use .*|\s*[\]\[(){};,.]*\s*)$")

@@ -38,14 +38,14 @@ check_whole() {
         cmp -s "$files/out" "$name.said" || fail "$name is explained otherwise" "$files/out"
         count=$((count + 1))
     done
-    [ "$count" -eq 22 ] || fail "$count files were tried"
+    [ "$count" -eq 23 ] || fail "$count files were tried"
 }
 
 # Files that are cut, at each of the first 208 bytes, at each 64th after them, by the last byte and in each part, and one
 # with a byte more.
 check_cuts() {
     local name size cut
-    for name in wrong_reply fork hidden_entry; do
+    for name in wrong_reply fork hidden_entry wrong_reply_after_gap; do
         size=$(wc -c < "$cases/$name.evidence")
         for cut in $(seq 0 208) $(seq 256 64 "$size") $((size - 1)) $((size - 4)) $((size - 16500)); do
             head -c "$cut" "$cases/$name.evidence" > "$files/case"
@@ -67,7 +67,7 @@ changed() {
 # A bit changed anywhere: in the roster, the evidence's node, the log, its entries and its closing.
 check_changes() {
     local name size at
-    for name in wrong_reply fork hidden_entry; do
+    for name in wrong_reply fork hidden_entry wrong_reply_after_gap; do
         size=$(wc -c < "$cases/$name.evidence")
         for ((at = 3; at < size; at += size / 60)); do
             changed $name $at
@@ -121,8 +121,8 @@ check_gap_reasons() {
         changed hidden_entry $cut
         why "nfsacc: $files/case: not a roster .* byte 16832 does not decode" "$files/case"
     done
-    # A replay of a log of version 2 isn't read, and no charge is 0.
-    for cut in 0 4; do
+    # No charge is 0 or 5.
+    for cut in 0 5; do
         with_byte hidden_entry 159 $cut
         why "nfsacc: $files/case: not a roster .* byte 156 does not decode" "$files/case"
     done
@@ -138,6 +138,27 @@ check_gap_reasons() {
     changed hidden_entry 16927
     lacks 'what is shown does not end in what closes it' "$files/case"
     lacks 'what is shown does not end in what closes it' "$cases/other_before.evidence"
+}
+
+# So of a replay. In wrong_reply_after_gap.evidence the roster ends at 152, the charge stands at 156, the segment's node at
+# 160, `before` at 164, the opening hash at 172, its count of entries at 204, the first entry's word at 208, its kind at 216.
+check_replay_reasons() {
+    local cut
+    for cut in 160:160 164:164 171:164 172:172 204:204 207:204 208:208 215:208 216:216; do
+        head -c "${cut%:*}" "$cases/wrong_reply_after_gap.evidence" > "$files/case"
+        why "nfsacc: $files/case: not a roster .* byte ${cut#*:} does not decode" "$files/case"
+    done
+    # The count in the first entry's word, its number, and what stands before it: then the word doesn't follow.
+    for cut in 211 215 171; do
+        changed wrong_reply_after_gap $cut
+        why "nfsacc: $files/case: not a roster .* byte 208 does not decode" "$files/case"
+    done
+    changed wrong_reply_after_gap 155
+    lacks 'what is shown is of another node' "$files/case"
+    with_byte wrong_reply_after_gap 55 1
+    lacks "the evidence is of another log version than the node's" "$files/case"
+    changed wrong_reply_after_gap 203
+    lacks 'the log is not shown from its first entry on' "$files/case"
 }
 
 # A file that is no evidence is told as which of three it is: by the byte at which an item begins that doesn't decode, by
@@ -179,6 +200,7 @@ check_reasons() {
     changed wrong_reply 110
     lacks 'the log is not shown from its first entry on' "$files/case"
     check_gap_reasons
+    check_replay_reasons
     why "nfsacc: .*: its roster is not the one that is trusted" --roster "$cases/client_clock.evidence" "$cases/fork.evidence"
     judged 1 'no evidence' --explain "$cases/fork.evidence" --roster "$cases/client_clock.evidence"
     grep -qx 'reason: its roster is not the one that is trusted' "$files/out" || fail 'another roster' "$files/out"
@@ -259,11 +281,11 @@ check_details() {
     grep -qx '  none: an entry before it has a fault' "$files/out" || fail 'a state past a fault' "$files/out"
     judged 1 'no evidence' --state 9 "$cases/no_fault.evidence"
     grep -qx '  none: the file does not have all entries before it' "$files/out" || fail 'a state past the log' "$files/out"
-    for number in 0 65538 +1 -1 x '' 1.5; do
+    for number in 0 4259842 +1 -1 x '' 1.5; do
         judged 2 '' "--state=$number" "$cases/no_fault.evidence"
-        grep -qx 'nfsacc: --state is a number from 1 to 65537' "$files/said" || fail "--state=$number" "$files/said"
+        grep -qx 'nfsacc: --state is a number from 1 to 4259841' "$files/said" || fail "--state=$number" "$files/said"
     done
-    judged 1 'no evidence' --state 65537 "$cases/no_fault.evidence"
+    judged 1 'no evidence' --state 4259841 "$cases/no_fault.evidence"
 }
 
 # Two honest nodes under rosters that anybody can make of a service's own: without another member, and with another kind of
@@ -366,12 +388,12 @@ check_endless() {
     grep -qx '  length: 65535' "$files/out" || fail 'a file of 65,535 bytes' "$files/out"
 }
 
-# A file that begins like evidence of 65,536 entries and has no end is read up to the longest evidence, 1,916,554,868
+# A file that begins like evidence of 65,536 entries and has no end is read up to the longest evidence, 1,917,079,156
 # bytes, and a byte more.
 check_longest() {
     { head -c 144 "$cases/wrong_reply.evidence"; printf '\0\1\0\0'; } > "$files/case"
     [ "$(od -An -tx1 -j 92 -N 8 "$files/case" | tr -d ' ')" = 0000000100000002 ] || fail 'evidence of a replay' "$files/case"
-    truncate -s 1916554869 "$files/case"
+    truncate -s 1917079157 "$files/case"
     unread 148 "$files/case"
     truncate -s 100G "$files/case"
     unread 148 "$files/case"
@@ -392,8 +414,8 @@ for program in "${made[@]}"; do
     check_others
     check_endless
 done
-# Logs of version 2: forks, evidence of logs of version 1 under rosters in the second form, and texts that are none.
-checks/gaps.py --forks "$(IFS=,; echo "${made[*]}")"
+# Logs of version 2: forks, replays, evidence of logs of version 1 under rosters in the second form, and texts that are none.
+checks/gaps.py "$(IFS=,; echo "${made[*]}")"
 # It takes 2 GiB of memory, so one program is enough.
 program=${made[0]}
 check_longest

@@ -9,32 +9,27 @@ usage: checks/gaps.py                   compares, in a few seconds, without a pr
                                         NAME.roster, and prints what is owed
        checks/gaps.py PROGRAM           compares what `nfsacc check` says of each, as checks/generate.py does. Several
                                         programs, with a comma between them, must say the same
-       checks/gaps.py --forks PROGRAM   the same of all files but replays of logs of version 2, which nfsacc doesn't read:
-                                        it must name the byte of their kind as the first that doesn't decode
 """
 
-import json
 import os
 import sys
-import tempfile
 from collections.abc import Iterator
 from random import Random
 
 sys.dont_write_bytecode = True
 import generate  # noqa: E402
-from generator.gaps import GAPS, NO_TEXT  # noqa: E402
+from generator.gaps import GAPS  # noqa: E402
 from generator.kinds import Case  # noqa: E402
 from generator.packets import Packet, packets  # noqa: E402
 from generator.texts import roster_text  # noqa: E402
 from verifier import evidence, keys, replay, words  # noqa: E402
 from verifier import packets as judged_packets  # noqa: E402
-from verifier.evidence import NO_ENTRY, REPLAY_2, Verdict, judge  # noqa: E402
+from verifier.evidence import NO_ENTRY, Verdict, judge  # noqa: E402
 from verifier.explain import Detail, explain  # noqa: E402
-from verifier.keys import ZEROS, digest, read_roster  # noqa: E402
+from verifier.keys import ZEROS, digest  # noqa: E402
 from verifier.log import Clock, hash_after  # noqa: E402
 from verifier.packets import refusal  # noqa: E402
 from verifier.words import LOG_2, NUMBERS, number_in, skipped_in, word_of  # noqa: E402
-from verifier.xdr import Reader, Undecodable  # noqa: E402
 
 # The hash that docs/FORMATS.md has of a CLOCK of (1, 0) as a log's first entry, with 1 to 5 skipped.
 FIRST_CLOCK = 'dbc61d45e1aa359c5952a352c5ea8afa1ae4cdbd3827c220bcef9bced5e83a98'
@@ -228,43 +223,6 @@ def compare() -> int:
     return 1 if failed else 0
 
 
-def kind_place(data: bytes) -> int | None:
-    """Where the kind stands of evidence that is a replay of a log of version 2, if a file begins as such evidence."""
-    reader = Reader(data)
-    try:
-        read_roster(reader)
-        reader.word()
-        return reader.at - 4 if reader.word() == REPLAY_2 else None
-    except Undecodable:
-        return None
-
-
-def told_of_unread(programs: list[str], path: str, data: bytes, at: int) -> list[str]:
-    """What programs say otherwise of a file whose kind they don't read."""
-    with open(path, 'wb') as file:
-        file.write(data)
-    owed_of = {'verdict': 'no evidence', 'reason': NO_TEXT, 'first_byte_that_does_not_decode': at}
-    wrong = []
-    for program in programs:
-        told = json.loads(generate.said(program, path, '--json'))
-        wrong += [f'{program}: {name}: {told.get(name)!r}' for name, value in owed_of.items() if told.get(name) != value]
-    return wrong
-
-
-def compare_forks(programs: str) -> int:
-    """Of replays of logs of version 2 their kind doesn't decode; all other files are judged as they are meant to be."""
-    cases = [(*each, kind_place(each[2].data)) for each in all_made()]
-    replays, wrong = [each for each in cases if each[3] is not None], 0
-    with tempfile.TemporaryDirectory() as folder:
-        for name, place, case, at in replays:
-            otherwise = told_of_unread(programs.split(','), os.path.join(folder, 'case'), case.data, at)
-            wrong += bool(otherwise)
-            if otherwise:
-                print(f'{name} {place}: byte {at} does not decode, is owed', *otherwise, sep='\n  ', file=sys.stderr)
-    print(f'{len(replays)} replays were judged, {wrong} otherwise than as bytes that do not decode')
-    return compare_programs(programs, (each[:3] for each in cases if each[3] is None)) or int(wrong > 0)
-
-
 def put(folder: str, name: str, data: bytes):
     with open(os.path.join(folder, name), 'wb') as file:
         file.write(data)
@@ -290,8 +248,6 @@ def compare_programs(programs: str, cases: Iterator[tuple[str, int, Case]]) -> i
 def main() -> int:
     if len(sys.argv) == 3 and sys.argv[1] == '--write':
         return write(sys.argv[2])
-    if len(sys.argv) == 3 and sys.argv[1] == '--forks':
-        return compare_forks(sys.argv[2])
     if len(sys.argv) == 2 and not sys.argv[1].startswith('-'):
         return compare_programs(sys.argv[1], all_made())
     if len(sys.argv) == 1:

@@ -17,11 +17,11 @@ readonly REFUSED=400
 # Of each subject one more than the requests that the calls have, and how many what is made first has, which aren't refused.
 declare -rA MOST=(
     [replies]=29 [files]=36 [keys]=8 [log]=84 [state]=124 [client]=25 [server]=54 [streams]=19 [steps]=28 [entries]=27
-    [segments]=67 [evidence]=107 [fork]=47 [books]=34 [filings]=13 [served]=27 [returned]=13 [jobs]=41 [rounds]=64 [stored]=0
+    [segments]=67 [evidence]=107 [fork]=47 [replay2]=67 [books]=34 [filings]=13 [served]=27 [returned]=13 [jobs]=41 [rounds]=64 [stored]=0
 )
 declare -rA MADE=(
     [replies]=0 [files]=8 [keys]=0 [log]=13 [state]=1 [client]=10 [server]=18 [streams]=17 [steps]=20 [entries]=28
-    [segments]=28 [evidence]=1 [fork]=1 [books]=86 [filings]=130 [served]=56 [returned]=120 [jobs]=70 [rounds]=96 [stored]=0
+    [segments]=28 [evidence]=1 [fork]=1 [replay2]=1 [books]=86 [filings]=130 [served]=56 [returned]=120 [jobs]=70 [rounds]=96 [stored]=0
 )
 readonly CHECKS=$PWD/checks
 
@@ -30,6 +30,7 @@ texts_of() {
     case $1 in
         evidence) cat "$CHECKS/evidence/wrong_checkpoint.evidence" ;;
         fork) cat "$CHECKS/evidence/hidden_entry.evidence" ;;
+        replay2) cat "$CHECKS/evidence/wrong_reply_after_gap.evidence" ;;
         client | server) cat "$work/to_calls" ;;
         log) cat "$work/to_logs" ;;
         steps | entries | segments) cat "$work/to_replays" ;;
@@ -180,6 +181,7 @@ check_subject() {
             least_refused 6 of_authenticator from_start
             ;;
         fork) least_refused 7 read_case write_case evidence_text read_evidence Evidence::try_clone ;;
+        replay2) least_refused 9 read_case write_case evidence_text read_evidence check_evidence Evidence::try_clone ;;
         # Nothing else takes memory: neither AckIn, Begin and PutBack, nor Ask of the indication and of evidence at hand.
         books)
             exactly_refused 4 'Deliver of an authenticator' 1 SendChallenge 5 'Ask of the challenges' \
@@ -204,7 +206,7 @@ check_subject() {
 subjects=("$@")
 if [ $# -eq 0 ]; then
     subjects=(
-        replies files keys log state client server streams steps entries segments evidence fork books filings served
+        replies files keys log state client server streams steps entries segments evidence fork replay2 books filings served
         returned jobs rounds stored
     )
 fi

@@ -128,5 +128,10 @@ def other_before() -> bytes:
     return gaps.other_before(Random('other_before 0'), 0).data
 
 
+def wrong_reply_after_gap() -> bytes:
+    """A log of version 2 whose first entry is 6: its reply, number 8, isn't the one that is owed."""
+    return gaps.lie(Random('wrong_reply_after_gap 0'), 0).data
+
+
 STORED = [client_clock, check_after_ack, wrong_check_after_ack, second_ack, first_0, other_handle, odd_name,
-          long_write, member_left_out, kind_changed, hidden_entry, other_before]
+          long_write, member_left_out, kind_changed, hidden_entry, other_before, wrong_reply_after_gap]

@@ -43,7 +43,7 @@ fn server_refuses(alloc: Global, roster: &Roster) -> bool {
         return false;
     };
     let mut machine = ServerMachine::new(start);
-    let answer = machine.step(alloc, roster, Number::new(1), &[0; 32], &clock(1, 0));
+    let answer = machine.step(alloc, roster, Number::new(1).word(), &[0; 32], &clock(1, 0));
     answer == Err(StepFault::Fault(ReplayFault::BadForm)) && machine.text(alloc).is_ok()
 }
 
@@ -53,7 +53,7 @@ fn client_takes(alloc: Global, roster: &Roster) -> bool {
         return false;
     };
     let mut machine = FreeMachine::new(start);
-    let answer = machine.step(alloc, roster, Number::new(1), &[0; 32], &clock(1, 0));
+    let answer = machine.step(alloc, roster, Number::new(1).word(), &[0; 32], &clock(1, 0));
     answer.is_ok() && machine.text(alloc).is_ok()
 }
 

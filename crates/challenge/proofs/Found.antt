@@ -5,12 +5,11 @@ use Rattle.std.proofs.Common.{◌∙◌, inl, inr}
 use Rattle.std.specs.Prelude.{◌↔◌, IsFalse, IsTrue, IfOk}
 use Rattle.std.proofs.lemmas.Bool.{true≢false}
 use Rattle.authenticator.specs.declared.member.LogVersion.{LogVersion}
-use Rattle.authenticator.specs.declared.member.LogVersion.TheVariants.{One}
 use Rattle.authenticator.specs.declared.member.Member.{Member}
 use Rattle.authenticator.specs.Roster.{keeps_version}
 use Rattle.secure_log.specs.LogEntries.Chain.{zeros}
-use Rattle.secure_log.specs.Segment.{SegmentParts}
-use Rattle.replay.specs.replay_spec.Placed.{placed_in}
+use Rattle.secure_log.specs.Versioned.{VersionedParts}
+use Rattle.replay.specs.replay_spec.Placed.{places_in}
 use Rattle.replay.specs.replay_spec.Opening.{opening_of}
 use Rattle.replay.specs.replay_spec.Replay.{verdict_of}
 use Rattle.replay.specs.Verdicts.{IsOutcome}
@@ -67,14 +66,14 @@ fork_lacks v ms node at a None reason (inl lack) version accepted =
 fork_lacks v ms node at a None reason (inr (closed, lack)) version accepted =
     accepted.differs (lack.1 accepted.hash accepted.shown)
 
--- a log that is accepted is of version 1
-log_version : (ms : List Member) (node : ℕ) (s : SegmentParts) → AcceptsReplay ms node s
-    → IsTrue (keeps_version ms node One)
+-- a log that is accepted is of the version that the roster gives the node
+log_version : (ms : List Member) (node : ℕ) (s : VersionedParts) → AcceptsReplay ms node s
+    → IsTrue (keeps_version ms node s.log_version)
 log_version ms node s accepted =
-    subst (λ n. IsTrue (keeps_version ms n One)) accepted.of_node accepted.closed.version
+    subst (λ n. IsTrue (keeps_version ms n s.log_version)) accepted.of_node accepted.closed.version
 
 -- a log that is accepted lacks nothing
-pub log_lacks : (ms : List Member) (node : ℕ) (s : SegmentParts) (reason : NotAccepted)
+pub log_lacks : (ms : List Member) (node : ℕ) (s : VersionedParts) (reason : NotAccepted)
     → LogLacks ms node s reason → AcceptsReplay ms node s → ⊥
 log_lacks ms node s reasons.AnotherNode lack accepted = lack accepted.of_node
 log_lacks ms node s reasons.OtherVersion lack accepted = not_true lack.1 (log_version ms node s accepted)
@@ -87,7 +86,7 @@ log_lacks ms node s reasons.NoFault lack accepted =
     let same : Some lack.member ≡ Some accepted.member = sym lack.audited.is_member ∙ accepted.is_member in
     let one : lack.member ≡ accepted.member = cc in
     lack.none accepted.fault accepted.number
-    (ap (λ m. verdict_of ms (opening_of m) (placed_in s)) one ∙ accepted.found)
+    (ap (λ m. verdict_of ms (opening_of m) (places_in s)) one ∙ accepted.found)
 
 -- ---- what is found tells whether evidence is accepted
 
@@ -119,8 +118,8 @@ fork_exact v ms node fork_at a b (found.Fault fault number) h = absurd h
 fork_exact v ms node fork_at a b (found.NotAccepted reason) h =
     ((λ t. absurd cc), (λ accepted. absurd (fork_lacks v ms node fork_at a b reason h accepted.0 accepted.1)))
 
-log_exact : (ms : List Member) (node : ℕ) (s : SegmentParts) (f : Finding) → FindsInLog ms node s f
-    → IsTrue (is_accepted f) ↔ AcceptsVersion One ms node (AcceptsReplay ms node s)
+log_exact : (ms : List Member) (node : ℕ) (s : VersionedParts) (f : Finding) → FindsInLog ms node s f
+    → IsTrue (is_accepted f) ↔ AcceptsVersion s.log_version ms node (AcceptsReplay ms node s)
 log_exact ms node s (found.TwoMarks at one other) h = absurd h
 log_exact ms node s (found.Fault fault number) h =
     ((λ t. (log_version ms node s h.accepted, h.accepted)), (λ accepted. refl))
@@ -216,9 +215,9 @@ accepts_one v ms node a one closed answers differs = record {
 -- ---- replays
 
 -- what a replay finds in a member's closed log
-pub outcome_finds : (ms : List Member) (node : ℕ) (s : SegmentParts) (m : Member) (o : Outcome)
+pub outcome_finds : (ms : List Member) (node : ℕ) (s : VersionedParts) (m : Member) (o : Outcome)
     → IsAudited ms node s m
-    → IsOutcome o (verdict_of ms (opening_of m) (placed_in s)) → FindsInLog ms node s (finding_in o)
+    → IsOutcome o (verdict_of ms (opening_of m) (places_in s)) → FindsInLog ms node s (finding_in o)
 outcome_finds ms node s m (outcomes.Fault fault number) audited is = record {
   accepted = record {
     of_node = audited.of_node;

@@ -4,18 +4,16 @@
 use Rattle.std.proofs.Common.{◌≡◌, ℕ, ◌-◌, List, length, Option, Some, None, refl, sym, ap, ◌∙◌, inl, inr}
 use Rattle.std.specs.Prelude.{◌⊎◌, IsTrue}
 use Rattle.authenticator.specs.declared.member.LogVersion.{LogVersion}
-use Rattle.authenticator.specs.declared.member.LogVersion.TheVariants.{One}
 use Rattle.authenticator.specs.declared.member.Member.{Member}
 use Rattle.authenticator.specs.Roster.{keeps_version}
 use Rattle.authenticator.specs.Signed.{IsSignedIn}
-use Rattle.secure_log.specs.Segment.{SegmentParts}
-use Rattle.secure_log.specs.Segment as segments
+use Rattle.secure_log.specs.Versioned.{VersionedParts, EndsIn}
 use Rattle.replay.specs.Faults.{fault_in}
 use Rattle.replay.specs.declared.fault.ReplayFault.{ReplayFault}
 use Rattle.replay.specs.declared.fault.ReplayFault.TheVariants as faults
 use Rattle.replay.specs.replay_spec.Stepping as spec
 use Rattle.replay.specs.replay_spec.Replay.{verdict_of}
-use Rattle.replay.specs.replay_spec.Placed.{placed_in}
+use Rattle.replay.specs.replay_spec.Placed.{places_in}
 use Rattle.replay.specs.replay_spec.Opening.{opening_of}
 use Rattle.secure_log.proofs.OfLogEntries.Marks.{one_mark}
 use Rattle.evidence_showings.specs.Marks.{mark_in}
@@ -112,18 +110,18 @@ module _ (v : LogVersion) (ms : List Member) (node at : ℕ) (a : ShowingParts) 
 
 -- ---- in a log
 
-module _ (ms : List Member) (node : ℕ) (s : SegmentParts) where
+module _ (ms : List Member) (node : ℕ) (s : VersionedParts) where
   abbrev SignedLog : NotAccepted → Type 0
   SignedLog = First (IsSignedIn ms s.closing) reasons.NotSigned (Only reasons.NoFault)
 
   abbrev EndedLog : NotAccepted → Type 0
-  EndedLog = First (segments.Ends s) reasons.NotClosed SignedLog
+  EndedLog = First (EndsIn s) reasons.NotClosed SignedLog
 
   abbrev StartedLog : NotAccepted → Type 0
   StartedLog = First (IsFromStart s) reasons.NotFromStart EndedLog
 
   abbrev LogOfVersion : NotAccepted → Type 0
-  LogOfVersion = First (IsTrue (keeps_version ms node One)) reasons.OtherVersion StartedLog
+  LogOfVersion = First (IsTrue (keeps_version ms node s.log_version)) reasons.OtherVersion StartedLog
 
   abbrev LogOfNode : NotAccepted → Type 0
   LogOfNode = First (s.node ≡ node) reasons.AnotherNode LogOfVersion
@@ -143,9 +141,9 @@ module _ (ms : List Member) (node : ℕ) (s : SegmentParts) where
   log_order_is_one : IsOne LogOfNode
   log_order_is_one =
       first_is_one (s.node ≡ node) reasons.AnotherNode LogOfVersion
-      (first_is_one (IsTrue (keeps_version ms node One)) reasons.OtherVersion StartedLog
+      (first_is_one (IsTrue (keeps_version ms node s.log_version)) reasons.OtherVersion StartedLog
       (first_is_one (IsFromStart s) reasons.NotFromStart EndedLog
-      (first_is_one (segments.Ends s) reasons.NotClosed SignedLog
+      (first_is_one (EndsIn s) reasons.NotClosed SignedLog
       (first_is_one (IsSignedIn ms s.closing) reasons.NotSigned (Only reasons.NoFault)
       (only_is_one reasons.NoFault)))))
 
@@ -218,7 +216,7 @@ back_again faults.ClockBack = refl
 back_again faults.WrongCheckpoint = refl
 back_again faults.BadAck = refl
 
-same_faults : (ms : List Member) (node : ℕ) (s : SegmentParts) (fault fault' : ReplayFault)
+same_faults : (ms : List Member) (node : ℕ) (s : VersionedParts) (fault fault' : ReplayFault)
     (number number' : ℕ) → AcceptsFault ms node s fault number → AcceptsFault ms node s fault' number'
     → found.Fault fault number ≡ found.Fault fault' number'
 same_faults ms node s fault fault' number number' x y =
@@ -226,7 +224,7 @@ same_faults ms node s fault fault' number number' x y =
     let q = y.accepted in
     let members : Some p.member ≡ Some q.member = sym p.is_member ∙ q.is_member in
     let member : p.member ≡ q.member = cc in
-    let verdicts = sym p.found ∙ ap (λ m. verdict_of ms (opening_of m) (placed_in s)) member ∙ q.found in
+    let verdicts = sym p.found ∙ ap (λ m. verdict_of ms (opening_of m) (places_in s)) member ∙ q.found in
     let faults : p.fault ≡ q.fault = cc in
     let numbers : p.number ≡ q.number = cc in
     let again : fault ≡ fault' =
@@ -251,8 +249,8 @@ one_in_fork v ms node fork_at a b (found.NotAccepted reason) (found.Fault fault 
 one_in_fork v ms node fork_at a b (found.NotAccepted reason) (found.NotAccepted reason') x y =
     ap found.NotAccepted (fork_lacks_one v ms node fork_at a b reason reason' x y)
 
-one_in_log : (ms : List Member) (node : ℕ) (s : SegmentParts) (one other : Finding) → FindsInLog ms node s one
-    → FindsInLog ms node s other → one ≡ other
+one_in_log : (ms : List Member) (node : ℕ) (s : VersionedParts) (one other : Finding)
+    → FindsInLog ms node s one → FindsInLog ms node s other → one ≡ other
 one_in_log ms node s (found.TwoMarks at h k) other x y = absurd x
 one_in_log ms node s (found.Fault fault number) (found.TwoMarks at h k) x y = absurd y
 one_in_log ms node s (found.Fault fault number) (found.Fault fault' number') x y =

@@ -1,4 +1,4 @@
--- A case: a roster and evidence against one of its members, as a file has them.
+-- A case: a roster and evidence against a node, as a file has them.
 use Rattle.std.specs.Prelude.{◌&&◌}
 use Rattle.xdr.specs.Item.{Item, Value, pair}
 use Rattle.xdr.specs.Texts.Text.{Text}

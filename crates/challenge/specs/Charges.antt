@@ -1,8 +1,9 @@
 -- What evidence in memory says.
-use Rattle.std.specs.Prelude.{◌≡◌, ◌<◌, ⊤, IfSome}
+use Rattle.std.specs.Prelude.{◌≡◌, ◌<◌, IfSome}
 use Rattle.std.specs.List.{AllByRecursion}
 use Rattle.authenticator.specs.declared.member.LogVersion.{LogVersion}
 use Rattle.authenticator.specs.declared.member.LogVersion.TheVariants.{One, Two}
+use Rattle.secure_log.specs.Versioned.{VersionedParts}
 use Rattle.evidence_showings.specs.evidence_spec.Showing.{ShowingParts}
 use Rattle.evidence_showings.specs.evidence_spec.Evidence.{ForkParts}
 use Rattle.evidence_showings.specs.evidence_spec.Evidence as spec
@@ -25,7 +26,13 @@ abbrev pub SaysNoMore : LogVersion → ShowingParts → Type 0
 SaysNoMore One s = AllByRecursion (λ l. l.skipped ≡ 0) s.links
 SaysNoMore Two s = 0 < s.first
 
--- A charge as it is read: its showings say no more than their texts, so that the text tells all of it.
+-- Nor does a log: in version 1 its entries skip nothing, in version 2 its first number is at least 1.
+abbrev pub LogSaysNoMore : LogVersion → VersionedParts → Type 0
+LogSaysNoMore One s = AllByRecursion (λ l. l.skipped ≡ 0) s.entries
+LogSaysNoMore Two s = 0 < s.first
+
+-- A charge as it is read: its showings, or its log, say no more than their texts, so that the text tells all
+-- of it.
 abbrev pub IsWritten : spec.Charge → Type 0
 IsWritten (spec.Fork f) = SaysNoMore f.log_version f.a × IfSome f.b (SaysNoMore f.log_version)
-IsWritten (spec.Replay s) = ⊤
+IsWritten (spec.Replay s) = LogSaysNoMore s.log_version s

@@ -2,16 +2,14 @@
 use Rattle.std.specs.Prelude.{◌≡◌, ◌⊎◌, ℕ, Bool, true, false, IsFalse, IsTrue, List, length}
 use Rattle.std.specs.Prelude.{Option, Some, None}
 use Rattle.authenticator.specs.declared.member.LogVersion.{LogVersion}
-use Rattle.authenticator.specs.declared.member.LogVersion.TheVariants.{One}
 use Rattle.authenticator.specs.declared.member.Member.{Member}
 use Rattle.authenticator.specs.Roster.{keeps_version, member_of}
 use Rattle.authenticator.specs.Signed.{IsSignedIn}
 use Rattle.secure_log.specs.LogEntries.Chain.{zeros}
-use Rattle.secure_log.specs.Segment.{SegmentParts, IsClosed}
-use Rattle.secure_log.specs.Segment as segments
+use Rattle.secure_log.specs.Versioned.{VersionedParts, EndsIn, IsClosedIn}
 use Rattle.replay.specs.replay_spec.Replay.{Fault, verdict_of}
 use Rattle.replay.specs.replay_spec.Stepping as spec
-use Rattle.replay.specs.replay_spec.Placed.{placed_in}
+use Rattle.replay.specs.replay_spec.Placed.{places_in}
 use Rattle.replay.specs.replay_spec.Opening.{opening_of}
 use Rattle.replay.specs.Faults.{fault_in}
 use Rattle.replay.specs.declared.fault.ReplayFault.{ReplayFault}
@@ -64,8 +62,8 @@ AcceptsMarks v ms node fork_at a None at one other =
     (at ≡ 0) × (other ≡ Hash zeros) × AcceptsOne v ms node a (mark_in one)
 
 -- A log is accepted with a fault of the entry with a number.
-pub record AcceptsFault (ms : List Member) (node : ℕ) (s : SegmentParts) (fault : ReplayFault) (number : ℕ)
-    : Type 0 where
+pub record AcceptsFault (ms : List Member) (node : ℕ) (s : VersionedParts) (fault : ReplayFault)
+    (number : ℕ) : Type 0 where
   pub accepted : AcceptsReplay ms node s
   pub is_fault : accepted.fault ≡ fault_in fault
   pub is_number : accepted.number ≡ number
@@ -114,37 +112,37 @@ ForkLacks v ms node at a b reason =
     ShowingLacks v ms node a reason ⊎ (IsClosedOf v ms node a × LacksAfterFirst v ms node at a b reason)
 
 -- A log is shown from its first entry on.
-pub record IsFromStart (s : SegmentParts) : Type 0 where
+pub record IsFromStart (s : VersionedParts) : Type 0 where
   pub first : s.first ≡ 1
   pub opening : s.opening ≡ zeros
 
--- A log is of a member, of version 1, from its first entry on, and closed.
-pub record IsAudited (ms : List Member) (node : ℕ) (s : SegmentParts) (m : Member) : Type 0 where
+-- A log is of a member, of the version that the roster gives it, from its first entry on, and closed.
+pub record IsAudited (ms : List Member) (node : ℕ) (s : VersionedParts) (m : Member) : Type 0 where
   pub of_node : s.node ≡ node
-  pub version : IsTrue (keeps_version ms node One)
+  pub version : IsTrue (keeps_version ms node s.log_version)
   pub start : IsFromStart s
-  pub closed : IsClosed ms s
+  pub closed : IsClosedIn ms s
   pub is_member : member_of ms node ≡ Some m
 
 -- A replay of a member's closed log, from the state that the member begins with, finds no fault.
-pub record HasNoFault (ms : List Member) (node : ℕ) (s : SegmentParts) : Type 0 where
+pub record HasNoFault (ms : List Member) (node : ℕ) (s : VersionedParts) : Type 0 where
   pub member : Member
   pub audited : IsAudited ms node s member
   pub none : (fault : spec.ReplayFault) (number : ℕ)
-      → ¬ (verdict_of ms (opening_of member) (placed_in s) ≡ Fault fault number)
+      → ¬ (verdict_of ms (opening_of member) (places_in s) ≡ Fault fault number)
 
--- A log lacks something first, by name: it is to be of the node, whose log is to be of version 1 where it is
--- a member, from its first entry on, to end in its closing, that is to be signed, and a replay is to find a
--- fault.
-abbrev pub LogLacks : List Member → (node : ℕ) → SegmentParts → NotAccepted → Type 0
+-- A log lacks something first, by name: it is to be of the node, whose log is to be of its version where it
+-- is a member, from its first entry on, to end in its closing, that is to be signed, and a replay is to find
+-- a fault.
+abbrev pub LogLacks : List Member → (node : ℕ) → VersionedParts → NotAccepted → Type 0
 LogLacks ms node s reasons.AnotherNode = ¬ (s.node ≡ node)
-LogLacks ms node s reasons.OtherVersion = (s.node ≡ node) × IsFalse (keeps_version ms node One)
+LogLacks ms node s reasons.OtherVersion = (s.node ≡ node) × IsFalse (keeps_version ms node s.log_version)
 LogLacks ms node s reasons.NotFromStart =
-    (s.node ≡ node) × IsTrue (keeps_version ms node One) × (¬ IsFromStart s)
+    (s.node ≡ node) × IsTrue (keeps_version ms node s.log_version) × (¬ IsFromStart s)
 LogLacks ms node s reasons.NotClosed =
-    (s.node ≡ node) × IsTrue (keeps_version ms node One) × IsFromStart s × (¬ segments.Ends s)
+    (s.node ≡ node) × IsTrue (keeps_version ms node s.log_version) × IsFromStart s × (¬ EndsIn s)
 LogLacks ms node s reasons.NotSigned =
-    (s.node ≡ node) × IsTrue (keeps_version ms node One) × IsFromStart s × segments.Ends s
+    (s.node ≡ node) × IsTrue (keeps_version ms node s.log_version) × IsFromStart s × EndsIn s
     × (¬ IsSignedIn ms s.closing)
 LogLacks ms node s reasons.NoTwoMarks = ⊥
 LogLacks ms node s reasons.NoFault = HasNoFault ms node s
@@ -160,7 +158,7 @@ FindsInFork v ms node fork_at a b (found.Fault fault number) = ⊥
 FindsInFork v ms node fork_at a b (found.NotAccepted reason) = ForkLacks v ms node fork_at a b reason
 
 -- what is found in a log
-abbrev pub FindsInLog : List Member → (node : ℕ) → SegmentParts → Finding → Type 0
+abbrev pub FindsInLog : List Member → (node : ℕ) → VersionedParts → Finding → Type 0
 FindsInLog ms node s (found.TwoMarks at one other) = ⊥
 FindsInLog ms node s (found.Fault fault number) = AcceptsFault ms node s fault number
 FindsInLog ms node s (found.NotAccepted reason) = LogLacks ms node s reason

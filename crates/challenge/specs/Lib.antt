@@ -4,6 +4,7 @@ pub use Rattle.evidence_showings.specs.evidence_spec as evidence_spec
 pub mod FaultNumbers
 pub mod Charges
 pub mod Findings
+pub mod Laws
 pub mod Cases
 pub mod Readings
 pub mod Taking

@@ -21,7 +21,7 @@ use secure_log::are_bytes;
 use std::alloc::{AllocError, Global};
 use xdr::all_or_nothing;
 
-/// A roster, and evidence against one of its members.
+/// A roster, and evidence against a node.
 #[derive(Drop)]
 pub struct Case {
     /// The roster.

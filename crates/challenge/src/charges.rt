@@ -2,37 +2,42 @@
 
 ghost use Rattle.std.specs.Prelude.{◌≡◌, IfNone, IfOk, IfSome, IsTrue, false, option_map};
 ghost use Rattle.authenticator.specs.declared.member.LogVersion.TheVariants.{One, Two};
+ghost use Rattle.secure_log.specs.Versioned as logs;
 ghost use Rattle.evidence_showings.specs.Plain.{plain_value};
 ghost use Rattle.evidence_showings.specs.Worded.{worded_value};
 ghost use Rattle.evidence_showings.specs.evidence_spec.Showing.{links_follow, showing_value};
 ghost use Rattle.evidence_showings.specs.evidence_spec.Evidence.{charge_value, is_whole_charge};
 ghost use Rattle.evidence_showings.specs.evidence_spec.Evidence.{second_follows};
 ghost use Rattle.challenge.specs.Charges.{IsWritten, SaysNoMore, charge_in};
-ghost use Rattle.challenge.specs.ReadCharges.{read_value};
+ghost use Rattle.challenge.specs.ReadCharges.{read_value, read_version};
 
 use crate::evidence::{AuditedLog, Charge, Fork};
 use authenticator::{LogVersion, Number};
-use evidence_showings::{PlainShowing, Showing, WordedShowing};
+use evidence_showings::{MAX_AUDITED, PlainShowing, Showing, WordedShowing};
+use secure_log::WordedSegment;
 use std::alloc::{AllocError, Global};
 
 /// What is shown against a node, as it stands in a text. Nothing is checked of the words of a log of version
-/// 2, nor of a log's entries and its first number.
+/// 2, nor that a log has an entry, nor of the first number of one of version 1.
 #[derive(Drop)]
 pub(crate) enum ReadCharge {
     /// A number, and one showing or two, of a log of version 1.
     Fork(Number, PlainShowing, Option<PlainShowing>),
-    /// A log.
+    /// A log of version 1.
     Replay(AuditedLog),
     /// A number, and one showing or two, of a log of version 2.
     WordedFork(Number, WordedShowing, Option<WordedShowing>),
+    /// A log of version 2.
+    WordedReplay(WordedSegment<MAX_AUDITED>),
 }
 
 impl ReadCharge {
-    /// The charge; None where words of a log of version 2 don't follow. `AllocError` comes only where a
-    /// growth was refused.
+    /// The charge. None comes of a log of version 2 alone: where its words don't follow, or a replay has no
+    /// entry. `AllocError` comes only where a growth was refused.
     pub(crate) fn into_charge(self, alloc: Global) -> Result<Option<Charge>, AllocError>
         ensures some { IfOk result (λ o. IfSome o (λ c. charge_value (charge_in c) ≡ read_value self)) }
         ensures none { IfOk result (λ o. IfNone o (is_whole_charge (read_value self) ≡ false)) }
+        ensures version { IfOk result (λ o. IfNone o (read_version self ≡ Two)) }
         ensures written { IfOk result (λ o. IfSome o (λ c. IsWritten (charge_in c))) }
     {
         match self {
@@ -40,8 +45,12 @@ impl ReadCharge {
                 let fork = plain_fork(alloc, at, a, b)?;
                 Ok(Some(fork))
             }
-            ReadCharge::Replay(log) => Ok(Some(Charge::Replay(log))),
+            ReadCharge::Replay(log) => {
+                log.fits();
+                Ok(Some(Charge::Replay(log)))
+            }
             ReadCharge::WordedFork(at, a, b) => worded_fork(alloc, at, a, b),
+            ReadCharge::WordedReplay(log) => worded_replay(alloc, log),
         }
     }
 }
@@ -132,6 +141,22 @@ fn second_showing(
     };
     match second.into_showing(alloc)? {
         Some(showing) => Ok(Some(Some(showing))),
+        None => Ok(None),
+    }
+}
+
+/// A replay of a log of version 2; None where it has no entry or its words don't follow.
+fn worded_replay(
+    alloc: Global,
+    log: WordedSegment<MAX_AUDITED>,
+) -> Result<Option<Charge>, AllocError>
+    ensures some { IfOk result (λ o. IfSome o (λ c.
+        charge_value (charge_in c) ≡ (4, logs.worded_value log))) }
+    ensures none { IfOk result (λ o. IfNone o (is_whole_charge (4, logs.worded_value log) ≡ false)) }
+    ensures written { IfOk result (λ o. IfSome o (λ c. IsWritten (charge_in c))) }
+{
+    match log.into_segment(alloc)? {
+        Some(log) => Ok(Some(Charge::Replay(log))),
         None => Ok(None),
     }
 }

@@ -13,11 +13,11 @@ ghost use Rattle.challenge.specs.Charges.{charge_in, fork_in};
 
 use authenticator::{LogVersion, Number};
 use evidence_showings::{MAX_AUDITED, Showing};
-use secure_log::BoundedSegment;
+use secure_log::VersionedSegment;
 use std::marker::Model;
 
-/// A log that was audited: as a segment, but of at most `MAX_AUDITED` entries (65,536).
-pub type AuditedLog = BoundedSegment<MAX_AUDITED>;
+/// A log that was audited, of either version: as a segment, but of at most `MAX_AUDITED` entries (65,536).
+pub type AuditedLog = VersionedSegment<MAX_AUDITED>;
 
 /// Two marks at one number of a log: one showing shows each. A mark is a hash, or in a log of version 2 also
 /// that no entry has the number. With one showing alone, it shows another hash than 32 zero bytes at 0,
@@ -66,9 +66,9 @@ impl Model for Evidence {
 }
 
 impl Evidence {
-    /// Evidence against this node. None where it would have no text: where a log is shown that has no
-    /// entry, or that begins at 0, or a link of a log of version 2 that skips more than
-    /// `evidence_showings::MAX_SKIPPED` numbers, or whose number has more than 32 bits.
+    /// Evidence against this node. None where it would have no text: a replay has an entry and begins at 1 or
+    /// later, and a link of a fork of a log of version 2 skips at most `evidence_showings::MAX_SKIPPED`
+    /// numbers and has a number of at most 32 bits.
     pub fn new(node: u32, charge: Charge) -> Option<Evidence>
         ensures some { IfSome result (λ e. e ≡ record { node = node; charge = charge_in charge }) }
         ensures whole { IfSome result (λ _. IsTrue (is_whole_charge (charge_value (charge_in charge)))) }
@@ -102,8 +102,9 @@ impl Evidence {
         &self.charge
     }
 
-    /// It has a text, as its type and those of its parts keep it: tells a caller's proof, and changes
-    /// nothing. Of a fork of a log of version 2 it looks at each link once.
+    /// Tells a caller's proof that it has a text, as its type keeps it. It changes nothing and takes no
+    /// memory; of a fork of a log of version 2 it goes over the links once, of other evidence it reads
+    /// nothing.
     pub fn has_text(&self)
         ensures fits { Fits evidence_item (evidence_value self.now) }
         ensures whole { IsTrue (evidence_text.test (evidence_value self.now)) }
@@ -124,8 +125,8 @@ impl Charge {
         }
     }
 
-    /// Each part has a spelling, as the types of its parts keep it: tells a caller's proof, as `has_text`
-    /// does.
+    /// Tells a caller's proof that each part of a charge that has a text has a spelling. As `has_text`, it
+    /// goes over the links of a fork of a log of version 2, and reads nothing of other charges.
     fn fits(&self)
         requires { IsTrue (is_whole_charge (charge_value (charge_in self.now))) }
         ensures { Fits (choice spec.is_charge spec.charge_item) (charge_value (charge_in self.now)) }

@@ -12,7 +12,6 @@ use crate::finding::{Finding, NotAccepted};
 use authenticator::{LogVersion, Member, Number, Roster, is_same_hash, is_signed_by};
 use evidence_showings::{Mark, Showing, is_signed_in};
 use replay::{Outcome, opening_state, replay_outcome};
-use secure_log::chain_fits;
 use std::alloc::{AllocError, Global};
 
 /// What is found in evidence under a roster: with what it is accepted, or the first that it lacks. Closings
@@ -170,13 +169,13 @@ fn audited_member(roster: &Roster, node: u32, log: &AuditedLog) -> Result<Member
     if log.node() != node {
         return Err(NotAccepted::AnotherNode);
     }
-    if !roster.keeps_version(log.node(), LogVersion::One) {
+    if !roster.keeps_version(log.node(), log.log_version()) {
         return Err(NotAccepted::OtherVersion);
     }
     if !is_from_start(log) {
         return Err(NotAccepted::NotFromStart);
     }
-    if !chain_fits(log) {
+    if !log.ends() {
         return Err(NotAccepted::NotClosed);
     }
     let Some(member) = roster.member(log.closing().node) else {
@@ -209,7 +208,9 @@ fn replay_finding(
     let start = opening_state(alloc, member)?;
     let first = log.first();
     let opening = log.opening();
-    let outcome = replay_outcome(alloc, roster, start, first, &opening, log.entries())?;
+    let entries = log.entries();
+    log.fits();
+    let outcome = replay_outcome(alloc, roster, start, first, &opening, log.skips(), entries)?;
     Ok(finding_in(outcome))
 }
 

@@ -8,8 +8,8 @@ use thiserror::Error;
 /// What evidence shows, if it is accepted; else why it isn't.
 #[derive(Clone, Copy, Debug, PartialEq, Eq)]
 pub enum Finding {
-    /// Two marks are shown at a number. Where one showing is enough, the number is 0 and the other mark is a
-    /// hash of 32 zero bytes.
+    /// Two marks that differ are shown at a number. Of a fork with one showing alone, the number is 0 and the
+    /// other mark is a hash of 32 zero bytes.
     TwoMarks { at: Number, one: Mark, other: Mark },
     /// What a replay finds that the entry with a number has wrong.
     Fault(ReplayFault, Number),
@@ -33,7 +33,7 @@ pub enum NotAccepted {
     /// closing's node, word and hash.
     #[error("what is shown does not end in what closes it")]
     NotClosed,
-    /// A closing isn't signed by a member of the roster.
+    /// A closing isn't signed by the member of the roster that it names.
     #[error("what closes it is not signed by the node")]
     NotSigned,
     /// No two marks are shown at the number.

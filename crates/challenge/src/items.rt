@@ -1,6 +1,6 @@
 //! The items of evidence and of cases, taken from the front of what is left of their bytes.
 
-ghost use Rattle.std.specs.Prelude.{map, option_map};
+ghost use Rattle.std.specs.Prelude.{◌≡◌, IfOk, length, map, option_map};
 ghost use Rattle.xdr.specs.Item.{array, fixed, optional, pair, word};
 ghost use Rattle.xdr.specs.Reading.{GivesUnless};
 ghost use Rattle.xdr.specs.ReadFault.{xdr_fault};
@@ -12,10 +12,11 @@ ghost use Rattle.authenticator.specs.Numbers.{number_item};
 ghost use Rattle.authenticator.specs.declared.member.LogVersion.TheVariants.{One, Two};
 ghost use Rattle.authenticator.specs.Signed.{authenticator_item, authenticator_value};
 ghost use Rattle.secure_log.specs.LogEntries.Entry.{entry_item, entry_value};
+ghost use Rattle.secure_log.specs.Versioned.{logged_item, worded_values};
 ghost use Rattle.challenge.specs.Taking.{LeavesOf};
 
 use crate::source::Source;
-use authenticator::{Authenticator, ListedRoster, Number};
+use authenticator::{Authenticator, ListedRoster, Number, Word};
 use evidence_showings::{MAX_AUDITED, PlainShowing, WordedShowing};
 use secure_log::log_entries::Entry;
 use std::alloc::Global;
@@ -173,7 +174,18 @@ pub(crate) fn take_worded_fork(
     Ok(fork)
 }
 
-/// Takes the entries of a log, after their count.
+/// Takes the word of an entry of a log of version 2, and the entry.
+fn take_worded_entry(alloc: Global, source: &mut Source) -> Result<(Word, Entry), ReadFault>
+    ensures { GivesUnless xdr_fault (logged_item Two) (λ x. (x.0, entry_value x.1))
+        source.old result source.new }
+{
+    let (word, left): (Word, usize) = front(alloc, source.rest())?;
+    source.keep(left);
+    let entry = take_entry(alloc, source)?;
+    Ok((word, entry))
+}
+
+/// Takes the entries of a log of version 1, after their count.
 pub(crate) fn take_entries(alloc: Global, source: &mut Source) -> Result<Vec<Entry>, ReadFault>
     ensures { GivesUnless xdr_fault (array MAX_AUDITED entry_item) (λ v. map entry_value v.items)
         source.old result source.new }
@@ -187,4 +199,27 @@ pub(crate) fn take_entries(alloc: Global, source: &mut Source) -> Result<Vec<Ent
         entries.push(take_entry(alloc, source)?)?;
     }
     Ok(entries)
+}
+
+/// Takes the entries of a log of version 2 with their words, which aren't checked, after their count.
+pub(crate) fn take_worded_entries(
+    alloc: Global,
+    source: &mut Source,
+) -> Result<(Vec<Word>, Vec<Entry>), ReadFault>
+    ensures text { GivesUnless xdr_fault (array MAX_AUDITED (logged_item Two))
+        (λ x. worded_values x.0.items x.1.items) source.old result source.new }
+    ensures count { IfOk result (λ x. length x.0.items ≡ length x.1.items) }
+{
+    let count = take_word(alloc, source)?;
+    if count > MAX_AUDITED {
+        return Err(ReadFault::Fault(XdrFault::TooLong));
+    }
+    let mut words = Vec::new(alloc);
+    let mut entries = Vec::new(alloc);
+    for _ in 0..count {
+        let (word, entry) = take_worded_entry(alloc, source)?;
+        words.push(word)?;
+        entries.push(entry)?;
+    }
+    Ok((words, entries))
 }

@@ -11,6 +11,7 @@ mod fault;
 mod find;
 mod finding;
 mod items;
+pub mod laws;
 mod read;
 mod source;
 mod write;

@@ -5,9 +5,9 @@ ghost use Rattle.xdr.specs.Item.{Value, choice};
 ghost use Rattle.xdr.specs.Reading.{GivesUnless};
 ghost use Rattle.xdr.specs.ReadFault.{xdr_fault};
 ghost use Rattle.xdr.specs.Texts.Text.{GivesText, IsText};
-ghost use Rattle.secure_log.specs.Segment.{bounded_item, segment_value};
-ghost use Rattle.evidence_showings.specs.evidence_spec.Evidence.{MAX_AUDITED};
-ghost use Rattle.evidence_showings.specs.evidence_spec.Evidence.{charge_item, is_charge};
+ghost use Rattle.authenticator.specs.declared.member.LogVersion.TheVariants.{One, Two};
+ghost use Rattle.secure_log.specs.Versioned.{versioned_value, worded_value};
+ghost use Rattle.evidence_showings.specs.evidence_spec.Evidence.{charge_item, is_charge, replay_item};
 ghost use Rattle.evidence_showings.specs.evidence_spec.Evidence.{evidence_item, evidence_text};
 ghost use Rattle.evidence_showings.specs.evidence_spec.Evidence.{evidence_value};
 ghost use Rattle.challenge.specs.Charges.{IsWritten};
@@ -20,10 +20,11 @@ use crate::evidence::{AuditedLog, Evidence};
 use crate::fault::EvidenceFault;
 use crate::items::{
     take_authenticator, take_entries, take_fork, take_hash, take_number, take_word,
-    take_worded_fork,
+    take_worded_entries, take_worded_fork,
 };
 use crate::source::Source;
-use secure_log::are_bytes;
+use evidence_showings::MAX_AUDITED;
+use secure_log::{WordedSegment, are_bytes};
 use std::alloc::Global;
 use xdr::{ReadFault, XdrFault};
 
@@ -87,14 +88,19 @@ fn take_charge(alloc: Global, source: &mut Source) -> Result<ReadCharge, ReadFau
             let (at, a, b) = take_worded_fork(alloc, source)?;
             Ok(ReadCharge::WordedFork(at, a, b))
         }
+        4 => {
+            let log = take_worded_log(alloc, source)?;
+            Ok(ReadCharge::WordedReplay(log))
+        }
         _ => Err(ReadFault::Fault(XdrFault::BadEnum)),
     }
 }
 
-/// Takes a log.
+/// Takes a log of version 1.
 fn take_log(alloc: Global, source: &mut Source) -> Result<AuditedLog, ReadFault>
-    ensures { GivesUnless xdr_fault (bounded_item MAX_AUDITED) segment_value
+    ensures text { GivesUnless xdr_fault (replay_item One) (λ log. versioned_value One log)
         source.old result source.new }
+    ensures version { IfOk result (λ log. log.log_version ≡ One) }
 {
     are_bytes(source.rest());
     let node = take_word(alloc, source)?;
@@ -102,5 +108,22 @@ fn take_log(alloc: Global, source: &mut Source) -> Result<AuditedLog, ReadFault>
     let opening = take_hash(source)?;
     let entries = take_entries(alloc, source)?;
     let closing = take_authenticator(alloc, source)?;
-    Ok(AuditedLog::new(node, first, opening, entries, closing))
+    Ok(AuditedLog::plain(alloc, node, first, opening, entries, closing))
+}
+
+/// Takes a log of version 2, whose words aren't checked.
+fn take_worded_log(
+    alloc: Global,
+    source: &mut Source,
+) -> Result<WordedSegment<MAX_AUDITED>, ReadFault>
+    ensures { GivesUnless xdr_fault (replay_item Two) (λ log. worded_value log)
+        source.old result source.new }
+{
+    are_bytes(source.rest());
+    let node = take_word(alloc, source)?;
+    let before = take_number(alloc, source)?;
+    let opening = take_hash(source)?;
+    let (words, entries) = take_worded_entries(alloc, source)?;
+    let closing = take_authenticator(alloc, source)?;
+    Ok(WordedSegment::new(node, before, opening, words, entries, closing))
 }

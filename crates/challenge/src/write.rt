@@ -1,16 +1,17 @@
 //! Evidence as a text (RFC 4506).
 
-ghost use Rattle.std.specs.Prelude.{IfOk, IsTrue, option_map};
+ghost use Rattle.std.specs.Prelude.{◌≡◌, IfOk, IsTrue, option_map};
 ghost use Rattle.xdr.specs.Item.{choice, optional, spelling};
 ghost use Rattle.xdr.specs.Writing.{Adds, Writes};
 ghost use Rattle.xdr.specs.Texts.Text.{IsText};
 ghost use Rattle.authenticator.specs.declared.member.LogVersion.TheVariants.{One, Two};
-ghost use Rattle.secure_log.specs.Segment.{segment_value};
+ghost use Rattle.secure_log.specs.Versioned.{versioned_value};
 ghost use Rattle.evidence_showings.specs.evidence_spec.Showing.{links_follow, showing_item, showing_value};
 ghost use Rattle.evidence_showings.specs.evidence_spec.Evidence.{evidence_item, evidence_value};
 ghost use Rattle.evidence_showings.specs.evidence_spec.Evidence.{evidence_text, fork_charge, fork_value};
 ghost use Rattle.evidence_showings.specs.evidence_spec.Evidence.{charge_item, charge_value, is_charge};
-ghost use Rattle.evidence_showings.specs.evidence_spec.Evidence.{is_whole_charge, second_follows};
+ghost use Rattle.evidence_showings.specs.evidence_spec.Evidence.{is_whole_charge, replay_charge};
+ghost use Rattle.evidence_showings.specs.evidence_spec.Evidence.{second_follows};
 ghost use Rattle.challenge.specs.Charges.{charge_in, fork_in};
 
 use crate::evidence::{AuditedLog, Charge, Evidence, Fork};
@@ -20,7 +21,8 @@ use std::alloc::{AllocError, Global};
 use xdr::{Writer, all_or_nothing};
 
 impl Evidence {
-    /// The text, which `read_evidence` reads back. `AllocError` comes only where a growth was refused.
+    /// The text. `read_evidence` reads it back as this evidence where a fork says no more than its text, as
+    /// each that was read does; a log never says more. `AllocError` comes only where a growth was refused.
     pub fn evidence_text(&self, alloc: Global) -> Result<Vec<u8>, AllocError>
         ensures { IfOk result (λ text. IsText evidence_text (evidence_value self.now) text.items) }
     {
@@ -129,9 +131,29 @@ fn add_worded_second(second: &Option<Showing>, out: &mut Vec<u8>) -> Result<(), 
 }
 
 fn add_replay(log: &AuditedLog, out: &mut Vec<u8>) -> Result<(), AllocError>
-    ensures { Adds (spelling (choice is_charge charge_item) (2, segment_value log.now))
+    ensures { Adds (spelling (choice is_charge charge_item) (replay_charge log.now.log_version log.now))
+        out.old.items result out.new.items }
+{
+    match log.log_version() {
+        LogVersion::One => add_plain_replay(log, out),
+        LogVersion::Two => add_worded_replay(log, out),
+    }
+}
+
+fn add_plain_replay(log: &AuditedLog, out: &mut Vec<u8>) -> Result<(), AllocError>
+    requires { log.now.log_version ≡ One }
+    ensures { Adds (spelling (choice is_charge charge_item) (2, versioned_value One log.now))
         out.old.items result out.new.items }
 {
     out.put_u32(2)?;
+    log.write(out)
+}
+
+fn add_worded_replay(log: &AuditedLog, out: &mut Vec<u8>) -> Result<(), AllocError>
+    requires { log.now.log_version ≡ Two }
+    ensures { Adds (spelling (choice is_charge charge_item) (4, versioned_value Two log.now))
+        out.old.items result out.new.items }
+{
+    out.put_u32(4)?;
     log.write(out)
 }

@@ -21,7 +21,8 @@ use Rattle.authenticator.specs.Numbers.{number_item}
 use Rattle.authenticator.specs.Signed.{authenticator_item}
 use Rattle.secure_log.specs.LogEntries.Entry.{entry_item, is_kind, kind_item, send_item, recv_item, ack_item}
 use Rattle.secure_log.specs.LogEntries.Entry.{clock_item, check_item}
-use Rattle.secure_log.specs.Segment.{bounded_item}
+use Rattle.secure_log.specs.Versioned.{logged_item}
+use Rattle.secure_log.specs.Versioned as logs
 use Rattle.authenticator.specs.Roster as rosters
 use Rattle.authenticator.specs.Roster.{member_item, members_item, roster_item, versioned_item, is_node}
 use Rattle.authenticator.specs.Roster.{is_height, is_log, is_roster_word}
@@ -235,11 +236,20 @@ entry_up =
           (λ k known. (kinds_up (eqb k 1) (eqb k 2) (eqb k 3) (eqb k 4)).takes);
     }
 
--- a segment of at most 65,536 entries takes 1,916,551,780 bytes at most
-pub segment_up : IsWithin 1916551780 (bounded_item 65536)
-segment_up =
+-- a log of version 1 of at most 65,536 entries takes 1,916,551,780 bytes at most
+log_up : IsWithin 1916551780 (logs.versioned_item One 65536)
+log_up =
     within_pair 4 1916551776 word_up (within_pair 8 1916551768 number_up (within_pair 32 1916551736 hash_up
     (within_pair 1916534788 16948 (within_array 65536 29244 entry_up) authenticator_up)))
+
+worded_entry_up : IsWithin 29252 (logged_item Two)
+worded_entry_up = within_pair 8 29244 number_up entry_up
+
+-- one of version 2 takes 1,917,076,068 bytes at most
+worded_log_up : IsWithin 1917076068 (logs.versioned_item Two 65536)
+worded_log_up =
+    within_pair 4 1917076064 word_up (within_pair 8 1917076056 number_up (within_pair 32 1917076024 hash_up
+    (within_pair 1917059076 16948 (within_array 65536 29252 worded_entry_up) authenticator_up)))
 
 -- ---- evidence
 
@@ -297,17 +307,23 @@ worded_fork_up =
     (within_pair 197220 197224 worded_showing_up
     (record { takes = optional_up (read_at (showing_item Two)) 197220 worded_showing_up.takes }))
 
-charge_up : (is_fork is_replay : Bool)
-    → IsWithin 1916551780
-    (cond is_fork (fork_item One) (cond is_replay (bounded_item 65536) (fork_item Two)))
-charge_up true is_replay = within 328916 1916551780 (lit≤ tt) fork_up
-charge_up false true = segment_up
-charge_up false false = within 394452 1916551780 (lit≤ tt) worded_fork_up
+charge_up : (is_fork is_replay is_worded_fork : Bool)
+    → IsWithin 1917076068
+    (cond is_fork (fork_item One) (cond is_replay (logs.versioned_item One 65536)
+    (cond is_worded_fork (fork_item Two) (logs.versioned_item Two 65536))))
+charge_up true is_replay is_worded_fork = within 328916 1917076068 (lit≤ tt) fork_up
+charge_up false true is_worded_fork = within 1916551780 1917076068 (lit≤ tt) log_up
+charge_up false false true = within 394452 1917076068 (lit≤ tt) worded_fork_up
+charge_up false false false = worded_log_up
 
-evidence_up : IsWithin 1916551788 evidence_item
+evidence_up : IsWithin 1917076076 evidence_item
 evidence_up =
-    within_pair 4 1916551784 word_up
-    (record { takes = choice_up is_charge charge_item 1916551780 (λ n known. (charge_up (eqb n 1) (eqb n 2)).takes) })
+    within_pair 4 1917076072 word_up
+    (record {
+      takes =
+          choice_up is_charge charge_item 1917076068
+          (λ n known. (charge_up (eqb n 1) (eqb n 2) (eqb n 3)).takes);
+    })
 
 -- ---- rosters
 
@@ -346,6 +362,6 @@ roster_up =
           (λ n known. (members_up (n == SECOND_FORM) n known refl).takes);
     }
 
--- a roster with evidence after it takes 1,916,554,868 bytes at most
-pub case_up : IsWithin 1916554868 case_item
-case_up = within_pair 3080 1916551788 roster_up evidence_up
+-- a roster with evidence after it takes 1,917,079,156 bytes at most
+pub case_up : IsWithin 1917079156 case_item
+case_up = within_pair 3080 1917076076 roster_up evidence_up

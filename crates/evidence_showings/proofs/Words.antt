@@ -3,7 +3,7 @@
 -- add_links.
 use Rattle.std.proofs.Common.{◌≡◌, ℕ, ◌+◌, ◌-◌, ◌<◌, ◌≤◌, ◌^◌, Bool, true, false, List, [], ◌∷◌, ◌++◌, length}
 use Rattle.std.proofs.Common.{drop, get_or, map, refl, sym, ap, ap₂, subst, ◌∙◌, arith}
-use Rattle.std.specs.Prelude.{◌*◌, ◌/◌, ◌%◌, ◌&&◌, ◌==◌, ◌↔◌, nat_le}
+use Rattle.std.specs.Prelude.{◌*◌, ◌/◌, ◌%◌, ◌==◌, ◌↔◌, nat_le}
 use Rattle.std.specs.List.{AllByRecursion}
 use Rattle.std.proofs.lemmas.Bool.{le-leb, leb-true, lt-ltb, eqb-true, eq-eqb, and_parts, and_from}
 use Rattle.std.proofs.lemmas.List.{drop_more, length-map, map-append}
@@ -15,11 +15,12 @@ use Rattle.authenticator.proofs.Words.{word_is}
 use Rattle.evidence_spec.specs.secure_log.LogEntries.Chain.{Link, last_number}
 use Rattle.evidence_spec.specs.secure_log.declared.segment.TheConstants.{MAX_ENTRIES}
 use Rattle.evidence_spec.proofs.Gaps.{closing_number, length-shown, rise, shown_after}
-use Rattle.evidence_spec.specs.Showing.{ClosesAt, MAX_SKIPPED, MaySkip, ShownLink, ShowingParts, last_word}
-use Rattle.evidence_spec.specs.Showing.{link_item, link_value}
-use Rattle.evidence_spec.specs.Showing.{links_in, numbered, showing_item, showing_value, words_follow}
+use Rattle.evidence_spec.specs.secure_log.LogEntries.Words.{ClosesAt, MAX_SKIPPED, MaySkip, follows}
+use Rattle.evidence_spec.specs.secure_log.LogEntries.Words.{last_word, words_follow}
+use Rattle.evidence_spec.specs.Showing.{ShownLink, ShowingParts, link_item, link_value}
+use Rattle.evidence_spec.specs.Showing.{links_in, numbered, showing_item, showing_value}
 use Rattle.evidence_showings.specs.Showings.{HasText, HasWords, numbered_link, word_after}
-use Rattle.evidence_showings.specs.Worded.{WordedLinkParts, follows, worded_link_value}
+use Rattle.evidence_showings.specs.Worded.{WordedLinkParts, worded_link_value}
 
 -- ---- one link more
 
@@ -45,17 +46,6 @@ word_back before w h =
     let both = and_parts (nat_le (w / 2 ^ 32) MAX_SKIPPED) (w % 2 ^ 32 == before + 1 + w / 2 ^ 32) h in
     let number : w % 2 ^ 32 ≡ before + 1 + w / 2 ^ 32 = eqb-true _ _ both.1 in
     word_is (w / 2 ^ 32) (before + 1 + w / 2 ^ 32) ∙ omega (arith, number)
-
--- whether some words follow is whether the first does, and the others after it
-pub follow_first : (before w : ℕ) (ws : List ℕ) → words_follow before (w ∷ ws)
-    ≡ (follows before w && words_follow (before + 1 + w / 2 ^ 32) ws)
-follow_first before w ws =
-    by (nat_le (w / 2 ^ 32) MAX_SKIPPED) (w % 2 ^ 32 == before + 1 + w / 2 ^ 32)
-    (words_follow (before + 1 + w / 2 ^ 32) ws)
-  where
-    by : (a b c : Bool) → (a && (b && c)) ≡ ((a && b) && c)
-    by true b c = refl
-    by false b c = refl
 
 -- ---- what links may skip
 
@@ -88,8 +78,7 @@ skips_follow before (l ∷ ls) each =
     let is : w ≡ l.skipped * 2 ^ 32 + (before + 1 + l.skipped) = word_is l.skipped (before + 1 + l.skipped) in
     let skip : w / 2 ^ 32 ≡ l.skipped = omega (arith, is, each.0.1) in
     let ws = map (λ x. x.0) (map (link_value Two) (numbered (before + 1 + l.skipped) ls)) in
-    follow_first before w ws
-    ∙ and_from (follows before w) (words_follow (before + 1 + w / 2 ^ 32) ws)
+    and_from (follows before w) (words_follow (before + 1 + w / 2 ^ 32) ws)
     (may_follow before l.skipped each.0.0 each.0.1)
     (ap (λ n. words_follow (before + 1 + n) ws) skip ∙ skips_follow (before + 1 + l.skipped) ls each.1)
 
@@ -102,8 +91,7 @@ follow_skips before (l ∷ ls) h =
     let w = word_of l.skipped (before + 1 + l.skipped) in
     let is : w ≡ l.skipped * 2 ^ 32 + (before + 1 + l.skipped) = word_is l.skipped (before + 1 + l.skipped) in
     let ws = map (λ x. x.0) (map (link_value Two) (numbered (before + 1 + l.skipped) ls)) in
-    let both = and_parts (follows before w) (words_follow (before + 1 + w / 2 ^ 32) ws)
-    (sym (follow_first before w ws) ∙ h) in
+    let both = and_parts (follows before w) (words_follow (before + 1 + w / 2 ^ 32) ws) h in
     let may = follow_may before l.skipped both.0 in
     let skip : w / 2 ^ 32 ≡ l.skipped = omega (arith, is, may.1) in
     (may, follow_skips (before + 1 + l.skipped) ls (sym (ap (λ n. words_follow (before + 1 + n) ws) skip) ∙ both.1))

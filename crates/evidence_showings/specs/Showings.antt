@@ -6,7 +6,8 @@ use Rattle.authenticator.specs.declared.member.LogVersion.{LogVersion}
 use Rattle.authenticator.specs.declared.member.LogVersion.TheVariants.{One, Two}
 use Rattle.authenticator.specs.Numbers.{word_of}
 use Rattle.evidence_spec.specs.secure_log.LogEntries.Chain.{Link, last_hash}
-use Rattle.evidence_spec.specs.Showing.{ClosesAt, MAX_SKIPPED, MaySkip, ShowingParts, ShownLink, links_in}
+use Rattle.evidence_spec.specs.secure_log.LogEntries.Words.{ClosesAt, MAX_SKIPPED, MaySkip}
+use Rattle.evidence_spec.specs.Showing.{ShowingParts, ShownLink, links_in}
 use Rattle.evidence_spec.specs.Showing.{showing_item, showing_value}
 
 -- Each part of a showing but what it skips has a spelling: it has a text of a log of version 1.

@@ -1,10 +1,10 @@
 -- Showings of logs of version 2 as they stand in a text: each link with its entry's word.
-use Rattle.std.specs.Prelude.{ℕ, ◌+◌, ◌/◌, ◌%◌, ◌^◌, Bool, ◌&&◌, ◌==◌, nat_le, List, map}
+use Rattle.std.specs.Prelude.{ℕ, List, map}
 use Rattle.xdr.specs.Item.{Value}
 use Rattle.authenticator.specs.declared.authenticator.Authenticator.{Authenticator}
 use Rattle.authenticator.specs.declared.member.LogVersion.TheVariants.{Two}
 use Rattle.authenticator.specs.Signed.{authenticator_value}
-use Rattle.evidence_spec.specs.Showing.{MAX_SKIPPED, link_item, showing_item}
+use Rattle.evidence_spec.specs.Showing.{link_item, showing_item}
 
 -- a link with its entry's word
 pub record WordedLinkParts : Type 0 where
@@ -32,9 +32,3 @@ worded_value s =
 -- the words of some links
 abbrev pub words_in : List WordedLinkParts → List ℕ
 words_in ls = map (λ v. v.0) (map worded_link_value ls)
-
--- a word follows on a number: it skips at most MAX_SKIPPED, and its number is that one, 1 more, and what it
--- skips
-abbrev pub follows : (before entry_word : ℕ) → Bool
-follows before entry_word =
-    nat_le (entry_word / 2 ^ 32) MAX_SKIPPED && (entry_word % 2 ^ 32 == before + 1 + entry_word / 2 ^ 32)

@@ -12,10 +12,9 @@ mod showing;
 mod worded;
 mod write;
 
-pub use chain::MAX_SKIPPED;
 pub use closing::is_signed_in;
-pub use evidence_spec::MAX_AUDITED;
 pub use evidence_spec::laws::accepted_evidence_proves;
+pub use evidence_spec::{MAX_AUDITED, MAX_SKIPPED};
 pub use kind::EntryKind;
 pub use link::ShownLink;
 pub use mark::Mark;

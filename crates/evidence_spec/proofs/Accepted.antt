@@ -1,7 +1,7 @@
 -- Evidence that is accepted proves that a node has no honest log.
 -- Serves: accepted_evidence_proves.
 use Rattle.std.proofs.Common.{◌≡◌, ℕ, List, [], ◌∷◌, ◌++◌, Option, Some, None, inl, refl, sym}
-use Rattle.std.proofs.Common.{ap, ap₂, subst, ◌∙◌, arith}
+use Rattle.std.proofs.Common.{ap, subst, ◌∙◌}
 use Rattle.std.specs.Prelude.{IsTrue, IsSomeAnd, option_map}
 use Rattle.std.specs.List.{AllByRecursion}
 use Rattle.xdr.specs.Item.{Fits, choice, optional}
@@ -12,35 +12,22 @@ use Rattle.replay_spec.specs.authenticator.declared.member.Member.{Member}
 use Rattle.replay_spec.specs.authenticator.Roster.{is_of_version, keeps_version, member_of, same_version}
 use Rattle.replay_spec.specs.authenticator.Signed.{IsSignedBy, IsSignedIn}
 use Rattle.replay_spec.proofs.authenticator.Members.{member_node}
-use Rattle.replay_spec.specs.secure_log.declared.log_entries.entry.Entry.{Entry}
-use Rattle.replay_spec.specs.secure_log.LogEntries.Entry.{entry_item, entry_value}
-use Rattle.replay_spec.specs.secure_log.LogEntries.Chain.{Link, Logged, NoCollision, IsAmong, zeros}
-use Rattle.replay_spec.specs.secure_log.LogEntries.Chain.{chain_texts}
-use Rattle.replay_spec.specs.secure_log.LogEntries.Chain.{links_from, marks, pairs, without_gaps}
-use Rattle.replay_spec.specs.secure_log.Log.{log_pairs}
-use Rattle.replay_spec.specs.secure_log.Segment.{SegmentParts, FitsWithin}
-use Rattle.replay_spec.specs.state_spec.State.{State}
-use Rattle.replay_spec.specs.Bodies.{HasBytes}
+use Rattle.replay_spec.specs.secure_log.LogEntries.Chain.{Link, Logged, NoCollision, IsAmong, zeros, marks}
+use Rattle.replay_spec.specs.secure_log.Versioned.{VersionedParts, versioned_value}
 use Rattle.replay_spec.specs.Opening.{opening_of}
-use Rattle.replay_spec.specs.Placed.{logged_places}
-use Rattle.replay_spec.specs.Replay.{Honest}
-use Rattle.replay_spec.proofs.Places.{places_without_gaps}
 use Rattle.evidence_spec.specs.Showing.{ShowingParts, IsClosedShowing, Shows, showing_item}
 use Rattle.evidence_spec.specs.Showing.{showing_value}
-use Rattle.evidence_spec.specs.Evidence.{MAX_AUDITED, Charge, ForkParts, Fork, Replay, charge_item}
+use Rattle.evidence_spec.specs.Evidence.{Charge, ForkParts, Fork, Replay, charge_item, charge_value}
 use Rattle.evidence_spec.specs.Evidence.{charge_version, is_charge, fork_charge, fork_item, fork_value}
-use Rattle.evidence_spec.specs.Evidence.{evidence_item, charge_value, AcceptsFork, AcceptsReplay}
-use Rattle.evidence_spec.specs.Evidence.{AcceptsCharge}
-use Rattle.evidence_spec.specs.Proving.{IsLog, IsLogOf, log_links, log_texts, marks_of, texts_of}
-use Rattle.evidence_spec.specs.Proving.{showing_texts, segment_texts, option_texts, IsUnforgedIn}
-use Rattle.evidence_spec.specs.Proving.{option_closings, Withstands, Proves}
-use Rattle.evidence_spec.specs.Laws.{IsNextIn, SegmentsGoOnSound}
+use Rattle.evidence_spec.specs.Evidence.{replay_charge, replay_item, evidence_item}
+use Rattle.evidence_spec.specs.Evidence.{AcceptsFork, AcceptsReplay, AcceptsCharge}
+use Rattle.evidence_spec.specs.Proving.{IsLogOf, log_links, marks_of, texts_of, showing_texts, option_texts}
+use Rattle.evidence_spec.specs.Proving.{IsUnforgedIn, option_closings, Withstands, Proves}
 use Rattle.replay_spec.proofs.secure_log.OfLogEntries.FewerTexts.{Within, fewer, left, right, both}
-use Rattle.replay_spec.proofs.secure_log.OfLogEntries.Marks.{links_without_gaps, one_mark}
-use Rattle.evidence_spec.proofs.Places.{head_among}
-use Rattle.evidence_spec.proofs.Gaps.{each_plain, logged_after, plain_log, span_plain, texts_plain}
-use Rattle.evidence_spec.proofs.Reached.{reached_first}
-use Rattle.evidence_spec.proofs.Shown.{showing_in_log, segment_is_part}
+use Rattle.replay_spec.proofs.secure_log.OfLogEntries.Marks.{one_mark}
+use Rattle.evidence_spec.proofs.Gaps.{logged_after}
+use Rattle.evidence_spec.proofs.Replayed.{first_entries, no_fault}
+use Rattle.evidence_spec.proofs.Shown.{showing_in_log}
 
 -- the mark of the number before some links is among theirs
 mark_head : (n : ℕ) (h : List ℕ) (ls : List Link) → IsAmong (n, h) (marks n h ls)
@@ -61,59 +48,24 @@ version_is : (v : LogVersion) (ms : List Member) (node : ℕ) (m : Member) → m
 version_is v ms node m there keeps =
     one_version m.log_version v (subst (λ o. IsTrue (is_of_version v o)) there keeps)
 
--- a log without gaps stands against a replay as its entries do
-module _ (ms : List Member) (member : Member) (node : ℕ) (same : member.node ≡ node) (s : SegmentParts)
-    (es : List Entry) where
-  abbrev log : List Logged
-  log = without_gaps es
+-- a replay that has a text does, by its version
+replay_fits : (v : LogVersion) (s : VersionedParts) → Fits (choice is_charge charge_item) (replay_charge v s)
+    → Fits (replay_item v) (versioned_value v s)
+replay_fits One s fits = fits.2
+replay_fits Two s fits = fits.2
 
-  is_log : IsLogOf One log → IsLog es
-  is_log is = record {
-    each = each_plain (λ e. Fits entry_item (entry_value e)) es is.each;
-    bytes = each_plain HasBytes es is.bytes;
-    few = omega (arith, span_plain es, is.numbers.1);
-  }
-
-  same_texts : texts_of log ≡ log_texts es
-  same_texts = ap₂ (λ ls ts. chain_texts zeros ls ++ ts) (links_without_gaps 0 es) (texts_plain es)
-
-  plain_stands : SegmentsGoOnSound → FitsWithin MAX_AUDITED s → AcceptsReplay ms node s
-      → member_of ms node ≡ Some member → IsLogOf One log → (states : List State)
-      → Honest ms (opening_of member) (logged_places 0 zeros log) states
-      → IsUnforgedIn One ms member.node log s.closing → NoCollision (texts_of log ++ segment_texts s) → ⊥
-  plain_stands goes_on fits a there is states honest unforged unlike =
-      let shown : IsAmong (s.closing.word, s.closing.hash) (log_pairs es) =
-      subst (λ ls. IsAmong (s.closing.word, s.closing.hash) (pairs 0 zeros ls)) (links_without_gaps 0 es)
-      (unforged (a.closed.ends.node ∙ a.of_node ∙ sym same) a.closed.signed) in
-      let next : IsNextIn es 0 s = record {
-        first = a.first;
-        last = a.closed.ends.number;
-        part = segment_is_part ms es s (is_log is) fits (omega (arith, a.first)) a.closed shown
-            (subst (λ ts. NoCollision (ts ++ segment_texts s)) same_texts unlike);
-        opening = subst (λ h. IsAmong (0, h) (log_pairs es)) (sym a.opening)
-            (head_among 0 zeros (links_from 1 es));
-      } in
-      let sound = goes_on ms es 0 (opening_of member) s
-      (reached_first ms es (opening_of member) states
-      (subst (λ ps. Honest ms (opening_of member) ps states) (places_without_gaps 0 zeros es) honest)) next in
-      let one : Some a.member ≡ Some member = sym a.is_member ∙ there in
-      let verdict = sound.sound in
-      let fault = a.found in
-      cc
-
-replay_stands : SegmentsGoOnSound → (ms : List Member) (member : Member) (node : ℕ) → member.node ≡ node
-    → (s : SegmentParts) → FitsWithin MAX_AUDITED s → AcceptsReplay ms node s
-    → member_of ms node ≡ Some member → member.log_version ≡ One → (log : List Logged)
-    → Withstands ms member (Replay s) log → ⊥
-replay_stands goes_on ms member node same s fits a there version log w =
-    let is : IsLogOf One log = subst (λ v. IsLogOf v log) version w.is_log in
-    let plain = plain_log log is.numbers.0 in
-    plain_stands ms member node same s plain.0 goes_on fits a there
-    (subst (IsLogOf One) plain.1 is) w.honest.states
-    (subst (λ l. Honest ms (opening_of member) (logged_places 0 zeros l) w.honest.states) plain.1 w.honest.honest)
-    (subst (λ l. IsUnforgedIn One ms member.node l s.closing) plain.1
-    (subst (λ v. IsUnforgedIn v ms member.node log s.closing) version w.unforged.0))
-    (subst (λ l. NoCollision (texts_of l ++ segment_texts s)) plain.1 w.no_collision)
+-- no log of the member that signed it stands against a replay
+replay_stands : (ms : List Member) (node : ℕ) (s : VersionedParts) (a : AcceptsReplay ms node s)
+    → a.member.node ≡ node → a.member.log_version ≡ s.log_version
+    → Fits (replay_item s.log_version) (versioned_value s.log_version s) → (log : List Logged)
+    → Withstands ms a.member (Replay s) log → ⊥
+replay_stands ms node s a same version fits log w =
+    let unforged : IsUnforgedIn s.log_version ms a.member.node log s.closing =
+    subst (λ v. IsUnforgedIn v ms a.member.node log s.closing) version w.unforged.0 in
+    let first = first_entries ms log s (subst (λ v. IsLogOf v log) version w.is_log) fits a.closed
+    (unforged (a.closed.ends.node ∙ a.of_node ∙ sym same) a.closed.signed) w.no_collision a.first in
+    no_fault ms (opening_of a.member) s log first.0 w.honest.states a.fault a.number a.first a.opening first.1
+    w.honest.honest a.found
 
 -- ---- forks
 
@@ -188,10 +140,10 @@ fork_fits One f fits = fits.2
 fork_fits Two f fits = fits.2
 
 -- a charge that is accepted, and has a text, proves
-pub accepted_proves : (ms : List Member) → SegmentsGoOnSound → (node : ℕ) (charge : Charge)
+pub accepted_proves : (ms : List Member) (node : ℕ) (charge : Charge)
     → Fits evidence_item (node, charge_value charge) → IsTrue (keeps_version ms node (charge_version charge))
     → AcceptsCharge ms node charge → Proves ms (record { node = node; charge = charge })
-accepted_proves ms goes_on node (Fork f) fits keeps two =
+accepted_proves ms node (Fork f) fits keeps two =
     let v = f.log_version in
     let there = forker v ms node f.at f.a f.b two in
     let same = member_node ms node there.0 there.1 in
@@ -207,12 +159,10 @@ accepted_proves ms goes_on node (Fork f) fits keeps two =
           version w.unforged)
           w.no_collision;
     }
-accepted_proves ms goes_on node (Replay s) fits keeps a =
-    let same = member_node ms node a.member a.is_member in
+accepted_proves ms node (Replay s) fits keeps a =
     record {
       member = a.member;
       is_member = a.is_member;
-      none = λ log w.
-          replay_stands goes_on ms a.member node same s fits.1.2 a a.is_member
-          (version_is One ms node a.member a.is_member keeps) log w;
+      none = replay_stands ms node s a (member_node ms node a.member a.is_member)
+          (version_is s.log_version ms node a.member a.is_member keeps) (replay_fits s.log_version s fits.1);
     }

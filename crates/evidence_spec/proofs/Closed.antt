@@ -22,8 +22,8 @@ use Rattle.replay_spec.specs.secure_log.LogEntries.Chain.{last_hash, links_from,
 use Rattle.replay_spec.proofs.secure_log.OfLogEntries.Marks.{marks_are_pairs}
 use Rattle.replay_spec.specs.secure_log.declared.segment.TheConstants.{MAX_ENTRIES}
 use Rattle.replay_spec.specs.secure_log.Segment.{SegmentParts, IsClosed, FitsWithin, segment_pairs}
-use Rattle.evidence_spec.specs.Showing.{ClosesAt, MaySkip, numbered, last_word, link_item, link_value}
-use Rattle.evidence_spec.specs.Showing.{links_in}
+use Rattle.replay_spec.specs.secure_log.LogEntries.Words.{ClosesAt, MaySkip, last_word}
+use Rattle.evidence_spec.specs.Showing.{numbered, link_item, link_value, links_in}
 use Rattle.evidence_spec.specs.Showing.{authenticator_showing, segment_showing, shown_link, start_item}
 use Rattle.evidence_spec.specs.Showing.{start_value}
 use Rattle.evidence_spec.specs.Laws.{ShowsMarks}
@@ -77,7 +77,7 @@ same_links before (e ∷ es) =
     ap (λ n. link_of n e ∷ numbered n (map shown_link es)) number
     ∙ ap (λ ls. link_of (before + 1) e ∷ ls) (same_links (before + 1) es)
 
-none_skipped : (first : ℕ) (es : List Entry) → AllByRecursion (MaySkip One) (links_from first es)
+pub none_skipped : (first : ℕ) (es : List Entry) → AllByRecursion (MaySkip One) (links_from first es)
 none_skipped first [] = tt
 none_skipped first (e ∷ es) = (refl, none_skipped (first + 1) es)
 
@@ -92,10 +92,16 @@ last_after first e [] = omega arith
 last_after first e (f ∷ es) = omega (arith, last_after (first + 1) f es)
 
 -- the word after the last number closes them
-closes : (before closing : ℕ) (es : List Entry) → closing ≡ before + length es
+pub closes : (before closing : ℕ) (es : List Entry) → closing ≡ before + length es
     → ClosesAt One before (links_from (before + 1) es) closing
 closes before closing [] h = omega (arith, h)
 closes before closing (e ∷ es) h = omega (arith, h, last_after (before + 1) e es)
+
+-- and no other does
+pub closes_back : (before closing : ℕ) (es : List Entry)
+    → ClosesAt One before (links_from (before + 1) es) closing → closing ≡ before + length es
+closes_back before closing [] h = omega (arith, h)
+closes_back before closing (e ∷ es) h = omega (arith, h, last_after (before + 1) e es)
 
 -- a closed segment, as a showing without its entries, shows all its pairs
 pub own_pairs : (ms : List Member) (s : SegmentParts) → FitsWithin MAX_ENTRIES s → 0 < s.first

@@ -8,7 +8,9 @@ pub mod Contents
 pub mod Parts
 pub mod Shown
 pub mod Reached
+pub mod Replayed
 pub mod Accepted
 pub mod Closed
+pub mod WithoutGaps
 pub mod Nothing
 pub mod OneReading

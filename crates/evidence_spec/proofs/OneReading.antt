@@ -72,14 +72,15 @@ first_number One w h = h
 first_number Two w h = omega (arith, h)
 
 -- a client's segment of one clock reading proves nothing, whatever signature closes it
-pub reading_proves_nothing : (ms : List Member) (member : Member) (node : ℕ) (closing : Authenticator)
+pub reading_proves_nothing : (v : LogVersion) (ms : List Member) (member : Member) (node : ℕ)
+    (closing : Authenticator)
     → member_of ms node ≡ Some member → member.kind ≡ Client → closing.word ≡ 1
     → closing.hash ≡ log_hash (Clock 1 0 ∷ [])
-    → ¬ Proves ms (record { node = node; charge = Replay (one_reading node closing) })
-reading_proves_nothing ms member node closing there kind number hash =
+    → ¬ Proves ms (record { node = node; charge = Replay (one_reading v node closing) })
+reading_proves_nothing v ms member node closing there kind number hash =
     let opening : opening_client member.node ≡ opening_of member =
     sym (ap (λ k. opening_by k member.node) kind) in
-    own_texts ms member (record { node = node; charge = Replay (one_reading node closing) }) reading
+    own_texts ms member (record { node = node; charge = Replay (one_reading v node closing) }) reading
     (read_once member.node)
     there (reading_log member.log_version)
     (subst (λ o. IsHonestWithGaps ms o reading (read_once member.node)) opening (reading_honest ms member.node))

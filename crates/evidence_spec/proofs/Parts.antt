@@ -8,6 +8,7 @@ use Rattle.xdr.specs.Item.{Fits}
 use Rattle.replay_spec.specs.secure_log.declared.log_entries.entry.Entry.{Entry}
 use Rattle.replay_spec.specs.secure_log.LogEntries.Entry.{entry_item, entry_value}
 use Rattle.replay_spec.specs.secure_log.LogEntries.Chain.{Link, link_of, links_from, NoCollision, IsAmong}
+use Rattle.replay_spec.specs.secure_log.LogEntries.Chain.{Logged, logged_link, logged_links}
 use Rattle.evidence_spec.specs.Proving.{entry_texts}
 use Rattle.replay_spec.proofs.secure_log.OfLogEntries.FewerTexts.{Within, left, right}
 use Rattle.evidence_spec.proofs.Places.{all_front, length-links}
@@ -136,3 +137,46 @@ entries_in_log all unlike log es first before rest fits fits' i j h n =
       whole = whole ∙ ap (λ zs. a.front ++ (zs ++ b.back)) same;
       place = sym (length-links 1 a.front) ∙ ap length a.one;
     }
+
+-- ---- entries whose numbers may have gaps
+
+-- each of these entries has a text
+abbrev pub EachLogged : List Logged → Type 0
+EachLogged ls = AllByRecursion (λ l. Fits entry_item (entry_value l.entry)) ls
+
+-- their texts
+abbrev pub logged_texts : List Logged → List (List ℕ)
+logged_texts ls = flat_map (λ l. entry_texts l.entry) ls
+
+-- entries with the same links are the same, and skip the same
+one_logged : (all : List (List ℕ)) → NoCollision all → (n m : ℕ) (l k : Logged)
+    → Fits entry_item (entry_value l.entry) → Fits entry_item (entry_value k.entry)
+    → Within (entry_texts l.entry) all → Within (entry_texts k.entry) all
+    → logged_link n l ≡ logged_link m k → l ≡ k
+one_logged all unlike n m l k a b i j h =
+    let skipped : l.skipped ≡ k.skipped = ap (λ (x : Link). x.skipped) h in
+    let entry : l.entry ≡ k.entry =
+    one_entry all unlike l.entry k.entry a b i j
+    (record { kind = ap (λ (x : Link). x.kind) h; digest = ap (λ (x : Link). x.content) h }) in
+    λ z. record { skipped = skipped z; entry = entry z }
+
+-- Entries whose links are the first of a log's are the log's first.
+pub first_in_log : (all : List (List ℕ)) → NoCollision all
+    → (before : ℕ) (log ls : List Logged) (rest : List Link) → EachLogged log → EachLogged ls
+    → Within (logged_texts log) all → Within (logged_texts ls) all
+    → logged_links before log ≡ logged_links before ls ++ rest → (more : List Logged) × (log ≡ ls ++ more)
+first_in_log all unlike before log [] rest a b i j h = (log, refl)
+first_in_log all unlike before [] (l ∷ ls) rest a b i j h = absurd cc
+first_in_log all unlike before (k ∷ log) (l ∷ ls) rest a b i j h =
+    let head : logged_link (before + 1 + k.skipped) k ≡ logged_link (before + 1 + l.skipped) l = cc in
+    let tail : logged_links (before + 1 + k.skipped) log
+    ≡ logged_links (before + 1 + l.skipped) ls ++ rest = cc in
+    let one : k ≡ l =
+    one_logged all unlike (before + 1 + k.skipped) (before + 1 + l.skipped) k l a.0 b.0
+    (λ t m. i t (left (entry_texts k.entry) (logged_texts log) t m))
+    (λ t m. j t (left (entry_texts l.entry) (logged_texts ls) t m)) head in
+    let more = first_in_log all unlike (before + 1 + l.skipped) log ls rest a.1 b.1
+    (λ t m. i t (right (entry_texts k.entry) (logged_texts log) t m))
+    (λ t m. j t (right (entry_texts l.entry) (logged_texts ls) t m))
+    (ap (λ (x : Logged). logged_links (before + 1 + x.skipped) log) (sym one) ∙ tail) in
+    (more.0, ap₂ (λ x xs. x ∷ xs) one more.1)

@@ -1,9 +1,9 @@
 -- Showings and segments whose closing is a pair of a log show marks of that log alone.
 -- Serves: what_is_shown_is_of_the_log, accepted_evidence_proves.
-use Rattle.std.proofs.Common.{◌≡◌, ℕ, ◌+◌, ◌<◌, ◌≤◌, ◌^◌, List, [], ◌∷◌, ◌++◌, length, map, subst, arith}
+use Rattle.std.proofs.Common.{◌≡◌, ℕ, ◌+◌, ◌<◌, ◌≤◌, ◌^◌, List, ◌++◌, length, subst, arith}
 use Rattle.std.specs.Prelude.{◌-◌, IsTrue}
 use Rattle.std.proofs.lemmas.Bool.{ltb-true}
-use Rattle.std.specs.List.{AllByRecursion, flat_map}
+use Rattle.std.specs.List.{flat_map}
 use Rattle.xdr.specs.Item.{Fits}
 use Rattle.replay_spec.specs.authenticator.Numbers.{is_number, number_in}
 use Rattle.replay_spec.specs.authenticator.declared.member.LogVersion.{LogVersion}
@@ -40,11 +40,12 @@ log_chain log is = record { opened = zeros-length; each = links-are-links 1 log 
 
 -- ---- showings
 
-log_chain_of : (v : LogVersion) (log : List Logged) → IsLogOf v log → IsChain v zeros (log_links log)
+-- the links of a log are a chain of its version
+pub log_chain_of : (v : LogVersion) (log : List Logged) → IsLogOf v log → IsChain v zeros (log_links log)
 log_chain_of v log is = record { opened = zeros-length; each = log_are_links v log is.numbers }
 
 -- a number in a word of a text is of 64 bits
-number_low : (v : LogVersion) (w : ℕ) → IsTrue (is_number w) → number_in v w < 2 ^ 64
+pub number_low : (v : LogVersion) (w : ℕ) → IsTrue (is_number w) → number_in v w < 2 ^ 64
 number_low One w h = omega (arith, next_fits w h)
 number_low Two w h = omega arith
 

@@ -1,8 +1,9 @@
--- A chain whose last pair is one of a log's has its marks among the log's, gaps included, where no two texts
--- have one digest. Serves: what_is_shown_is_of_the_log, accepted_evidence_proves.
-use Rattle.std.proofs.Common.{◌≡◌, ℕ, ◌+◌, ◌<◌, ◌≤◌, List, [], ◌∷◌, ◌++◌, length, inl, inr, refl}
+-- A chain whose last pair is one of a log's stands in it and has its marks among the log's, gaps included,
+-- where no two texts have one digest. Serves: what_is_shown_is_of_the_log, accepted_evidence_proves.
+use Rattle.std.proofs.Common.{◌≡◌, ℕ, ◌<◌, ◌≤◌, List, [], ◌∷◌, ◌++◌, length, inl, inr, refl}
 use Rattle.std.proofs.Common.{sym, ap, subst, ◌∙◌, arith, append_assoc, length-append}
 use Rattle.std.proofs.lemmas.Bool.{cases_lt}
+use Rattle.std.proofs.lemmas.List.{nil_from_length}
 use Rattle.std.specs.Prelude.{◌⊎◌}
 use Rattle.std.specs.List.{AllByRecursion}
 use Rattle.replay_spec.specs.authenticator.declared.member.LogVersion.{LogVersion}
@@ -15,7 +16,6 @@ use Rattle.replay_spec.proofs.secure_log.OfLogEntries.FewerTexts.{Within, fewer,
 use Rattle.replay_spec.proofs.secure_log.OfLogEntries.Chains.{chain_end}
 use Rattle.replay_spec.proofs.secure_log.OfLogEntries.Marks.{marks_parts, marks_begin}
 use Rattle.evidence_spec.proofs.Places.{all_front}
-use Rattle.evidence_spec.proofs.Chained.{last_hash-append}
 use Rattle.evidence_spec.proofs.Gaps.{rise}
 
 last_number-append : (before : ℕ) (xs ys : List Link)
@@ -32,6 +32,14 @@ numbered_rest : (before : ℕ) (xs ys : List Link) → AreNumbered before (xs ++
     → AreNumbered (last_number before xs) ys
 numbered_rest before [] ys n = n
 numbered_rest before (x ∷ xs) ys n = numbered_rest x.number xs ys n.1
+
+-- links stand in a log after others, and the number and hash before them are those after these others
+pub record StandsInLog (log : List Link) (before : ℕ) (opening : List ℕ) (links : List Link) : Type 0 where
+  pub front : List Link
+  pub rest : List Link
+  pub whole : log ≡ front ++ (links ++ rest)
+  pub is_number : last_number 0 front ≡ before
+  pub is_hash : last_hash zeros front ≡ opening
 
 -- a number and a hash are those after the first links of a chain
 record StandsAfter (before : ℕ) (opening : List ℕ) (links : List Link) (number : ℕ) (hash : List ℕ) : Type 0 where
@@ -81,6 +89,31 @@ same_before : (before : ℕ) (b links : List Link) → AreNumbered before links 
     → last_number before links ≡ last_number 0 (b ++ links) → last_number 0 b ≡ before
 same_before before b [] n m e = omega (arith, last_number-append 0 b [], e)
 same_before before b (l ∷ ls) n m e = omega (arith, (numbered_rest 0 b (l ∷ ls) m).0, n.0)
+
+-- the marks of links that stand in a log are the log's
+marks_in : (log : List Link) (before : ℕ) (opening : List ℕ) (links : List Link)
+    → StandsInLog log before opening links → (number : ℕ) (mark : List ℕ) → IsAmong (number, mark) (marks before opening links)
+    → IsAmong (number, mark) (marks 0 zeros log)
+marks_in log before opening links s number mark i =
+    let m = marks_parts 0 zeros s.front (links ++ s.rest) in
+    let own : marks (last_number 0 s.front) (last_hash zeros s.front) (links ++ s.rest)
+    ≡ marks before opening (links ++ s.rest) =
+    ap (λ n. marks n (last_hash zeros s.front) (links ++ s.rest)) s.is_number
+    ∙ ap (λ h. marks before h (links ++ s.rest)) s.is_hash in
+    let all : marks 0 zeros log ≡ m.0 ++ marks before opening (links ++ s.rest) =
+    ap (marks 0 zeros) s.whole ∙ m.1 ∙ ap (λ ms. m.0 ++ ms) own in
+    subst (IsAmong (number, mark)) (sym all)
+    (right m.0 (marks before opening (links ++ s.rest)) (number, mark)
+    (marks_begin before opening links s.rest (number, mark) i))
+
+-- links that stand in a log after the number 0 are its first
+pub stands_first : (log : List Link) (opening : List ℕ) (links : List Link) → AreNumbered 0 log
+    → (s : StandsInLog log 0 opening links) → log ≡ links ++ s.rest
+stands_first log opening links n s =
+    let numbered : AreNumbered 0 s.front =
+    numbered_front 0 s.front (links ++ s.rest) (subst (AreNumbered 0) s.whole n) in
+    let none : length s.front ≡ 0 = omega (arith, rise 0 s.front numbered, s.is_number) in
+    s.whole ∙ ap (λ ls. ls ++ (links ++ s.rest)) (nil_from_length s.front none)
 
 module _ (v : LogVersion) (log links : List Link) (before : ℕ) (opening : List ℕ) (log_chain : IsChain v zeros log)
     (chain : IsChain v opening links) (log_numbered : AreNumbered 0 log) (links_numbered : AreNumbered before links)
@@ -137,30 +170,26 @@ module _ (v : LogVersion) (log links : List Link) (before : ℕ) (opening : List
   is_end : length links ≤ length b.front → IsEndOf opening links zeros b.front
   is_end le = chain_end v opening zeros links b.front chain front_chain apart b.is_hash le
 
-  at_the_end : (number : ℕ) (mark : List ℕ) → IsEndOf opening links zeros b.front
-      → IsAmong (number, mark) (marks before opening links) → IsAmong (number, mark) (marks 0 zeros log)
-  at_the_end number mark end i =
-      let from : last_number 0 end.before ≡ before =
-      same_before before end.before links links_numbered (subst (AreNumbered 0) end.whole front_numbered)
-      (b.is_number ∙ ap (last_number 0) end.whole) in
-      let whole : log ≡ end.before ++ (links ++ b.rest) =
-      b.whole ∙ ap (λ ls. ls ++ b.rest) end.whole ∙ append_assoc end.before links b.rest in
-      let m = marks_parts 0 zeros end.before (links ++ b.rest) in
-      let own : marks (last_number 0 end.before) (last_hash zeros end.before) (links ++ b.rest)
-      ≡ marks before opening (links ++ b.rest) =
-      ap (λ n. marks n (last_hash zeros end.before) (links ++ b.rest)) from
-      ∙ ap (λ h. marks before h (links ++ b.rest)) end.hash in
-      let all : marks 0 zeros log ≡ m.0 ++ marks before opening (links ++ b.rest) =
-      ap (marks 0 zeros) whole ∙ m.1 ∙ ap (λ ms. m.0 ++ ms) own in
-      subst (IsAmong (number, mark)) (sym all)
-      (right m.0 (marks before opening (links ++ b.rest)) (number, mark)
-      (marks_begin before opening links b.rest (number, mark) i))
+  at_the_end : IsEndOf opening links zeros b.front → StandsInLog log before opening links
+  at_the_end end = record {
+    front = end.before;
+    rest = b.rest;
+    whole = b.whole ∙ ap (λ ls. ls ++ b.rest) end.whole ∙ append_assoc end.before links b.rest;
+    is_number = same_before before end.before links links_numbered
+        (subst (AreNumbered 0) end.whole front_numbered) (b.is_number ∙ ap (last_number 0) end.whole);
+    is_hash = end.hash;
+  }
 
-  pub in_log : (number : ℕ) (mark : List ℕ) → IsAmong (number, mark) (marks before opening links)
-      → IsAmong (number, mark) (marks 0 zeros log)
-  in_log number mark i = by_length (cases_lt (length b.front) (length links))
+  -- they stand in the log
+  pub stands_in_log : StandsInLog log before opening links
+  stands_in_log = by_length (cases_lt (length b.front) (length links))
     where
       by_length : (length b.front < length links) ⊎ (length links ≤ length b.front)
-          → IsAmong (number, mark) (marks 0 zeros log)
+          → StandsInLog log before opening links
       by_length (inl lt) = absurd (too_long lt)
-      by_length (inr le) = at_the_end number mark (is_end le) i
+      by_length (inr le) = at_the_end (is_end le)
+
+  -- and their marks are the log's
+  pub in_log : (number : ℕ) (mark : List ℕ) → IsAmong (number, mark) (marks before opening links)
+      → IsAmong (number, mark) (marks 0 zeros log)
+  in_log = marks_in log before opening links stands_in_log

@@ -9,9 +9,9 @@ use Rattle.replay_spec.specs.authenticator.declared.member.Member.{Member}
 use Rattle.replay_spec.specs.authenticator.Roster.{keeps_version, member_of}
 use Rattle.replay_spec.specs.authenticator.Numbers.{number_item}
 use Rattle.replay_spec.specs.secure_log.LogEntries.Chain.{zeros}
-use Rattle.replay_spec.specs.secure_log.Segment.{SegmentParts, IsClosed, bounded_item, segment_value}
-use Rattle.replay_spec.specs.secure_log.Segment.{is_whole}
-use Rattle.replay_spec.specs.Placed.{placed_in}
+use Rattle.replay_spec.specs.secure_log.Versioned.{VersionedParts, IsClosedIn, is_whole_in, versioned_item}
+use Rattle.replay_spec.specs.secure_log.Versioned.{versioned_value}
+use Rattle.replay_spec.specs.Placed.{places_in}
 use Rattle.replay_spec.specs.Stepping.{ReplayFault}
 use Rattle.replay_spec.specs.Replay.{Fault, verdict_of}
 use Rattle.replay_spec.specs.Opening.{opening_of}
@@ -35,12 +35,12 @@ pub record ForkParts : Type 0 where
 pub data Charge : Type 0 where
   Fork : ForkParts → Charge
   -- a segment from the first entry on, in which a replay finds a fault
-  Replay : SegmentParts → Charge
+  Replay : VersionedParts → Charge
 
--- the version of the log that is shown; a segment's is 1
+-- the version of the log that is shown
 abbrev pub charge_version : Charge → LogVersion
 charge_version (Fork f) = f.log_version
-charge_version (Replay s) = One
+charge_version (Replay s) = s.log_version
 
 -- what a node is charged with
 pub record EvidenceParts : Type 0 where
@@ -57,16 +57,22 @@ fork_item v = pair number_item (pair (showing_item v) (optional (showing_item v)
 abbrev pub fork_value : (v : LogVersion) → ForkParts → Value (fork_item v)
 fork_value v f = (f.at, (showing_value v f.a, option_map (showing_value v) f.b))
 
--- the charges' numbers: a fork of a log of version 1 is 1, a replay 2, a fork of a log of version 2 is 3
+-- the charges' numbers: of a log of version 1 a fork is 1 and a replay 2, of one of version 2 they are 3
+-- and 4
 abbrev pub is_charge : ℕ → Bool
-is_charge n = nat_lt 0 n && nat_lt n 4
+is_charge n = nat_lt 0 n && nat_lt n 5
 
--- what stands after a charge's number: a fork, or a segment of at most MAX_AUDITED entries
+-- a replay in a text: a segment of at most MAX_AUDITED entries
+abbrev pub replay_item : LogVersion → Item
+replay_item v = versioned_item v MAX_AUDITED
+
+-- what stands after a charge's number: a fork, or a segment
 abbrev pub charge_item : ℕ → Item
 charge_item n =
     if n == 1 then fork_item One
-    else if n == 2 then bounded_item MAX_AUDITED
-    else fork_item Two
+    else if n == 2 then replay_item One
+    else if n == 3 then fork_item Two
+    else replay_item Two
 
 -- evidence in a text: the node, and the charge
 abbrev pub evidence_item : Item
@@ -77,10 +83,15 @@ abbrev pub fork_charge : LogVersion → ForkParts → Value (choice is_charge ch
 fork_charge One f = (1, fork_value One f)
 fork_charge Two f = (3, fork_value Two f)
 
+-- a replay, after the number of its charge
+abbrev pub replay_charge : LogVersion → VersionedParts → Value (choice is_charge charge_item)
+replay_charge One s = (2, versioned_value One s)
+replay_charge Two s = (4, versioned_value Two s)
+
 -- a charge, as its text's value
 abbrev pub charge_value : Charge → Value (choice is_charge charge_item)
 charge_value (Fork f) = fork_charge f.log_version f
-charge_value (Replay s) = (2, segment_value s)
+charge_value (Replay s) = replay_charge s.log_version s
 
 -- evidence, as its text's value
 abbrev pub evidence_value : EvidenceParts → Value evidence_item
@@ -91,18 +102,23 @@ abbrev pub second_follows : Option (Value (showing_item Two)) → Bool
 second_follows None = true
 second_follows (Some x) = links_follow Two x
 
--- what stands after a charge's number is a fork of a log of version 1; or a segment that is whole, as each
--- segment's text asks; or a fork of a log of version 2, whose showings' words follow
-abbrev pub is_whole_after : (is_fork is_replay : Bool)
-    → Value (if is_fork then fork_item One else if is_replay then bounded_item MAX_AUDITED else fork_item Two)
+-- what stands after a charge's number is a fork of a log of version 1; or a segment of such a log that is
+-- whole, as each segment's text asks; or a fork of a log of version 2, whose showings' words follow; or a
+-- segment of such a log that is whole
+abbrev pub is_whole_after : (is_fork is_replay is_worded_fork : Bool)
+    → Value (if is_fork then fork_item One
+    else if is_replay then replay_item One
+    else if is_worded_fork then fork_item Two
+    else replay_item Two)
     → Bool
-is_whole_after true is_replay x = true
-is_whole_after false true x = is_whole x
-is_whole_after false false x = links_follow Two x.1.0 && second_follows x.1.1
+is_whole_after true is_replay is_worded_fork x = true
+is_whole_after false true is_worded_fork x = is_whole_in One x
+is_whole_after false false true x = links_follow Two x.1.0 && second_follows x.1.1
+is_whole_after false false false x = is_whole_in Two x
 
 -- so of a charge
 abbrev pub is_whole_charge : Value (choice is_charge charge_item) → Bool
-is_whole_charge x = is_whole_after (x.0 == 1) (x.0 == 2) x.1
+is_whole_charge x = is_whole_after (x.0 == 1) (x.0 == 2) (x.0 == 3) x.1
 
 -- its text: a replay's segment is whole, words follow, and nothing may stand after it
 abbrev pub evidence_text : Text
@@ -138,16 +154,16 @@ AcceptsFork v ms node at a None = ShowsNoOpening v ms node a
 
 -- A closed segment of a node from the first entry on, in which a replay of the node's kind of machine, from
 -- the state that it begins with, finds a fault.
-pub record AcceptsReplay (ms : List Member) (node : ℕ) (s : SegmentParts) : Type 0 where
+pub record AcceptsReplay (ms : List Member) (node : ℕ) (s : VersionedParts) : Type 0 where
   pub of_node : s.node ≡ node
   pub first : s.first ≡ 1
   pub opening : s.opening ≡ zeros
-  pub closed : IsClosed ms s
+  pub closed : IsClosedIn ms s
   pub member : Member
   pub is_member : member_of ms node ≡ Some member
   pub fault : ReplayFault
   pub number : ℕ
-  pub found : verdict_of ms (opening_of member) (placed_in s) ≡ Fault fault number
+  pub found : verdict_of ms (opening_of member) (places_in s) ≡ Fault fault number
 
 -- a charge against a node is accepted under a roster
 abbrev pub AcceptsCharge : List Member → (node : ℕ) → Charge → Type 0

@@ -1,5 +1,5 @@
 -- What holds of evidence: each law is the contract of a function in src/laws.rt.
-use Rattle.std.specs.Prelude.{◌≡◌, ℕ, ◌+◌, ◌<◌, ◌≤◌, List, [], ◌∷◌, ◌++◌, length}
+use Rattle.std.specs.Prelude.{◌≡◌, ◌↔◌, ℕ, ◌+◌, ◌<◌, ◌≤◌, List, [], ◌∷◌, ◌++◌, length}
 use Rattle.std.specs.Prelude.{Option, Some, option_map, IfSome}
 use Rattle.std.specs.List.{AllByRecursion}
 use Rattle.sha2.specs.Sha256.{sha256}
@@ -18,10 +18,13 @@ use Rattle.replay_spec.specs.secure_log.declared.log_entries.entry.Entry.{Entry}
 use Rattle.replay_spec.specs.secure_log.declared.log_entries.entry.Entry.TheVariants.{Clock}
 use Rattle.replay_spec.specs.secure_log.Log.{log_hash, log_pairs}
 use Rattle.replay_spec.specs.secure_log.Segment.{SegmentParts, IsClosed, FitsWithin, segment_pairs}
+use Rattle.replay_spec.specs.secure_log.Segment.{segment_value}
+use Rattle.replay_spec.specs.secure_log.Versioned.{VersionedParts, of_plain, versioned_value}
 use Rattle.replay_spec.specs.secure_log.declared.segment.TheConstants.{MAX_ENTRIES}
 use Rattle.replay_spec.specs.state_spec.State.{State}
 use Rattle.replay_spec.specs.Placed.{placed}
-use Rattle.replay_spec.specs.Replay.{Honest, Sound, segment_verdict}
+use Rattle.replay_spec.specs.Stepping.{ReplayFault}
+use Rattle.replay_spec.specs.Replay.{Honest, Fault, Sound, segment_verdict}
 use Rattle.replay_spec.specs.Opening.{opening_of}
 use Rattle.replay_spec.specs.HonestLogs.{IsHonestWithGaps}
 use Rattle.evidence_spec.specs.Showing.{ShowingParts, IsClosedShowing, Shows}
@@ -29,6 +32,7 @@ use Rattle.evidence_spec.specs.Showing.{showing_item, showing_value, showing_mar
 use Rattle.evidence_spec.specs.Showing.{authenticator_showing, segment_showing}
 use Rattle.evidence_spec.specs.Evidence.{ForkParts, Fork, Replay, EvidenceParts}
 use Rattle.evidence_spec.specs.Evidence.{MAX_AUDITED, evidence_item, evidence_value, Accepts}
+use Rattle.evidence_spec.specs.Evidence.{AcceptsReplay}
 use Rattle.evidence_spec.specs.Proving.{IsLog, IsLogOf, pairs_of, marks_of, log_texts, texts_of}
 use Rattle.evidence_spec.specs.Proving.{segment_texts, showing_texts, entry_texts}
 use Rattle.evidence_spec.specs.Proving.{charge_texts, closings, IsUnforgedIn, Proves}
@@ -176,13 +180,43 @@ UnsignedProveNothing =
     ¬ Proves ms (record { node = node; charge = Fork fork })
 
 -- A segment of one clock reading, which is all of a client's log, proves nothing: that log stands against it.
-abbrev pub one_reading : (node : ℕ) → Authenticator → SegmentParts
-one_reading node closing =
-    record { node = node; first = 1; opening = zeros; entries = Clock 1 0 ∷ []; closing = closing }
+abbrev pub one_reading : LogVersion → (node : ℕ) → Authenticator → VersionedParts
+one_reading v node closing = record {
+  log_version = v;
+  node = node;
+  first = 1;
+  opening = zeros;
+  entries = record { skipped = 0; entry = Clock 1 0 } ∷ [];
+  closing = closing;
+}
 
 abbrev pub OneReadingProvesNothing : Type 0
 OneReadingProvesNothing =
-    (ms : List Member) (member : Member) (node : ℕ) (closing : Authenticator)
+    (v : LogVersion) (ms : List Member) (member : Member) (node : ℕ) (closing : Authenticator)
     → member_of ms node ≡ Some member → member.kind ≡ Client
     → closing.word ≡ 1 → closing.hash ≡ log_hash (Clock 1 0 ∷ [])
-    → ¬ Proves ms (record { node = node; charge = Replay (one_reading node closing) })
+    → ¬ Proves ms (record { node = node; charge = Replay (one_reading v node closing) })
+
+-- ---- replays of logs of version 1
+
+-- A closed segment of a log of version 1 of a node, from the first entry on, in which a replay finds a fault.
+pub record FindsFault (ms : List Member) (node : ℕ) (s : SegmentParts) : Type 0 where
+  pub of_node : s.node ≡ node
+  pub first : s.first ≡ 1
+  pub opening : s.opening ≡ zeros
+  pub closed : IsClosed ms s
+  pub member : Member
+  pub is_member : member_of ms node ≡ Some member
+  pub fault : ReplayFault
+  pub number : ℕ
+  pub found : segment_verdict ms (opening_of member) s ≡ Fault fault number
+
+-- It is accepted as a segment that skips nothing, exactly where it finds one.
+abbrev pub ReplaysWithoutGaps : Type 0
+ReplaysWithoutGaps =
+    (ms : List Member) (node : ℕ) (s : SegmentParts)
+    → FindsFault ms node s ↔ AcceptsReplay ms node (of_plain s)
+
+-- And its text is the one that it has as a segment of a log of version 1.
+abbrev pub TextsWithoutGaps : Type 0
+TextsWithoutGaps = (s : SegmentParts) → versioned_value One (of_plain s) ≡ segment_value s

@@ -20,6 +20,7 @@ use Rattle.replay_spec.specs.secure_log.LogEntries.Chain.{IsAmong}
 use Rattle.replay_spec.specs.secure_log.LogEntries.Chain.{Link, Logged, logged_links, marks, pairs, span}
 use Rattle.replay_spec.specs.secure_log.Log.{log_pairs}
 use Rattle.replay_spec.specs.secure_log.Segment.{SegmentParts}
+use Rattle.replay_spec.specs.secure_log.Versioned.{VersionedParts, versioned_links}
 use Rattle.replay_spec.specs.state_spec.State.{State}
 use Rattle.replay_spec.specs.Bodies.{HasBytes}
 use Rattle.replay_spec.specs.Opening.{opening_of}
@@ -89,9 +90,14 @@ log_texts entries = hashed_texts 1 zeros entries
 abbrev pub texts_of : List Logged → List (List ℕ)
 texts_of log = chain_texts zeros (log_links log) ++ flat_map (λ l. entry_texts l.entry) log
 
--- the texts that are hashed for a segment
+-- the texts that are hashed for a segment of a log of version 1
 abbrev pub segment_texts : SegmentParts → List (List ℕ)
 segment_texts s = hashed_texts s.first s.opening s.entries
+
+-- the texts that are hashed for a segment of a log of either version
+abbrev pub versioned_texts : VersionedParts → List (List ℕ)
+versioned_texts s =
+    chain_texts s.opening (versioned_links s) ++ flat_map (λ l. entry_texts l.entry) s.entries
 
 -- a showing has texts of its chain alone
 abbrev pub showing_texts : ShowingParts → List (List ℕ)
@@ -105,7 +111,7 @@ option_texts (Some s) = showing_texts s
 -- the texts of a fork's showings, or of a replay's segment
 abbrev pub charge_texts : Charge → List (List ℕ)
 charge_texts (Fork f) = showing_texts f.a ++ option_texts f.b
-charge_texts (Replay s) = segment_texts s
+charge_texts (Replay s) = versioned_texts s
 
 -- ---- what is signed
 

@@ -6,7 +6,7 @@ ghost use Rattle.evidence_spec.specs.Laws.{SegmentsGoOnSound};
 ghost use Rattle.evidence_spec.specs.Laws.{ContentsGiveEntriesBack, AcceptedEvidenceProves};
 ghost use Rattle.evidence_spec.specs.Laws.{AuthenticatorsShowOnePair, SegmentsShowTheirPairs};
 ghost use Rattle.evidence_spec.specs.Laws.{OwnTextsProveNothing, UnsignedProveNothing};
-ghost use Rattle.evidence_spec.specs.Laws.{OneReadingProvesNothing};
+ghost use Rattle.evidence_spec.specs.Laws.{OneReadingProvesNothing, ReplaysWithoutGaps, TextsWithoutGaps};
 
 /// A log has one hash at each number, and one whose numbers have gaps one mark: a hash, or that no entry has
 /// it.
@@ -37,9 +37,7 @@ pub fn contents_give_entries_back()
 /// texts have one digest.
 pub fn accepted_evidence_proves()
     ensures { AcceptedEvidenceProves }
-{
-    a_segment_after_a_reached_place_is_sound();
-}
+{}
 
 /// A signed authenticator alone, and the links of a closed segment, are closed showings, of that pair and of
 /// the segment's.
@@ -54,4 +52,11 @@ pub fn what_proves_nothing()
     ensures own { OwnTextsProveNothing }
     ensures unsigned { UnsignedProveNothing }
     ensures reading { OneReadingProvesNothing }
+{}
+
+/// A closed segment of a log of version 1, as one that skips nothing, is accepted as a replay exactly where
+/// it is from the first entry on and a replay finds a fault; and it has the same text.
+pub fn replays_without_gaps()
+    ensures accepted { ReplaysWithoutGaps }
+    ensures text { TextsWithoutGaps }
 {}

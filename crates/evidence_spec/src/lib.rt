@@ -5,4 +5,4 @@ pub mod laws;
 mod limits;
 
 pub use limits::MAX_AUDITED;
-pub use replay_spec::{ClosedSegment, Entry, MAX_ENTRIES, copy_of, link_hash};
+pub use replay_spec::{ClosedSegment, Entry, MAX_ENTRIES, MAX_SKIPPED, copy_of, link_hash};

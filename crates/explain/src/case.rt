@@ -1,17 +1,15 @@
 //! What a file shows, in words.
 
-ghost use Rattle.std.specs.Prelude.{◌≤◌, length};
-ghost use Rattle.challenge.specs.evidence_spec.Evidence.{MAX_AUDITED};
-
-use crate::entry::{Log, add_all_entries};
+use crate::entry::add_all_entries;
 use crate::facts::Facts;
 use crate::file::File;
 use crate::fork::{add_closing, add_showings, fork_words};
 use crate::lack::lack_of;
 use crate::log::{add_fault, add_premises};
+use crate::places::Log;
 use crate::roster::{accused_fact, add_digest, add_roster};
 use crate::state::{add_no_state, add_state};
-use challenge::{AuditedLog, Case, Charge, Evidence, Finding, Fork, Mark, ReplayFault};
+use challenge::{Case, Charge, Evidence, Finding, Fork, Mark, ReplayFault};
 use secure_log::{LogVersion, Roster};
 use std::alloc::Global;
 
@@ -83,30 +81,31 @@ fn add_case(facts: &mut Facts, file: &File, case: &Case, trusted: Option<&Roster
         }
         Charge::Replay(log) => {
             facts.words("charge", "its log has a fault");
-            add_log(facts, &case.roster, log);
-            add_detail(facts, &case.roster, log, detail);
+            let log = Log::new(&case.roster, log);
+            add_log(facts, &log);
+            add_detail(facts, &log, detail);
         }
     }
 }
 
 /// Adds which entries a log has, and what closes it.
-fn add_log(facts: &mut Facts, roster: &Roster, log: &AuditedLog) {
+fn add_log(facts: &mut Facts, log: &Log<'_>) {
     facts.group("log");
     facts.number("node", u64::from(log.node()));
-    facts.place("first", log.first().get());
-    facts.hex("hash before it", &log.opening());
+    facts.place("first", log.audited.first().get());
+    facts.hex("hash before it", &log.audited.opening());
     facts.number("count", log.entries().len() as u64);
     add_contents(facts, log);
-    add_closing(facts, roster, LogVersion::One, log.closing());
+    add_closing(facts, log.roster, log.version(), log.audited.closing());
     facts.end();
 }
 
 /// Adds which entries a file has, and what follows from them.
-fn add_contents(facts: &mut Facts, log: &AuditedLog) {
+fn add_contents(facts: &mut Facts, log: &Log<'_>) {
     let mut draft = facts.draft();
-    if log.first().get() == 1 {
+    if log.audited.first().get() == 1 {
         draft.words("all entries from 1 to ");
-        draft.number(log.entries().len() as u64);
+        draft.number(log.last_number());
         draft.words(
             ", which --entries lists; what is owed at an entry follows from those before it, and ",
         );
@@ -117,27 +116,13 @@ fn add_contents(facts: &mut Facts, log: &AuditedLog) {
     facts.text("contents", draft);
 }
 
-/// A log with what the roster says of its node.
-fn log_of<'a>(roster: &'a Roster, audited: &'a AuditedLog) -> Log<'a>
-    ensures { length result.entries.now ≤ MAX_AUDITED }
-{
-    Log {
-        roster,
-        node: audited.node(),
-        member: roster.member(audited.node()),
-        first: audited.first(),
-        entries: audited.entries(),
-    }
-}
-
 /// Adds what is asked of a log.
-fn add_detail(facts: &mut Facts, roster: &Roster, audited: &AuditedLog, detail: Detail) {
-    let log = log_of(roster, audited);
+fn add_detail(facts: &mut Facts, log: &Log<'_>, detail: Detail) {
     if detail.entries {
-        add_all_entries(facts, &log, &audited.opening());
+        add_all_entries(facts, log);
     }
-    if audited.first().get() == 1 {
-        add_state(facts, &log, detail.state);
+    if log.audited.first().get() == 1 {
+        add_state(facts, log, detail.state);
     } else {
         add_no_state(facts, detail.state);
     }
@@ -159,7 +144,7 @@ fn add_finding(facts: &mut Facts, roster: &Roster, evidence: &Evidence, finding:
         }
         Finding::Fault(fault, number) => {
             if let Charge::Replay(log) = evidence.charge() {
-                add_found_fault(facts, roster, log, fault, number.get());
+                add_found_fault(facts, &Log::new(roster, log), fault, number.get());
             }
         }
         Finding::NotAccepted(why) => add_reason(facts, lack_of(roster, evidence, why).words()),
@@ -167,14 +152,8 @@ fn add_finding(facts: &mut Facts, roster: &Roster, evidence: &Evidence, finding:
 }
 
 /// Adds a fault that a replay finds in the log of a node.
-fn add_found_fault(
-    facts: &mut Facts,
-    roster: &Roster,
-    audited: &AuditedLog,
-    fault: ReplayFault,
-    number: u64,
-) {
-    add_fault(facts, &log_of(roster, audited), fault, number);
+fn add_found_fault(facts: &mut Facts, log: &Log<'_>, fault: ReplayFault, number: u64) {
+    add_fault(facts, log, fault, number);
     add_premises(
         facts,
         "the rules of docs/CHECKING.md, which stand on RFC 1094, RFC 4506 and RFC 5531",

@@ -1,10 +1,8 @@
 //! What was owed at a faulty entry, and what was given.
 
-ghost use Rattle.std.specs.Prelude.{◌≤◌, length};
-ghost use Rattle.challenge.specs.evidence_spec.Evidence.{MAX_AUDITED};
-
-use crate::entry::{Log, add_signed_digest, add_verdict, call_before, kind_name, reply_group};
+use crate::entry::{add_signed_digest, add_verdict, call_before, kind_name, reply_group};
 use crate::facts::Facts;
+use crate::places::Log;
 use crate::roster::node_fact;
 use challenge::{Outcome, ReplayFault, opening_state, replay_outcome};
 use checkpoint::{Machine, SentMessage, Stage, State, state_digest};
@@ -13,9 +11,7 @@ use secure_log::{Number, Roster, Word};
 use std::alloc::{AllocError, Global};
 
 /// Adds what was owed at a faulty entry, and what was given.
-pub(crate) fn add_comparison(facts: &mut Facts, log: &Log<'_>, fault: ReplayFault, at: usize)
-    requires { length log.now.entries.now ≤ MAX_AUDITED }
-{
+pub(crate) fn add_comparison(facts: &mut Facts, log: &Log<'_>, fault: ReplayFault, at: usize) {
     match state_before(facts.alloc(), log, at) {
         Ok(Some(state)) => compare(facts, log, fault, at, &state),
         Ok(None) => {}
@@ -28,15 +24,16 @@ pub(crate) fn state_before(
     alloc: Global,
     log: &Log<'_>,
     at: usize,
-) -> Result<Option<State>, AllocError>
-    requires { length log.now.entries.now ≤ MAX_AUDITED }
-{
+) -> Result<Option<State>, AllocError> {
     let Some(member) = log.member else {
         return Ok(None);
     };
-    let entries = &log.entries[..at.min(log.entries.len())];
     let start = opening_state(alloc, &member)?;
-    match replay_outcome(alloc, log.roster, start, Number::new(1), &[0; 32], entries)? {
+    log.audited.fits();
+    let first = Number::new(1);
+    let skips = log.audited.skips();
+    let entries = &log.entries()[..at.min(log.entries().len())];
+    match replay_outcome(alloc, log.roster, start, first, &[0; 32], skips, entries)? {
         Outcome::Sound(state) => Ok(Some(state)),
         Outcome::Fault(..) => Ok(None),
     }
@@ -44,7 +41,7 @@ pub(crate) fn state_before(
 
 /// Adds what was owed after a state, and what the entry there gives.
 fn compare(facts: &mut Facts, log: &Log<'_>, fault: ReplayFault, at: usize, state: &State) {
-    let Some(entry) = log.entries.get(at) else {
+    let Some(entry) = log.entries().get(at) else {
         return;
     };
     match fault {
@@ -112,7 +109,7 @@ fn compare_senders(facts: &mut Facts, log: &Log<'_>, entry: &Entry) {
     let Entry::Recv { from, .. } = entry else {
         return;
     };
-    let given = if *from == log.node {
+    let given = if *from == log.node() {
         "a message whose sender is the node itself"
     } else if log.roster.member(*from).is_none() {
         "a message whose sender is no member of the roster"
@@ -161,14 +158,14 @@ fn add_receipt(facts: &mut Facts, log: &Log<'_>, sent: &SentMessage, entry: &Ent
     facts.hex("hash before its SEND", sent.prev());
     facts.hex("digest of its body", sent.body_hash());
     let receipt = Receipt {
-        from: log.node,
+        from: log.node(),
         seq: *seq,
         sender_prev: *sent.prev(),
         body: *sent.body_hash(),
         signature: *mine,
     };
     let hash = receipt_hash(&receipt, *number, prev);
-    add_receipt_hash(facts, log.node, *seq, *number, &hash);
+    add_receipt_hash(facts, log.node(), *seq, *number, &hash);
     add_signed_digest(facts, *to, *number, &hash, "hash there");
     add_verdict(
         facts,
@@ -196,11 +193,11 @@ fn add_receipt_hash(facts: &mut Facts, from: u32, seq: Word, number: Word, hash:
 
 /// Adds the reply that was owed and what was given, and the first byte that differs.
 fn compare_replies(facts: &mut Facts, log: &Log<'_>, at: usize, state: &State, entry: &Entry) {
-    let call = call_before(log.entries, at);
+    let call = call_before(log.entries(), at);
     match state.machine() {
         Machine::Server(_, Stage::Owes { to, body }) => {
             node_fact(facts, "owed to", log.roster, *to);
-            reply_group(facts, "owed", log.node, call, body.bytes());
+            reply_group(facts, "owed", log.node(), call, body.bytes());
             add_given(facts, log, call, entry);
             if let Entry::Send {
                 to: receiver,
@@ -228,7 +225,7 @@ fn add_given(facts: &mut Facts, log: &Log<'_>, call: &[u8], entry: &Entry) {
     match entry {
         Entry::Send { to, body } => {
             node_fact(facts, "given to", log.roster, *to);
-            reply_group(facts, "given", log.node, call, body.bytes());
+            reply_group(facts, "given", log.node(), call, body.bytes());
         }
         _ => facts.words("given", kind_name(entry.kind())),
     }

@@ -1,10 +1,11 @@
 //! Where bytes stop being a roster's text with that of evidence after it.
 
-ghost use Rattle.std.specs.Prelude.{◌<◌, ◌^◌};
+ghost use Rattle.std.specs.Prelude.{◌≡◌, ◌+◌, ◌/◌, ◌<◌, ◌^◌, IfNone, IfSome, false, true};
+ghost use Rattle.secure_log.specs.LogEntries.Words.{follows};
 
 use authenticator::{MAX_MEMBERS, MAX_NODE, SECOND_FORM};
-use secure_log::MAX_ENTRIES;
-use secure_log::log_entries::MAX_BODY;
+use secure_log::log_entries::{MAX_BODY, following};
+use secure_log::{MAX_ENTRIES, Word};
 use xdr::Reader;
 
 /// The greatest height of a member's tree, and the most hashes in a signature's path.
@@ -16,18 +17,16 @@ const ENTRIES: u32 = 65536;
 /// The greatest number of a place, or word of an entry: any but the greatest of 64 bits.
 const PLACE: u64 = u64::MAX - 1;
 
-/// The most numbers that are skipped just before an entry.
-const SKIPPED: u64 = 64;
-
-/// The number of an entry whose word follows on the number before it, if it does: the low half of the word,
-/// and the high half is how many numbers are skipped between the two.
-fn following(before: u64, word: u64) -> Option<u64> {
-    let skipped = word >> 32;
-    let number = before.checked_add(1)?.checked_add(skipped)?;
-    if skipped > SKIPPED || word & 0xffff_ffff != number {
+/// The number of an entry whose word of 64 bits follows on the number before it, if it does.
+fn number_in(before: u64, word: u64) -> Option<u64>
+    ensures some { IfSome result (λ number. (follows before word ≡ true)
+        × (number ≡ before + 1 + word / 2 ^ 32)) }
+    ensures none { IfNone result (follows before word ≡ false) }
+{
+    if word > PLACE {
         return None;
     }
-    Some(number)
+    following(before, Word::new(word))
 }
 
 /// Where the first item begins that doesn't decode, by the rules of docs/CHECKING.md, if there is one. Bytes
@@ -82,7 +81,7 @@ impl<'a> Passing<'a> {
     fn entry_word(&mut self, before: u64) -> u64 {
         let start = self.reader.rest();
         let number = match self.reader.u64() {
-            Ok(word) if !self.has_stopped => following(before, word),
+            Ok(word) if !self.has_stopped => number_in(before, word),
             _ => None,
         };
         match number {
@@ -113,10 +112,11 @@ impl<'a> Passing<'a> {
     fn case(&mut self) {
         self.roster();
         self.word(0, u32::MAX);
-        match self.word(1, 3) {
+        match self.word(1, 4) {
             1 => self.fork(),
             2 => self.log(),
             3 => self.fork_with_gaps(),
+            4 => self.log_with_gaps(),
             _ => {}
         }
     }
@@ -236,6 +236,18 @@ impl<'a> Passing<'a> {
         self.number(1, PLACE);
         self.fixed::<32>();
         for _ in 0..self.word(1, ENTRIES) {
+            self.entry();
+        }
+        self.authenticator();
+    }
+
+    /// Passes a log of version 2: the number before it, and each entry after its word.
+    fn log_with_gaps(&mut self) {
+        self.word(0, u32::MAX);
+        let mut before = self.number(0, PLACE);
+        self.fixed::<32>();
+        for _ in 0..self.word(1, ENTRIES) {
+            before = self.entry_word(before);
             self.entry();
         }
         self.authenticator();

@@ -2,31 +2,12 @@
 
 use crate::call::add_call;
 use crate::facts::Facts;
+use crate::places::{Log, add_number, add_word};
 use crate::reply::add_reply;
 use crate::roster::{add_number_there, node_fact};
 use authenticator::{Signature, signed_digest};
-use secure_log::log_entries::{Body, Entry, SignatureText, entry_hash, message_hash};
-use secure_log::{Kind, LogVersion, Member, Number, Roster, Word, is_signed};
-
-/// The log that entries are of.
-#[derive(Clone, Copy)]
-pub(crate) struct Log<'a> {
-    pub roster: &'a Roster,
-    /// The node that keeps it.
-    pub node: u32,
-    /// What the roster says of that node, if it is a member.
-    pub member: Option<Member>,
-    /// The number of the first entry.
-    pub first: Number,
-    pub entries: &'a [Entry],
-}
-
-impl Log<'_> {
-    /// What the node is, if the roster says so.
-    fn kind(&self) -> Option<Kind> {
-        Some(self.member?.kind)
-    }
-}
+use secure_log::log_entries::{Body, Entry, SignatureText, link_hash, message_hash};
+use secure_log::{Kind, Roster, Word, is_signed};
 
 /// The names of the kinds of entries, by their numbers.
 pub(crate) fn kind_name(kind: u32) -> &'static str {
@@ -42,32 +23,42 @@ pub(crate) fn kind_name(kind: u32) -> &'static str {
 
 /// Adds the entry at a place of a log, as an item: all that it says.
 pub(crate) fn add_entry(facts: &mut Facts, log: &Log<'_>, at: usize) {
-    let Some(entry) = log.entries.get(at) else {
+    let Some(entry) = log.entries().get(at) else {
         return;
     };
     facts.item();
+    add_number(facts, log.number(at), log.skipped(at));
     add_content(facts, log, at, entry);
     facts.end();
 }
 
 /// Adds all entries of a log, each with the hash after it.
-pub(crate) fn add_all_entries(facts: &mut Facts, log: &Log<'_>, opening: &[u8; 32]) {
-    let mut hash = *opening;
+pub(crate) fn add_all_entries(facts: &mut Facts, log: &Log<'_>) {
+    let mut hash = log.audited.opening();
+    let mut numbers = log.numbers();
     facts.list("all entries");
-    for at in 0..log.entries.len() {
-        let number = log.first.get().saturating_add(at as u64);
-        hash = entry_hash(&hash, number, &log.entries[at]);
+    for at in 0..log.entries().len() {
+        let entry = &log.entries()[at];
+        let skipped = log.skipped(at);
+        let number = numbers.after(skipped);
+        hash = hash_after(&hash, number, skipped, entry);
         facts.item();
-        add_content(facts, log, at, &log.entries[at]);
+        add_number(facts, number, skipped);
+        add_content(facts, log, at, entry);
         facts.hex("hash after it", &hash);
         facts.end();
     }
     facts.end();
 }
 
+/// The hash after an entry with a number, before which so many are skipped, from the hash before it.
+fn hash_after(before: &[u8; 32], number: Option<u64>, skipped: u32, entry: &Entry) -> [u8; 32] {
+    let word = number.unwrap_or(u64::MAX) | (u64::from(skipped) << 32);
+    link_hash(before, word, entry.kind(), &entry.content_digest())
+}
+
 /// Adds what an entry at a place says.
 fn add_content(facts: &mut Facts, log: &Log<'_>, at: usize, entry: &Entry) {
-    add_number(facts, log.first.get().checked_add(at as u64));
     facts.words("kind", kind_name(entry.kind()));
     match entry {
         Entry::Send { to, body } => {
@@ -81,15 +72,6 @@ fn add_content(facts: &mut Facts, log: &Log<'_>, at: usize, entry: &Entry) {
             microseconds,
         } => facts.time("time", *seconds, *microseconds),
         Entry::Check { digest } => facts.hex("digest", digest),
-    }
-}
-
-/// Adds the number of an entry or a link. One that stands too high has none of 64 bits: then nothing closes
-/// what is shown.
-pub(crate) fn add_number(facts: &mut Facts, number: Option<u64>) {
-    match number {
-        Some(number) => facts.place("number", number),
-        None => facts.words("number", "above 18446744073709551615"),
     }
 }
 
@@ -112,11 +94,11 @@ fn add_received(facts: &mut Facts, log: &Log<'_>, entry: &Entry) {
     } else {
         "body"
     };
-    let hash = message_hash(log.node, *seq, prev, &body.digest());
-    add_message_hash(facts, log.node, *seq, name, &hash);
+    let hash = message_hash(log.node(), *seq, prev, &body.digest());
+    add_message_hash(facts, log.node(), *seq, name, &hash);
     add_signature(facts, log.roster, *from, *seq, &hash, signature);
     match log.kind() {
-        Some(Kind::Server) => call_group(facts, log.node, body.bytes()),
+        Some(Kind::Server) => call_group(facts, log.node(), body.bytes()),
         _ => facts.hex("body", body.bytes()),
     }
 }
@@ -135,7 +117,7 @@ fn add_acknowledgement(facts: &mut Facts, log: &Log<'_>, entry: &Entry) {
         return;
     };
     node_fact(facts, "of message to", log.roster, *to);
-    facts.place("its number", seq.number(LogVersion::One).get());
+    add_word(facts, "its number", "its skipped", log.version(), seq.get());
     facts.hex("digest of its signature", mine);
     add_place_there(facts, log.roster, *to, *number, prev);
     facts.number("leaf", u64::from(signature.signature().leaf()));
@@ -217,8 +199,8 @@ pub(crate) fn add_verdict(
 fn add_sent(facts: &mut Facts, log: &Log<'_>, at: usize, to: u32, body: &Body) {
     match log.kind() {
         Some(Kind::Server) => {
-            let call = call_before(log.entries, at);
-            reply_group(facts, "reply", log.node, call, body.bytes());
+            let call = call_before(log.entries(), at);
+            reply_group(facts, "reply", log.node(), call, body.bytes());
         }
         Some(Kind::Client) => call_group(facts, to, body.bytes()),
         None => facts.hex("body", body.bytes()),

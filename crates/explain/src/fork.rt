@@ -1,10 +1,11 @@
 //! Two logs of a node, in words.
 
-use crate::entry::{add_number, add_signed_digest, add_verdict, kind_name};
+use crate::entry::{add_signed_digest, add_verdict, kind_name};
 use crate::facts::Facts;
+use crate::places::{Numbers, add_number, add_word};
 use crate::roster::node_fact;
 use challenge::{Fork, Showing, ShownLink};
-use secure_log::{Authenticator, LogVersion, Roster, Word};
+use secure_log::{Authenticator, LogVersion, Roster};
 
 /// What a fork charges a node with: by one showing alone it is another one.
 pub(crate) fn fork_words(fork: &Fork) -> &'static str {
@@ -44,43 +45,20 @@ fn add_showing(facts: &mut Facts, roster: &Roster, version: LogVersion, showing:
 /// Adds a showing's links, by their numbers.
 fn add_links(facts: &mut Facts, showing: &Showing) {
     facts.list("links");
-    let mut next = Some(showing.first());
+    let mut numbers = Numbers::from(showing.first());
     for link in showing.links() {
-        let number = number_after(next, u64::from(link.skipped()));
+        let number = numbers.after(link.skipped());
         add_link(facts, number, link);
-        next = number_after(number, 1);
     }
     facts.end();
-}
-
-/// The number so many after another, if it has 64 bits.
-fn number_after(number: Option<u64>, count: u64) -> Option<u64> {
-    match number {
-        Some(number) => number.checked_add(count),
-        None => None,
-    }
 }
 
 fn add_link(facts: &mut Facts, number: Option<u64>, link: &ShownLink) {
     facts.item();
-    add_number(facts, number);
-    add_skipped(facts, link.skipped());
+    add_number(facts, number, link.skipped());
     facts.words("kind", kind_name(link.kind().number()));
     facts.hex("digest of its content", link.content());
     facts.end();
-}
-
-/// Adds how many numbers are skipped just before an entry, if any are.
-fn add_skipped(facts: &mut Facts, skipped: u32) {
-    if skipped != 0 {
-        facts.number("skipped", u64::from(skipped));
-    }
-}
-
-/// Adds the number in the word of an entry of a log of this version, and how many numbers it skips.
-fn add_word(facts: &mut Facts, version: LogVersion, word: Word) {
-    facts.place("number", word.number(version).get());
-    add_skipped(facts, word.skipped(version));
 }
 
 /// Adds what closes a log of this version or a part of one: what it says, who is to have signed it, and
@@ -93,7 +71,7 @@ pub(crate) fn add_closing(
 ) {
     facts.group("closing");
     facts.number("node", u64::from(closing.node));
-    add_word(facts, version, closing.word);
+    add_word(facts, "number", "skipped", version, closing.word.get());
     facts.hex("hash", &closing.hash);
     add_signed_digest(facts, closing.node, closing.word, &closing.hash, "hash");
     facts.number("leaf", u64::from(closing.signature.leaf()));

@@ -2,6 +2,7 @@
 
 ghost use Rattle.std.specs.Prelude.{◌≡◌, ◌↔◌, IsTrue, List};
 ghost use Rattle.authenticator.specs.declared.member.Member.{Member};
+ghost use Rattle.challenge.specs.evidence_spec.Evidence.{charge_version};
 ghost use Rattle.challenge.specs.declared.finding.NotAccepted.TheVariants.{NoTwoMarks};
 ghost use Rattle.explain.specs.Lacks.{BeginsAtZero, HasNoKey, IsLack, IsZeroFork, lacking};
 
@@ -19,7 +20,8 @@ pub enum Lack {
     NotFromStart,
     /// A showing begins at 0: there is no entry of that number.
     BeginsAtZero,
-    /// What is shown doesn't end in its closing's node, number and hash.
+    /// What is shown skips what a log of its version may not, or doesn't end in its closing's node, word and
+    /// hash; without links, in its closing's node, number and hash.
     NotClosed,
     /// The roster has no key of the node, so nothing says who signed.
     NoKey,
@@ -70,14 +72,24 @@ pub fn lack_of(roster: &Roster, evidence: &Evidence, why: NotAccepted) -> Lack
     }
 }
 
-/// What a fork lacks that shows no two marks: in a log of version 1 each mark is a hash.
+/// What is lacking where no two marks are shown: in a log of version 1 each mark is a hash.
 fn no_two(evidence: &Evidence) -> Lack
     ensures same { lacking result ≡ NoTwoMarks }
     ensures more { (ms : List Member) → IsLack ms evidence.now result }
 {
+    match shown_version(evidence) {
+        LogVersion::One => Lack::NoTwoHashes,
+        LogVersion::Two => Lack::NoTwoMarks,
+    }
+}
+
+/// The version of the log that evidence shows.
+fn shown_version(evidence: &Evidence) -> LogVersion
+    ensures { result ≡ charge_version evidence.now.charge }
+{
     match evidence.charge() {
-        Charge::Fork(fork) if fork.log_version == LogVersion::Two => Lack::NoTwoMarks,
-        _ => Lack::NoTwoHashes,
+        Charge::Fork(fork) => fork.log_version,
+        Charge::Replay(log) => log.log_version(),
     }
 }
 

@@ -14,6 +14,7 @@ mod fork;
 mod lack;
 mod log;
 mod names;
+mod places;
 mod procedures;
 mod reply;
 mod roster;

@@ -1,13 +1,10 @@
 //! A fault in a log, in words.
 
-ghost use Rattle.std.specs.Prelude.{◌≤◌, length};
-ghost use Rattle.challenge.specs.evidence_spec.Evidence.{MAX_AUDITED};
-
 use crate::comparison::add_comparison;
-use crate::entry::{Log, add_entry};
+use crate::entry::add_entry;
 use crate::facts::Facts;
+use crate::places::Log;
 use challenge::ReplayFault;
-use secure_log::LogVersion;
 use secure_log::log_entries::Entry;
 
 /// The name of a fault in the rules of a replay.
@@ -40,34 +37,23 @@ fn fault_words(fault: ReplayFault) -> &'static str {
 
 /// Adds the fault that the entry of a number has: the entries that it concerns, and what was owed and given
 /// there.
-pub(crate) fn add_fault(facts: &mut Facts, log: &Log<'_>, fault: ReplayFault, number: u64)
-    requires { length log.now.entries.now ≤ MAX_AUDITED }
-{
+pub(crate) fn add_fault(facts: &mut Facts, log: &Log<'_>, fault: ReplayFault, number: u64) {
     facts.group("fault");
     facts.number("fault", u64::from(fault.number()));
     facts.words("name", fault_name(fault));
     facts.words("meaning", fault_words(fault));
     facts.place("entry", number);
     facts.end();
-    if let Some(at) = place_of(number, log.entries) {
+    if let Some(at) = log.place_of(number) {
         add_concerned(facts, log, fault, at);
         add_comparison(facts, log, fault, at);
     }
 }
 
-/// Where the entry with a number stands among entries from the first on.
-fn place_of(number: u64, entries: &[Entry]) -> Option<usize> {
-    let at = usize::try_from(number.checked_sub(1)?).ok()?;
-    if at >= entries.len() {
-        return None;
-    }
-    Some(at)
-}
-
 /// Adds the entries that a fault concerns, the faulty one last.
 fn add_concerned(facts: &mut Facts, log: &Log<'_>, fault: ReplayFault, at: usize) {
     facts.list("entries");
-    if let Some(earlier) = earlier(fault, log.entries, at) {
+    if let Some(earlier) = earlier(fault, log, at) {
         add_entry(facts, log, earlier);
     }
     for before in first_concerned(fault, at)..at {
@@ -86,22 +72,21 @@ fn first_concerned(fault: ReplayFault, at: usize) -> usize {
 }
 
 /// An earlier entry that a faulty one stands against, if there is one.
-fn earlier(fault: ReplayFault, entries: &[Entry], at: usize) -> Option<usize> {
+fn earlier(fault: ReplayFault, log: &Log<'_>, at: usize) -> Option<usize> {
     match fault {
-        ReplayFault::Repeated => same_message(entries, at),
-        ReplayFault::ClockBack => last_clock(entries, at),
-        ReplayFault::BadAck => acknowledged(entries, at),
+        ReplayFault::Repeated => same_message(log.entries(), at),
+        ReplayFault::ClockBack => last_clock(log.entries(), at),
+        ReplayFault::BadAck => acknowledged(log, at),
         _ => None,
     }
 }
 
 /// The place of the message that an entry acknowledges, if it stands before.
-fn acknowledged(entries: &[Entry], at: usize) -> Option<usize> {
-    let Some(Entry::Ack { seq, .. }) = entries.get(at) else {
+fn acknowledged(log: &Log<'_>, at: usize) -> Option<usize> {
+    let Some(Entry::Ack { seq, .. }) = log.entries().get(at) else {
         return None;
     };
-    let number = seq.number(LogVersion::One).get();
-    let place = usize::try_from(number.checked_sub(1)?).ok()?;
+    let place = log.place_of(seq.number(log.version()).get())?;
     if place < at { Some(place) } else { None }
 }
 

@@ -2,6 +2,7 @@
 
 use crate::draft::Draft;
 use crate::facts::Facts;
+use crate::places::add_word;
 use secure_log::{Kind, LogVersion, Member, Roster};
 use sha2::{Digest, Sha256};
 use std::alloc::{AllocError, Global};
@@ -103,15 +104,12 @@ fn add_node(draft: &mut Draft, roster: &Roster, node: u32) {
 /// the number is the lower half of what stands for it, and the upper half is how many numbers are skipped
 /// just before it, which is said if there are any.
 pub(crate) fn add_number_there(facts: &mut Facts, roster: &Roster, node: u32, word: u64) {
-    if roster.keeps_version(node, LogVersion::One) {
-        facts.place("number there", word);
-        return;
-    }
-    facts.place("number there", word & 0xffff_ffff);
-    let skipped = word >> 32;
-    if skipped != 0 {
-        facts.number("skipped there", skipped);
-    }
+    let version = if roster.keeps_version(node, LogVersion::One) {
+        LogVersion::One
+    } else {
+        LogVersion::Two
+    };
+    add_word(facts, "number there", "skipped there", version, word);
 }
 
 fn kind_words(kind: Kind) -> &'static str {

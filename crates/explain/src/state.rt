@@ -1,11 +1,9 @@
 //! The state of a node before an entry, in words.
 
-ghost use Rattle.std.specs.Prelude.{◌≤◌, length};
-ghost use Rattle.challenge.specs.evidence_spec.Evidence.{MAX_AUDITED};
-
 use crate::comparison::state_before;
-use crate::entry::{Log, call_before, call_group, reply_group};
+use crate::entry::{call_before, call_group, reply_group};
 use crate::facts::Facts;
+use crate::places::{Log, add_word};
 use crate::roster::{add_number_there, node_fact};
 use checkpoint::parts::{
     MachinePart, MountPart, PartsFault, StagePart, StatePart, WorldPart, read_parts,
@@ -17,9 +15,7 @@ use std::alloc::AllocError;
 use tree_rules::GivenEntry;
 
 /// Adds the state before the entry with a number, if one is asked for.
-pub(crate) fn add_state(facts: &mut Facts, log: &Log<'_>, number: Option<u64>)
-    requires { length log.now.entries.now ≤ MAX_AUDITED }
-{
+pub(crate) fn add_state(facts: &mut Facts, log: &Log<'_>, number: Option<u64>) {
     let Some(number) = number else {
         return;
     };
@@ -40,16 +36,14 @@ pub(crate) fn add_no_state(facts: &mut Facts, number: Option<u64>) {
 }
 
 /// Adds the state before the entry with a number, or why there is none.
-fn add_state_before(facts: &mut Facts, log: &Log<'_>, number: u64)
-    requires { length log.now.entries.now ≤ MAX_AUDITED }
-{
-    let at = number.saturating_sub(1);
-    if at > log.entries.len() as u64 {
+fn add_state_before(facts: &mut Facts, log: &Log<'_>, number: u64) {
+    if number > log.last_number().saturating_add(1) {
         facts.words("none", "the file does not have all entries before it");
         return;
     }
-    match state_before(facts.alloc(), log, at as usize) {
-        Ok(Some(state)) => add_whole(facts, log, at as usize, &state),
+    let at = log.count_below(number);
+    match state_before(facts.alloc(), log, at) {
+        Ok(Some(state)) => add_whole(facts, log, at, &state),
         Ok(None) if log.member.is_none() => {
             facts.words("none", "the roster does not say what the node is");
         }
@@ -113,7 +107,7 @@ fn add_sent(facts: &mut Facts, log: &Log<'_>, parts: &StatePart<'_>) {
     facts.list("sent without acknowledgement");
     for send in &parts.sends {
         facts.item();
-        facts.place("number", send.seq);
+        add_word(facts, "number", "skipped", log.version(), send.seq);
         node_fact(facts, "to", log.roster, send.message.to());
         facts.hex("hash before its SEND", send.message.prev());
         facts.hex("digest of its body", send.message.body_hash());
@@ -143,12 +137,13 @@ fn add_stage(facts: &mut Facts, log: &Log<'_>, at: usize, stage: &StagePart<'_>)
         StagePart::Heard { from, body } => {
             facts.words("stage", "it heard a message");
             node_fact(facts, "from", log.roster, *from);
-            call_group(facts, log.node, body);
+            call_group(facts, log.node(), body);
         }
         StagePart::Owes { to, body } => {
             facts.words("stage", "it owes a reply");
             node_fact(facts, "to", log.roster, *to);
-            reply_group(facts, "reply", log.node, call_before(log.entries, at), body);
+            let call = call_before(log.entries(), at);
+            reply_group(facts, "reply", log.node(), call, body);
         }
     }
 }

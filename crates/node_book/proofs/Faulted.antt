@@ -9,6 +9,7 @@ use Rattle.std.proofs.Math.Seq.{take-append_seam}
 use Rattle.authenticator.specs.declared.authenticator.Authenticator.{Authenticator}
 use Rattle.secure_log.specs.LogEntries.Chain.{IsAmong, zeros}
 use Rattle.secure_log.specs.Segment.{SegmentParts, ClosedParts}
+use Rattle.secure_log.specs.Versioned.{of_plain}
 use Rattle.witness_spec.specs.state_spec.State.{State}
 use Rattle.evidence_spec.specs.Evidence.{EvidenceParts, Replay}
 use Rattle.evidence_spec.specs.replay_spec.Replay.{Sound}
@@ -100,24 +101,24 @@ faulted_shows b c fits limits out =
 pub exposed_by : (b : Book) (c : ClosedParts) (before : ℕ) → FitsTogether b → b.stage ≡ Out c
     → b.evidence ≡ None → before ≡ length b.segments - 1
     → first_evidence b.evidence
-    (Some (record { node = b.node; charge = Replay (audited_with b c.segment) }))
-    ≡ Some (record { node = b.node; charge = Replay (replayed_log b.node b.segments before c.segment) })
+    (Some (record { node = b.node; charge = Replay (of_plain (audited_with b c.segment)) }))
+    ≡ Some (record { node = b.node; charge = Replay (of_plain (replayed_log b.node b.segments before c.segment)) })
 exposed_by b c before fits out none is =
-    ap (λ e. first_evidence e (Some (record { node = b.node; charge = Replay (audited_with b c.segment) })))
+    ap (λ e. first_evidence e (Some (record { node = b.node; charge = Replay (of_plain (audited_with b c.segment)) })))
     none
     ∙ sym (ap (λ n. Some (record {
       node = b.node;
-      charge = Replay (replayed_log b.node b.segments n c.segment);
+      charge = Replay (of_plain (replayed_log b.node b.segments n c.segment));
     })) is
     ∙ ap (λ es. Some (record {
       node = b.node;
-      charge = Replay (record {
+      charge = Replay (of_plain (record {
         node = b.node;
         first = 1;
         opening = zeros;
         entries = es ++ c.segment.entries;
         closing = c.segment.closing;
-      });
+      }));
     })) (faulted_entries b c fits out))
 
 -- a book whose end moved to that of a segment that was found sound

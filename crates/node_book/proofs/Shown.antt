@@ -10,6 +10,9 @@ use Rattle.authenticator.specs.declared.authenticator.Authenticator.{Authenticat
 use Rattle.secure_log.specs.LogEntries.Chain.{zeros}
 use Rattle.secure_log.specs.declared.log_entries.entry.Entry.{Entry}
 use Rattle.secure_log.specs.Segment.{SegmentParts, ClosedParts, is_whole, segment_value}
+use Rattle.secure_log.specs.Versioned.{of_plain}
+use Rattle.evidence_spec.specs.Evidence.{Replay, charge_value, is_whole_charge}
+use Rattle.evidence_spec.proofs.WithoutGaps.{text_plain}
 use Rattle.witness_spec.specs.Limits.{MAX_AUDITED}
 use Rattle.node_book.specs.Rows.{ShowsLog, entries_of, replayed_log, segments_in}
 use Rattle.node_book.proofs.Mapped.{flat_map_map}
@@ -63,6 +66,11 @@ shown_some cs n s shown h is =
 -- a log with an entry, from 1 on, is whole
 pub whole : (s : SegmentParts) → s.first ≡ 1 → 0 < length s.entries → is_whole (segment_value s) ≡ true
 whole s first some = grind (arith, common_steps)
+
+-- so evidence of it has a text
+pub whole_charge : (s : SegmentParts) → s.first ≡ 1 → 0 < length s.entries
+    → is_whole_charge (charge_value (Replay (of_plain s))) ≡ true
+whole_charge s first some = ap is_whole (text_plain s) ∙ whole s first some
 
 -- the log from the start, of these entries and this closing, is the one that is to be shown
 pub log_is : (node : ℕ) (cs : List ClosedParts) (n : ℕ) (s log : SegmentParts) (shown : List Entry)

@@ -4,6 +4,7 @@ use Rattle.std.specs.Arc.{arc_value}
 use Rattle.secure_log.specs.LogEntries.Chain.{zeros}
 use Rattle.secure_log.specs.declared.log_entries.entry.Entry.{Entry}
 use Rattle.secure_log.specs.Segment.{SegmentParts, ClosedParts}
+use Rattle.secure_log.specs.Versioned.{of_plain}
 use Rattle.evidence_spec.specs.Evidence.{EvidenceParts}
 use Rattle.evidence_spec.specs.Evidence as charges
 use Rattle.witness_spec.specs.Standing as standing
@@ -32,7 +33,7 @@ segments_in cs = map (λ c. c.segment) cs
 abbrev pub entries_of : List SegmentParts → List Entry
 entries_of segments = flat_map (λ s. s.entries) segments
 
--- The log that is shown where a replay found a fault in a segment: the entries of so many accepted segments,
+-- The log that is shown, of version 1, where a replay found a fault in a segment: the entries of so many accepted segments,
 -- and its own, with its closing.
 abbrev pub replayed_log : (node : ℕ) → List SegmentParts → (before : ℕ) → SegmentParts → SegmentParts
 replayed_log node segments before s = record {
@@ -49,7 +50,7 @@ evidence_in node segments Nothing = None
 evidence_in node segments (Fork e) = Some (arc_value e)
 evidence_in node segments (Replay before c) = Some (record {
   node = node;
-  charge = charges.Replay (replayed_log node segments before c.segment);
+  charge = charges.Replay (of_plain (replayed_log node segments before c.segment));
 })
 
 -- the book

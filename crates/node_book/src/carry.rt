@@ -9,6 +9,7 @@ ghost use Rattle.witness_book_laws.specs.Going.{after_learn, after_send_challeng
 ghost use Rattle.witness_book_laws.specs.Going.{after_audit, after_begin, after_file, after_put_back};
 ghost use Rattle.witness_book_laws.specs.Going.{after_forward};
 ghost use Rattle.witness_book_laws.specs.Going.{audited_with, book_after, first_evidence, having_filed};
+ghost use Rattle.secure_log.specs.Versioned.{of_plain};
 ghost use Rattle.evidence_spec.specs.Evidence as charges;
 ghost use Rattle.witness_spec.specs.Standing as standing;
 ghost use Rattle.replay_jobs.specs.Jobs.{verdict_told};
@@ -242,7 +243,7 @@ impl Rows {
         ensures after { book_in self.new ≡ record (book_in self.old) {
           evidence = first_evidence (book_in self.old).evidence (Some (record {
             node = self.old.node;
-            charge = charges.Replay (audited_with (book_in self.old) segment.segment);
+            charge = charges.Replay (of_plain (audited_with (book_in self.old) segment.segment));
           }));
         } }
         ensures keeps { KeepsExposure (segments_in self.new.segments.items) self.new.exposure }

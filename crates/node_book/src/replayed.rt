@@ -1,6 +1,7 @@
 //! Evidence of replays that found faults.
 
 ghost use Rattle.std.specs.Prelude.{◌≡◌, ◌++◌, ◌+◌, ◌≤◌, IfOk, length, take};
+ghost use Rattle.secure_log.specs.Versioned.{of_plain};
 ghost use Rattle.evidence_spec.specs.Evidence as charges;
 ghost use Rattle.witness_spec.specs.Limits.{MAX_AUDITED};
 ghost use Rattle.node_book.specs.Rows.{ShowsLog, entries_of, replayed_log, segments_in};
@@ -24,7 +25,8 @@ pub(crate) fn replayed_evidence(
     requires { ShowsLog (segments_in segments.now) before faulty.now.segment }
     ensures { IfOk result (λ e. e ≡ record {
       node = node;
-      charge = charges.Replay (replayed_log node (segments_in segments.now) before faulty.now.segment);
+      charge = charges.Replay (of_plain (replayed_log node (segments_in segments.now) before
+          faulty.now.segment));
     }) }
 {
     let entries = entries_shown(alloc, &segments[..before], faulty)?;

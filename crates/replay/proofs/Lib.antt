@@ -1,4 +1,5 @@
 pub mod FaultySteps
+pub mod LoggedPlaces
 pub mod Openings
 pub mod Runs
 pub mod StayingKinds

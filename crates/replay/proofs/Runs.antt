@@ -1,19 +1,23 @@
 -- How a replay goes through entries: what it found so far, and the verdict on the rest.
 -- Serves: run, replay_entries, replay.
-use Rattle.std.proofs.Common.{◌≡◌, ℕ, suc, ◌+◌, ◌<◌, ◌≤◌, List, [], ◌∷◌, ◌++◌, length, drop, get_or}
+use Rattle.std.proofs.Common.{◌≡◌, ℕ, suc, ◌+◌, ◌-◌, ◌<◌, ◌≤◌, ◌^◌, List, [], ◌∷◌, ◌++◌, length, drop, get_or}
 use Rattle.std.proofs.Common.{Ok, Err, IfOk}
 use Rattle.std.proofs.Common.{Option, Some, None, Result, refl, sym, ap, subst, ◌∙◌, arith}
 use Rattle.std.specs.FinMap as finite
+use Rattle.std.specs.List.{AllByRecursion}
+use Rattle.authenticator.specs.Numbers.{word_of}
+use Rattle.replay.proofs.LoggedPlaces.{logged_rest}
 use Rattle.authenticator.specs.declared.member.Member.{Member}
 use Rattle.authenticator.specs.declared.authenticator.Authenticator.{Authenticator}
-use Rattle.secure_log.specs.LogEntries.Chain.{hash_after, link_of}
+use Rattle.secure_log.specs.LogEntries.Chain.{Logged, hash_after, logged_link}
+use Rattle.secure_log.specs.LogEntries.Words.{logged}
 use Rattle.secure_log.specs.declared.log_entries.entry.Entry.{Entry}
 use Rattle.checkpoint.specs.state_machine.declared.states.received.TheConstants.{MAX_RECEIVED}
 use Rattle.checkpoint.specs.state_machine.declared.states.sends.TheConstants.{MAX_SENDS}
 use Rattle.checkpoint.specs.state_spec.State.{State}
 use Rattle.replay.specs.Verdicts.{verdict_in, IsSoundWhereHonest}
 use Rattle.replay.specs.declared.verdict.Verdict as memory
-use Rattle.replay_spec.specs.Placed.{Placed, place, placed}
+use Rattle.replay_spec.specs.Placed.{HasWord, Placed, logged_place, place, places_from}
 use Rattle.replay_spec.specs.Stepping.{ReplayFault, step, shown_by}
 use Rattle.replay_spec.specs.Replay.{with_shown, Verdict, Sound, Fault, behind, verdict_of}
 use Rattle.replay_spec.specs.Steps.{Takes}
@@ -23,7 +27,7 @@ use Rattle.replay_spec.proofs.Runs.{verdict_after, first_step}
 use Rattle.replay_spec.proofs.OfLogLaws.Counts.{one_if}
 use Rattle.std.proofs.lemmas.List.Sums.{sum_by-cons}
 use Rattle.std.proofs.Math.Seq.{drop-cons}
-use Rattle.std.specs.Prelude.{Bool, true, false, cond, ◌↔◌}
+use Rattle.std.specs.Prelude.{Bool, true, false, ◌↔◌}
 use Rattle.replay_spec.specs.Stepping.{is_send}
 
 -- the verdict on entries after those that showed these
@@ -48,19 +52,26 @@ one_sent e =
     let sum = sum_by-cons (λ x. one_if (is_send x)) e [] in
     omega (arith, low, sum)
 
--- What is known between two entries: the number of the next, room for the messages of those to come, and that
--- the verdict on all is that on the rest, after what was found.
-pub record IsRun (ms : List Member) (start : State) (first : ℕ) (opening : List ℕ) (entries : List Entry)
-    (s : State) (shown : List Authenticator) (number : ℕ) (before : List ℕ) (index : ℕ) : Type 0 where
-  -- the number of the next entry
-  pub counted : number ≡ first + index
+-- the places of the entries from an index on
+abbrev pub to_come : (skips : List ℕ) (entries : List Entry) (next : ℕ) (before : List ℕ) (index : ℕ)
+    → List Placed
+to_come skips entries next before index =
+    places_from next before (logged (drop index skips) (drop index entries))
+
+-- What is known between two entries: those to come have words, there is room for their messages, and the
+-- verdict on all is that on the rest, after what was found.
+pub record IsRun (ms : List Member) (start : State) (first : ℕ) (opening : List ℕ) (skips : List ℕ)
+    (entries : List Entry) (s : State) (shown : List Authenticator) (next : ℕ) (before : List ℕ) (index : ℕ)
+    : Type 0 where
+  -- each entry to come has a word
+  pub words : AllByRecursion HasWord (to_come skips entries next before index)
   -- there is room for a received message of each entry to come
   pub received : finite.len s.received + length (drop index entries) ≤ MAX_RECEIVED
   -- there is room for a sent message of each entry to come
   pub sends : finite.len s.sends + length (drop index entries) ≤ MAX_SENDS
   -- the verdict on all entries is the one on the rest, after what was found
-  pub verdict : verdict_of ms start (placed first opening entries)
-      ≡ after_all shown (verdict_of ms s (placed number before (drop index entries)))
+  pub verdict : verdict_of ms start (places_from first opening (logged skips entries))
+      ≡ after_all shown (verdict_of ms s (to_come skips entries next before index))
 
 -- more is found after the rest
 after_more : (shown : List Authenticator) (more : Option Authenticator) (v : Verdict)
@@ -88,20 +99,20 @@ abbrev StepsTake : Type 0
 StepsTake = (ms : List Member) (s t : State) (p : Placed) → (step ms s p ≡ Ok t) ↔ Takes ms s p t
 
 -- by a step each kind of message is one more at most
-more_received : StepsTake → (ms : List Member) (s t : State) (number : ℕ) (before : List ℕ) (e : Entry)
-    → step ms s (place number before e) ≡ Ok t → finite.len t.received ≤ finite.len s.received + 1
-more_received law ms s t number before e h =
+more_received : StepsTake → (ms : List Member) (s t : State) (entry_word : ℕ) (before : List ℕ) (e : Entry)
+    → step ms s (place entry_word before e) ≡ Ok t → finite.len t.received ≤ finite.len s.received + 1
+more_received law ms s t entry_word before e h =
     let counts =
-    counted_on ms s number before (e ∷ []) (t ∷ []) ((law ms s t (place number before e)).0 h, tt) in
+    counted_on ms s entry_word before (e ∷ []) (t ∷ []) ((law ms s t (place entry_word before e)).0 h, tt) in
     let few = counts.received in
     let one = one_received e in
     omega (arith, few, one)
 
-more_sent : StepsTake → (ms : List Member) (s t : State) (number : ℕ) (before : List ℕ) (e : Entry)
-    → step ms s (place number before e) ≡ Ok t → finite.len t.sends ≤ finite.len s.sends + 1
-more_sent law ms s t number before e h =
+more_sent : StepsTake → (ms : List Member) (s t : State) (entry_word : ℕ) (before : List ℕ) (e : Entry)
+    → step ms s (place entry_word before e) ≡ Ok t → finite.len t.sends ≤ finite.len s.sends + 1
+more_sent law ms s t entry_word before e h =
     let counts =
-    counted_on ms s number before (e ∷ []) (t ∷ []) ((law ms s t (place number before e)).0 h, tt) in
+    counted_on ms s entry_word before (e ∷ []) (t ∷ []) ((law ms s t (place entry_word before e)).0 h, tt) in
     let few = counts.sends in
     let one = one_sent e in
     omega (arith, few, one)
@@ -117,26 +128,53 @@ rest_of entries index e inside is =
     ∙ ap (λ (x : Entry). x ∷ drop (suc index) entries) (sym is)
     ∙ ap (λ n. e ∷ drop n entries) next
 
-module _ (ms : List Member) (start : State) (first : ℕ) (opening : List ℕ) (entries : List Entry) where
+-- a step at a place is that of an entry with the word there
+step_at : (ms : List Member) (s : State) (number : ℕ) (before : List ℕ) (l : Logged)
+    → step ms s (logged_place number before l) ≡ step ms s (place (word_of l.skipped number) before l.entry)
+unfolding step
+step_at ms s number before l = refl
+
+module _ (ms : List Member) (start : State) (first : ℕ) (opening : List ℕ) (skips : List ℕ)
+    (entries : List Entry) where
   -- before the first entry nothing is found
-  pub begins : (number : ℕ) → number ≡ first
+  pub begins : (next : ℕ) → next ≡ first
+      → AllByRecursion HasWord (places_from first opening (logged skips entries))
       → finite.len start.received + length entries ≤ MAX_RECEIVED
       → finite.len start.sends + length entries ≤ MAX_SENDS
-      → IsRun ms start first opening entries start [] number opening 0
-  begins number same received sends = record {
-    counted = omega (arith, same);
+      → IsRun ms start first opening skips entries start [] next opening 0
+  begins next same words received sends = record {
+    words =
+        subst (λ n. AllByRecursion HasWord (places_from n opening (logged skips entries))) (sym same) words;
     received = received;
     sends = sends;
-    verdict = ap (λ n. verdict_of ms start (placed n opening entries)) (sym same);
+    verdict = ap (λ n. verdict_of ms start (places_from n opening (logged skips entries))) (sym same);
   }
 
-  module _ (s : State) (shown : List Authenticator) (number : ℕ) (before : List ℕ) (index : ℕ)
-      (run : IsRun ms start first opening entries s shown number before index) where
+  module _ (s : State) (shown : List Authenticator) (next : ℕ) (before : List ℕ) (index : ℕ)
+      (run : IsRun ms start first opening skips entries s shown next before index) where
     -- the verdict on all
     abbrev verdict : Verdict
-    verdict = verdict_of ms start (placed first opening entries)
+    verdict = verdict_of ms start (places_from first opening (logged skips entries))
 
-    module _ (e : Entry) (rest : drop index entries ≡ e ∷ drop (index + 1) entries) where
+    module _ (skipped : ℕ) (e : Entry) (is : skipped ≡ get_or skips index 0)
+        (rest : drop index entries ≡ e ∷ drop (index + 1) entries) where
+      abbrev here : Logged
+      here = record { skipped = skipped; entry = e }
+
+      abbrev others : List Logged
+      others = logged (drop (index + 1) skips) (drop (index + 1) entries)
+
+      abbrev at : ℕ → Placed
+      at number = logged_place number before here
+
+      abbrev later : ℕ → List Placed
+      later number = places_from (number + 1) (hash_after before (logged_link number here)) others
+
+      -- it and those after it have words
+      all_words : AllByRecursion HasWord (places_from next before (here ∷ others))
+      all_words = subst (λ ls. AllByRecursion HasWord (places_from next before ls))
+          (logged_rest skips entries index skipped e rest is) run.words
+
       -- there is room for what the entry brings
       pub room_received : finite.len s.received < MAX_RECEIVED
       room_received =
@@ -151,55 +189,65 @@ module _ (ms : List Member) (start : State) (first : ℕ) (opening : List ℕ) (
           run.sends in
           omega (arith, few)
 
-      -- the verdict on all is that on this entry and the rest
-      here : verdict
-          ≡ after_all shown (verdict_of ms s (placed number before (e ∷ drop (index + 1) entries)))
-      here = run.verdict ∙ ap (λ es. after_all shown (verdict_of ms s (placed number before es))) rest
+      module _ (number : ℕ) (counted : number ≡ next + skipped) where
+        -- it has a word
+        pub has_word : word_of skipped number < 2 ^ 64 - 1
+        has_word = subst (λ n. word_of skipped n < 2 ^ 64 - 1) (sym counted) all_words.0
 
-      abbrev at : Placed
-      at = place number before e
+        -- the verdict on all is that on this entry and the rest
+        whole : verdict ≡ after_all shown (verdict_of ms s (at number ∷ later number))
+        whole =
+            run.verdict
+            ∙ ap (λ ls. after_all shown (verdict_of ms s (places_from next before ls)))
+            (logged_rest skips entries index skipped e rest is)
+            ∙ ap (λ n. after_all shown (verdict_of ms s (at n ∷ later n))) (sym counted)
 
-      abbrev later : List Placed
-      later = placed (number + 1) (hash_after before (link_of number e)) (drop (index + 1) entries)
+        -- by what its step gives
+        by_step : (r : Result State ReplayFault)
+            → step ms s (place (word_of skipped number) before e) ≡ r
+            → verdict ≡ after_all shown (verdict_after ms s (at number) (later number) r)
+        by_step r h =
+            whole
+            ∙ ap (after_all shown) (first_step ms s (at number) (later number)
+            ∙ ap (verdict_after ms s (at number) (later number)) (step_at ms s number before here ∙ h))
 
-      -- its fault is that of the verdict
-      pub faults : (fault : ReplayFault) → step ms s (place number before e) ≡ Err fault
-          → verdict ≡ Fault fault number
-      faults fault h =
-          here
-          ∙ ap (after_all shown) (first_step ms s at later ∙ ap (verdict_after ms s at later) h)
-          ∙ fault_found shown fault number
+        -- its fault is that of the verdict
+        pub faults : (fault : ReplayFault) → step ms s (place (word_of skipped number) before e) ≡ Err fault
+            → verdict ≡ Fault fault number
+        faults fault h = by_step (Err fault) h ∙ fault_found shown fault number
 
-      -- after it the run goes on
-      pub goes_on : StepsTake → (t : State) → step ms s (place number before e) ≡ Ok t
-          → (after : List ℕ) → after ≡ hash_after before (link_of number e)
-          → IsRun ms start first opening entries t (shown ++ with_shown (shown_by s e) []) (number + 1) after
-          (index + 1)
-      goes_on law t h after hash = record {
-        counted = let counted = run.counted in omega (arith, counted);
-        received =
-            let few = subst (λ (es : List Entry). finite.len s.received + length es ≤ MAX_RECEIVED) rest
-            run.received in
-            let one = more_received law ms s t number before e h in
-            omega (arith, few, one);
-        sends =
-            let few = subst (λ (es : List Entry). finite.len s.sends + length es ≤ MAX_SENDS) rest
-            run.sends in
-            let one = more_sent law ms s t number before e h in
-            omega (arith, few, one);
-        verdict =
-            here
-            ∙ ap (after_all shown) (first_step ms s at later ∙ ap (verdict_after ms s at later) h)
-            ∙ sym (after_more shown (shown_by s e) (verdict_of ms t later))
-            ∙ ap (λ b. after_all (shown ++ with_shown (shown_by s e) [])
-            (verdict_of ms t (placed (number + 1) b (drop (index + 1) entries)))) (sym hash);
-      }
+        -- after it the run goes on
+        pub goes_on : StepsTake → (t : State) → step ms s (place (word_of skipped number) before e) ≡ Ok t
+            → (after : List ℕ) → after ≡ hash_after before (logged_link number here)
+            → IsRun ms start first opening skips entries t (shown ++ with_shown (shown_by s e) [])
+            (number + 1) after (index + 1)
+        goes_on law t h after hash = record {
+          words =
+              let next_words = subst (λ n. AllByRecursion HasWord (later n)) (sym counted) all_words.1 in
+              subst (λ b. AllByRecursion HasWord (places_from (number + 1) b others)) (sym hash) next_words;
+          received =
+              let few = subst (λ (es : List Entry). finite.len s.received + length es ≤ MAX_RECEIVED) rest
+              run.received in
+              let one = more_received law ms s t (word_of skipped number) before e h in
+              omega (arith, few, one);
+          sends =
+              let few = subst (λ (es : List Entry). finite.len s.sends + length es ≤ MAX_SENDS) rest
+              run.sends in
+              let one = more_sent law ms s t (word_of skipped number) before e h in
+              omega (arith, few, one);
+          verdict =
+              by_step (Ok t) h
+              ∙ sym (after_more shown (shown_by s e) (verdict_of ms t (later number)))
+              ∙ ap (λ b. after_all (shown ++ with_shown (shown_by s e) [])
+              (verdict_of ms t (places_from (number + 1) b others))) (sym hash);
+        }
 
     -- after the last entry all is found
     pub ends : drop index entries ≡ [] → verdict ≡ Sound s shown
     ends none =
         run.verdict
-        ∙ ap (λ es. after_all shown (verdict_of ms s (placed number before es))) none
+        ∙ ap (λ es. after_all shown
+        (verdict_of ms s (places_from next before (logged (drop index skips) es)))) none
         ∙ all_found shown s
 
 -- ---- the verdict on all

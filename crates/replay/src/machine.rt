@@ -12,7 +12,7 @@ ghost use Rattle.replay.specs.Steps.{Steps};
 ghost use Rattle.replay_spec.specs.Opening.{kind_of};
 
 use crate::steps::{StepFault, step};
-use authenticator::{Kind, Number, Roster};
+use authenticator::{Kind, Roster, Word};
 use checkpoint::{State, a_text_has_one_state, state_text};
 use secure_log::log_entries::Entry;
 use std::alloc::{AllocError, Global};
@@ -32,20 +32,20 @@ pub trait Machine: Drop {
     fn into_state(self) -> State
         ensures { result.state ≡ state self };
 
-    /// Takes an entry of the log of its node, a member of this roster, at a number and after the hash
+    /// Takes an entry of the log of its node, a member of this roster, with a word and after the hash
     /// `before`. `Fault` comes exactly where the entry may not stand there, with the first fault that it has;
     /// `NoMemory` only where a growth was refused. After either its state is as it was.
     fn step(
         &mut self,
         alloc: Global,
         roster: &Roster,
-        number: Number,
+        word: Word,
         before: &[u8; 32],
         entry: &Entry,
     ) -> Result<(), StepFault>
         requires few_received { len (state self.old).received < MAX_RECEIVED }
         requires few_sends { len (state self.old).sends < MAX_SENDS }
-        ensures { Steps roster.now (state self.old) (place number before.now entry.now) result
+        ensures { Steps roster.now (state self.old) (place word before.now entry.now) result
             (state self.new) };
 
     /// The text of its state. `AllocError` comes only where a growth was refused.
@@ -159,11 +159,11 @@ impl<K: NodeKind> Machine for KindMachine<K> {
         &mut self,
         alloc: Global,
         roster: &Roster,
-        number: Number,
+        word: Word,
         before: &[u8; 32],
         entry: &Entry,
     ) -> Result<(), StepFault> {
-        step(&mut self.state, alloc, roster, number, before, entry)
+        step(&mut self.state, alloc, roster, word, before, entry)
     }
 
     fn text(&self, alloc: Global) -> Result<Vec<u8>, AllocError> {

@@ -15,7 +15,7 @@ use crate::fault::ReplayFault;
 use crate::messages::{is_bad_ack, is_bad_receive, is_repeated, is_wrong_checkpoint};
 use crate::take::take;
 use crate::turns::{is_bad_form, is_clock_back, is_wrong_reply};
-use authenticator::{Number, Roster};
+use authenticator::{Roster, Word};
 use checkpoint::{State, renew};
 use secure_log::log_entries::Entry;
 use std::alloc::{AllocError, Global};
@@ -39,7 +39,7 @@ impl From<AllocError> for StepFault {
     }
 }
 
-/// The state takes an entry of the log of its node, a member of this roster, at a number and after the hash
+/// The state takes an entry of the log of its node, a member of this roster, with a word and after the hash
 /// `before`. `Fault` comes exactly where the entry may not stand there, with the first fault that it has in
 /// the order BadForm, WrongReply, BadReceive, Repeated, ClockBack, BadAck, WrongCheckpoint; `NoMemory` only
 /// where a growth was refused. After either the state is as it was.
@@ -47,16 +47,16 @@ pub fn step(
     state: &mut State,
     alloc: Global,
     roster: &Roster,
-    number: Number,
+    word: Word,
     before: &[u8; 32],
     entry: &Entry,
 ) -> Result<(), StepFault>
     requires few_received { len state.old.state.received < MAX_RECEIVED }
     requires few_sends { len state.old.state.sends < MAX_SENDS }
-    ensures { Steps roster.now state.old.state (place number before.now entry.now) result state.new.state }
+    ensures { Steps roster.now state.old.state (place word before.now entry.now) result state.new.state }
 {
     renew_at_check(alloc, state, entry)?;
-    step_once(state, alloc, roster, number, before, entry)
+    step_once(state, alloc, roster, word, before, entry)
 }
 
 /// The same, where a CHECK's digest is computed from those of files that are kept, and the others.
@@ -64,18 +64,18 @@ fn step_once(
     state: &mut State,
     alloc: Global,
     roster: &Roster,
-    number: Number,
+    word: Word,
     before: &[u8; 32],
     entry: &Entry,
 ) -> Result<(), StepFault>
     requires few_received { len state.old.state.received < MAX_RECEIVED }
     requires few_sends { len state.old.state.sends < MAX_SENDS }
-    ensures { Steps roster.now state.old.state (place number before.now entry.now) result state.new.state }
+    ensures { Steps roster.now state.old.state (place word before.now entry.now) result state.new.state }
 {
     if let Some(fault) = fault_of(alloc, roster, state, entry)? {
         return Err(StepFault::Fault(fault));
     }
-    take(state, alloc, number, before, entry)?;
+    take(state, alloc, word, before, entry)?;
     Ok(())
 }
 

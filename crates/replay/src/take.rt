@@ -10,29 +10,29 @@ ghost use Rattle.replay_spec.specs.Steps.{after_entry, received_message};
 ghost use Rattle.replay_spec.specs.Stepping.{shows_no_time};
 
 use crate::messages::received_message;
-use authenticator::{Number, Word};
+use authenticator::Word;
 use checkpoint::{MessageBody, SentMessage, Stage, State};
 use nfs_items::Time;
 use secure_log::log_entries::{Body, Entry};
 use std::alloc::{AllocError, Global};
 
-/// The state takes an entry at a number, after a hash. Where memory is refused nothing changes.
+/// The state takes an entry with a word, after a hash. Where memory is refused nothing changes.
 pub(crate) fn take(
     state: &mut State,
     alloc: Global,
-    number: Number,
+    word: Word,
     before: &[u8; 32],
     entry: &Entry,
 ) -> Result<(), AllocError>
     requires few_received { len state.old.state.received < MAX_RECEIVED }
     requires few_sends { len state.old.state.sends < MAX_SENDS }
     requires time { shows_no_time entry.now ≡ false }
-    ensures ok { OnOk result (state.new.state ≡ after_entry state.old.state number before.now entry.now) }
+    ensures ok { OnOk result (state.new.state ≡ after_entry state.old.state word before.now entry.now) }
     ensures err { OnErr result (state.new.state ≡ state.old.state) }
 {
     match entry {
         Entry::Send { to, body } => {
-            state.add_send(number.get(), SentMessage::new(*to, *before, body.digest()))?;
+            state.add_send(word.get(), SentMessage::new(*to, *before, body.digest()))?;
             state.set_stage(Stage::Idle);
             Ok(())
         }

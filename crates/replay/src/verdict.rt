@@ -76,7 +76,7 @@ pub fn replay_entries(
 {
     sound_exactly_if();
     let found = Vec::new(alloc);
-    match ending_of(alloc, roster, start, found, first, opening, entries)? {
+    match ending_of(alloc, roster, start, found, first, opening, &[], entries)? {
         Ending::Sound(state, found) => Ok(Verdict::Sound(state, found)),
         Ending::Fault(fault, number) => Ok(Verdict::Fault(fault, number)),
     }

@@ -5,5 +5,5 @@ pub mod laws;
 pub mod log_laws;
 pub mod state_laws;
 
-pub use secure_log::log_entries::{Entry, link_hash};
+pub use secure_log::log_entries::{Entry, MAX_SKIPPED, link_hash};
 pub use secure_log::{ClosedSegment, MAX_ENTRIES, copy_of};

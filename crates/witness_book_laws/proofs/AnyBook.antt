@@ -1,6 +1,6 @@
 -- Any book that fits together and stands for a member's own steps goes on as they do.
 -- Serves: books_go_on.
-use Rattle.std.proofs.Common.{◌≡◌, ◌↔◌, inl, List, ◌∷◌, filter, flat_map, Some, Ok}
+use Rattle.std.proofs.Common.{◌≡◌, ◌↔◌, inl, List, ◌∷◌, filter, flat_map, Ok}
 use Rattle.std.proofs.Common.{sym, ap₂, subst, ◌∙◌}
 use Rattle.secure_log.specs.Segment.{SegmentParts}
 use Rattle.witness_laws.specs.witness_spec.Events.{Event, IsEvent}

@@ -12,6 +12,7 @@ use Rattle.authenticator.specs.declared.authenticator.Authenticator.{Authenticat
 use Rattle.secure_log.specs.declared.log_entries.entry.Entry.{Entry}
 use Rattle.secure_log.specs.LogEntries.Chain.{zeros}
 use Rattle.secure_log.specs.Segment.{SegmentParts, segment_pairs}
+use Rattle.secure_log.specs.Versioned.{of_plain}
 use Rattle.witness_laws.specs.state_spec.State.{State}
 use Rattle.replay_spec.specs.Placed.{placed_in}
 use Rattle.replay_spec.specs.Replay.{Verdict, Sound, Fault}
@@ -96,7 +97,8 @@ module _ (w : Watched) (past : Past) (b : Book) (d : DoneParts) (k : Known w pas
 
   charge_same : (v : Verdict) → verdict_charge b s v ≡ replay_of w past s v
   charge_same (Sound t found) = refl
-  charge_same (Fault fault number) = ap₂ (λ n es. Some (Replay (whole n es))) k.of.node k.audited
+  charge_same (Fault fault number) =
+      ap₂ (λ n es. Some (Replay (of_plain (whole n es)))) k.of.node k.audited
     where
       whole : ℕ → List Entry → SegmentParts
       whole n es =

@@ -11,7 +11,7 @@ use Rattle.secure_log.specs.declared.log_entries.entry.Entry.{Entry}
 use Rattle.secure_log.specs.LogEntries.Chain.{pairs, hash_after, last_hash, link_of, links_from}
 use Rattle.secure_log.specs.Segment.{SegmentParts, segment_pairs}
 use Rattle.secure_log.specs.LogEntries.Chain.{IsAmong}
-use Rattle.witness_laws.specs.witness_spec.Pairs.{Pair, pair_of}
+use Rattle.witness_laws.specs.witness_spec.Pairs.{pair_of}
 use Rattle.witness_laws.specs.witness_spec.Standing.{Stage, NoAudit, Wanted, Given, Out}
 use Rattle.witness_laws.specs.witness_spec.Histories.{HoldSame}
 use Rattle.witness_book_laws.specs.Books.{Book, exposed, is_audited, book_audited}

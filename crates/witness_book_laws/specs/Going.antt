@@ -6,6 +6,7 @@ use Rattle.authenticator.specs.declared.member.Member.{Member}
 use Rattle.authenticator.specs.declared.member.LogVersion.TheVariants.{One}
 use Rattle.secure_log.specs.LogEntries.Chain.{zeros}
 use Rattle.secure_log.specs.Segment.{SegmentParts, ClosedParts}
+use Rattle.secure_log.specs.Versioned.{of_plain}
 use Rattle.envelopes.specs.Acknowledgement.{acked_message}
 use Rattle.envelopes.specs.declared.envelope.Envelope.{Envelope}
 use Rattle.envelopes.specs.declared.acknowledgement.Ack.{Ack}
@@ -51,10 +52,10 @@ audited_with b s = record {
   closing = s.closing;
 }
 
--- the charge that a verdict on a segment brings
+-- the charge that a verdict on a segment brings: of a log of version 1, so it skips nothing
 abbrev pub verdict_charge : Book → SegmentParts → Verdict → Option Charge
 verdict_charge b s (Sound t found) = None
-verdict_charge b s (Fault fault number) = Some (Replay (audited_with b s))
+verdict_charge b s (Fault fault number) = Some (Replay (of_plain (audited_with b s)))
 
 -- the evidence after an authenticator that was noted
 abbrev pub evidence_noted : Book → Authenticator → Option EvidenceParts

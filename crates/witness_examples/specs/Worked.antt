@@ -11,6 +11,7 @@ use Rattle.secure_log.specs.LogEntries.Chain.{zeros, links_from, last_hash}
 use Rattle.secure_log.specs.declared.log_entries.entry.Entry.{Entry}
 use Rattle.secure_log.specs.declared.log_entries.entry.Entry.TheVariants.{Clock}
 use Rattle.secure_log.specs.Segment.{SegmentParts, ClosedParts}
+use Rattle.secure_log.specs.Versioned.{of_plain}
 use Rattle.envelopes.specs.declared.envelope.Envelope.{Envelope}
 use Rattle.state_spec.specs.State.{State, opening_client}
 use Rattle.state_spec.specs.Steps.{having_read}
@@ -236,7 +237,7 @@ no_filed = (File no_done, Filed) ∷ no_out
 
 -- the evidence
 abbrev pub fault_at_one : EvidenceParts
-fault_at_one = record { node = 5; charge = Replay no_segment }
+fault_at_one = record { node = 5; charge = Replay (of_plain no_segment) }
 
 -- ---- many
 

@@ -5,6 +5,7 @@ use Rattle.authenticator.specs.declared.authenticator.Authenticator.{Authenticat
 use Rattle.authenticator.specs.declared.member.LogVersion.TheVariants.{One}
 use Rattle.secure_log.specs.LogEntries.Chain.{zeros}
 use Rattle.secure_log.specs.Segment.{SegmentParts, ClosedParts}
+use Rattle.secure_log.specs.Versioned.{of_plain}
 use Rattle.evidence_spec.specs.replay_spec.Replay.{Verdict, Sound, Fault}
 use Rattle.evidence_spec.specs.Showing.{ShowingParts, authenticator_showing, segment_showing}
 use Rattle.evidence_spec.specs.Evidence.{Charge, Fork, Replay, EvidenceParts}
@@ -59,10 +60,10 @@ audited_with w past s = record {
   closing = s.closing;
 }
 
--- what a replay's fault is shown by
+-- what a replay's fault is shown by: a segment of a log of version 1, so one that skips nothing
 abbrev pub replay_of : Watched → Past → SegmentParts → Verdict → Option Charge
 replay_of w past s (Sound t found) = None
-replay_of w past s (Fault fault number) = Some (Replay (audited_with w past s))
+replay_of w past s (Fault fault number) = Some (Replay (of_plain (audited_with w past s)))
 
 -- the charge that follows from an authenticator noted, a segment accepted or a job filed, where there is one
 abbrev pub charge_of : Watched → Past

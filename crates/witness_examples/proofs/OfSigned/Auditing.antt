@@ -2,20 +2,14 @@
 -- Serves: audits.
 use Rattle.std.proofs.Common.{◌≡◌, ◌⊎◌, inl, inr, ℕ, ◌+◌, ◌<◌, ◌^◌, true, cond, ◌==◌, ◌&&◌, List, [], ◌∷◌}
 use Rattle.std.proofs.Common.{◌++◌, Ok, Err}
-use Rattle.std.proofs.Common.{length, refl, sym, ap, ap₂, subst, ◌∙◌, arith}
-use Rattle.std.specs.Prelude.{slice_index}
+use Rattle.std.proofs.Common.{length, refl, sym, ap, ap₂, subst, arith}
 use Rattle.std.proofs.lemmas.Bool.{and_from}
-use Rattle.sha2.specs.Sha256.{first_words, schedule, rounds, compress, digest_bytes, sha256}
-use Rattle.sha2.specs.Sha256 as sha
 use Rattle.sha2.proofs.Facts256.{length-sha256}
-use Rattle.xdr.specs.Item.{number_spelling}
 use Rattle.merkle_keys.specs.Tree.{root}
 use Rattle.authenticator.specs.Signed.{signed_digest}
 use Rattle.authenticator.proofs.Signed.{list_same}
 use Rattle.secure_log.specs.declared.log_entries.entry.Entry.{Entry}
-use Rattle.secure_log.specs.declared.log_entries.entry.Entry.TheVariants.{Clock}
-use Rattle.secure_log.specs.LogEntries.Entry.{content}
-use Rattle.secure_log.specs.LogEntries.Chain.{NoCollision, chain_text, hash_after, link_of, zeros, IsAmong}
+use Rattle.secure_log.specs.LogEntries.Chain.{hash_after, zeros, IsAmong}
 use Rattle.secure_log.specs.Part.{GivesPart}
 use Rattle.secure_log.specs.declared.open.OpenSegment.{OpenSegment}
 use Rattle.replay_spec.specs.Opening.{opening_of}

@@ -1,12 +1,10 @@
 -- A history of signed values in which a segment with a fault is filed.
 -- Serves: faults.
-use Rattle.std.proofs.Common.{◌≡◌, inl, inr, ℕ, true, true≢false, cond, ◌&&◌, List, [], ◌∷◌, ◌++◌, Ok, Err}
+use Rattle.std.proofs.Common.{◌≡◌, inl, inr, ℕ, true, true≢false, cond, List, [], ◌∷◌, ◌++◌, Ok, Err}
 use Rattle.std.proofs.Common.{length, refl, ap, ap₂, subst, arith}
 use Rattle.std.proofs.lemmas.Bool.{or_right}
 use Rattle.sha2.proofs.Facts256.{length-sha256}
-use Rattle.merkle_keys.specs.Tree.{root}
 use Rattle.authenticator.specs.Signed.{signed_digest}
-use Rattle.authenticator.proofs.Signed.{list_same}
 use Rattle.secure_log.specs.LogEntries.Chain.{hash_after, zeros}
 use Rattle.state_spec.specs.State.{State, opening_client}
 use Rattle.replay_spec.specs.Placed.{placed_in}
@@ -20,7 +18,7 @@ use Rattle.witness_spec.specs.Events.{ItsIndication}
 use Rattle.witness_spec.specs.Replies.{Noted, Asked, Accepted, Job, Filed, Told, Exposed, Trusted}
 use Rattle.witness_spec.specs.Watched.{watched}
 use Rattle.witness_spec.specs.Steps.{Audit, Answer, Begin, File, Ask, Past}
-use Rattle.witness_spec.specs.Whose.{same_roster, whose}
+use Rattle.witness_spec.specs.Whose.{whose}
 use Rattle.witness_spec.specs.Pairs.{has_fork}
 use Rattle.witness_spec.specs.Standing.{indication, shown}
 use Rattle.witness_spec.specs.Histories.{own, own_step}

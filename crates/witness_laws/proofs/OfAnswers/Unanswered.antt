@@ -1,6 +1,6 @@
 -- A challenge is open exactly if it was accepted and not answered since.
 -- Serves: open_exactly_if.
-use Rattle.std.proofs.Common.{◌≡◌, ◌⊎◌, ◌↔◌, inl, inr, Bool, true, false, not, true≢false, List, [], ◌∷◌}
+use Rattle.std.proofs.Common.{◌≡◌, ◌⊎◌, ◌↔◌, inl, inr, Bool, true, false, not, List, [], ◌∷◌}
 use Rattle.std.proofs.Common.{◌++◌, filter, refl, sym, ap, subst}
 use Rattle.secure_log.specs.LogEntries.Chain.{IsAmong}
 use Rattle.envelopes.specs.Acknowledgement.{acked_message}

@@ -16,7 +16,8 @@ use Rattle.secure_log.specs.declared.log_entries.entry.Entry.{Entry}
 use Rattle.secure_log.specs.LogEntries.Entry.{entry_item, entry_value}
 use Rattle.secure_log.specs.LogEntries.Chain.{Link, zeros, pairs, hash_after, last_hash, links_from, IsAmong}
 use Rattle.secure_log.proofs.OfLogEntries.Pairs.{last_hash-parts}
-use Rattle.secure_log.specs.Segment.{SegmentParts, ClosedParts, segment_pairs}
+use Rattle.secure_log.specs.Segment.{SegmentParts, ClosedParts, FitsWithin, segment_pairs}
+use Rattle.secure_log.specs.Versioned.{of_plain}
 use Rattle.witness_spec.specs.state_spec.State.{State}
 use Rattle.witness_spec.specs.replay_spec.Opening.{opening_of}
 use Rattle.witness_spec.specs.replay_spec.Placed.{Placed, placed, placed_in}
@@ -24,9 +25,11 @@ use Rattle.witness_spec.specs.replay_spec.Stepping.{ReplayFault, step}
 use Rattle.witness_spec.specs.replay_spec.Replay.{Sound, Fault, Honest, last_state, verdict_of}
 use Rattle.witness_spec.proofs.replay_spec.Places.{places_joined}
 use Rattle.witness_spec.proofs.replay_spec.Runs.{is_sound, first_fault, is_fault, joined, last_joined}
-use Rattle.witness_spec.specs.evidence_spec.Evidence.{Replay}
+use Rattle.witness_spec.specs.evidence_spec.Evidence.{MAX_AUDITED, Replay, replay_item}
+use Rattle.witness_spec.specs.evidence_spec.Laws.{FindsFault}
 use Rattle.witness_spec.proofs.evidence_spec.Chained.{zeros-length}
 use Rattle.witness_spec.proofs.evidence_spec.Places.{AreNumbered, entries_numbered, length-links}
+use Rattle.witness_spec.proofs.evidence_spec.WithoutGaps.{accepted_plain, text_plain}
 use Rattle.witness_spec.specs.Events.{JobParts}
 use Rattle.witness_spec.specs.Replies.{Reply}
 use Rattle.witness_spec.specs.Watched.{Watched, IsInRoster}
@@ -245,56 +248,51 @@ pub replay_charge : (w : Watched) (past : Past) (j : JobParts) (fault : ReplayFa
     → IsInRoster w → is_exposed w past ≡ false → IsAudited w past
     → IsNext w past j.segment → IsGoodSegment w j.segment.segment
     → verdict_on w.roster (end_of w past).state j ≡ Fault fault number
-    → IsGoodCharge w (Replay (audited_with w past j.segment.segment))
+    → IsGoodCharge w (Replay (of_plain (audited_with w past j.segment.segment)))
 replay_charge w past j fault number is e a next good v =
     let s = j.segment.segment in
+    let all = audited_with w past s in
     let k = is_joined w past j.segment e a next good in
     let values = length-map (audited w past ++ s.entries) entry_value in
     let node : w.member.node < 2 ^ 32 = omega (arith, good.text.0.0, good.closed.ends.node, good.node) in
     let version : IsTrue (keeps_version w.roster w.member.node One) =
     subst (λ n. IsTrue (keeps_version w.roster n One)) (sym good.closed.ends.node ∙ good.node)
     good.closed.version in
+    let finds : FindsFault w.roster w.member.node all = record {
+      of_node = refl;
+      first = refl;
+      opening = refl;
+      closed = record {
+        version = version;
+        ends = record { node = good.node; number = omega (arith, k.count); hash = sym k.hash };
+        signed = good.closed.signed;
+      };
+      member = w.member;
+      is_member = is;
+      fault = fault;
+      number = number;
+      found = ap (verdict_of w.roster (opening_of w.member)) k.places
+          ∙ fault_behind w.roster (opening_of w.member) (end_of w past).state
+          (placed 1 zeros (audited w past))
+          (placed_in s)
+          a.states fault number a.honest a.last v;
+    } in
+    let fits : FitsWithin MAX_AUDITED all = (
+      node,
+      (
+        (omega arith, refl),
+        (
+          zeros-length,
+          (
+            (omega (arith, values, k.count, next.last), omega (arith, values, k.count, next.last), k.each),
+            good.text.0.1.1.1.1,
+          ),
+        ),
+      ),
+    ) in
     record {
       small = node;
       version = version;
-      accepted = record {
-        of_node = refl;
-        first = refl;
-        opening = refl;
-        closed = record {
-          version = version;
-          ends = record { node = good.node; number = omega (arith, k.count); hash = sym k.hash };
-          signed = good.closed.signed;
-        };
-        member = w.member;
-        is_member = is;
-        fault = fault;
-        number = number;
-        found = ap (verdict_of w.roster (opening_of w.member)) k.places
-            ∙ fault_behind w.roster (opening_of w.member) (end_of w past).state
-            (placed 1 zeros (audited w past))
-            (placed_in s)
-            a.states fault number a.honest a.last v;
-      };
-      text = (
-        omega arith,
-        refl,
-        (
-          node,
-          (
-            (omega arith, refl),
-            (
-              zeros-length,
-              (
-                (
-                  omega (arith, values, k.count, next.last),
-                  omega (arith, values, k.count, next.last),
-                  k.each,
-                ),
-                good.text.0.1.1.1.1,
-              ),
-            ),
-          ),
-        ),
-      );
+      accepted = (accepted_plain w.roster w.member.node all).0 finds;
+      text = (omega arith, refl, subst (Fits (replay_item One)) (sym (text_plain all)) fits);
     }

@@ -14,6 +14,7 @@ use Rattle.authenticator.specs.declared.authenticator.Authenticator.{Authenticat
 use Rattle.authenticator.specs.declared.member.LogVersion.TheVariants.{One}
 use Rattle.secure_log.specs.LogEntries.Chain.{zeros, links_from, IsAmong}
 use Rattle.secure_log.specs.Segment.{SegmentParts, ClosedParts, segment_pairs}
+use Rattle.secure_log.specs.Versioned.{of_plain}
 use Rattle.authenticator.specs.Signing.{is_same}
 use Rattle.witness_spec.specs.replay_spec.Replay.{Verdict, Sound, Fault}
 use Rattle.witness_spec.specs.replay_spec.Stepping.{ReplayFault}
@@ -366,7 +367,7 @@ module _ (w : Watched) (past : Past) (p : Step × Reply) (owed : AreOwed w past)
   files : (j : JobParts) (v : Verdict) → Did past p None None (Some j) NoAudit
       → verdict_on w.roster (end_of w past).state j ≡ v
       → ((fault : ReplayFault) (number : ℕ) → v ≡ Fault fault number
-      → IsGoodCharge w (Replay (audited_with w past j.segment.segment))) → Charging w past p
+      → IsGoodCharge w (Replay (of_plain (audited_with w past j.segment.segment)))) → Charging w past p
   files j (Sound t found) did is good =
       Uncharged
       (charge_by None None (Some j) did.notes did.accepts did.files
@@ -374,7 +375,7 @@ module _ (w : Watched) (past : Past) (p : Step × Reply) (owed : AreOwed w past)
       (ap₂ (λ ps b. has_fork ps || b) (shown_by None None did.notes did.accepts)
       (fault_by (Some j) did.files ∙ ap (λ v. is_fault v || has_fault w past) is) ∙ e)
   files j (Fault fault number) did is good =
-      Charged (Replay (audited_with w past j.segment.segment))
+      Charged (Replay (of_plain (audited_with w past j.segment.segment)))
       (charge_by None None (Some j) did.notes did.accepts did.files
       ∙ ap (replay_of w past j.segment.segment) is)
       (or_right (has_fork (shown w (p ∷ past))) (has_fault w (p ∷ past))
@@ -385,7 +386,7 @@ module _ (w : Watched) (past : Past) (p : Step × Reply) (owed : AreOwed w past)
   pub charging : Doing w past p → IsCheckedStep w p.0
       → ((j : JobParts) (fault : ReplayFault) (number : ℕ) → stage_of past ≡ Out j.segment
       → verdict_on w.roster (end_of w past).state j ≡ Fault fault number
-      → IsGoodCharge w (Replay (audited_with w past j.segment.segment))) → Charging w past p
+      → IsGoodCharge w (Replay (of_plain (audited_with w past j.segment.segment)))) → Charging w past p
   charging (Nothing did) c faulty = shows_nothing (stage_of past) did
   charging (Notes a is did) c faulty =
       shows_new (authenticator_showing One a) (pair_of a ∷ []) (first_fork (pair_of a ∷ []) (shown w past))

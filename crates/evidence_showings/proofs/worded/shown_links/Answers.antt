@@ -4,9 +4,10 @@ use Rattle.std.specs.Prelude.{◌&&◌, ◌/◌, ◌^◌}
 use Rattle.std.proofs.lemmas.List.{take_more}
 use Rattle.authenticator.specs.declared.member.LogVersion.TheVariants.{Two}
 use Rattle.evidence_spec.specs.secure_log.LogEntries.Chain.{last_number}
-use Rattle.evidence_spec.specs.Showing.{ShownLink, link_value, numbered, words_follow}
-use Rattle.evidence_showings.specs.Worded.{WordedLinkParts, follows, worded_link_value, words_in}
-use Rattle.evidence_showings.proofs.Words.{follow_first, head_is, last_snoc, one_more}
+use Rattle.evidence_spec.specs.secure_log.LogEntries.Words.{follows, words_follow}
+use Rattle.evidence_spec.specs.Showing.{ShownLink, link_value, numbered}
+use Rattle.evidence_showings.specs.Worded.{WordedLinkParts, worded_link_value, words_in}
+use Rattle.evidence_showings.proofs.Words.{head_is, last_snoc, one_more}
 use Rattle.evidence_showings.proofs.worded.shown_links.Goals as goal
 
 -- one link more, whose word follows
@@ -26,7 +27,6 @@ loop-place-preserved c =
     let i = c.loop-place.invariant in
     record {
       words = i.words ∙ ap (λ ks. words_follow c.loop-place.number (words_in ks)) here
-          ∙ follow_first c.loop-place.number w (words_in rest)
           ∙ ap (λ b. b && words_follow (c.loop-place.number + 1 + w / 2 ^ 32) (words_in rest)) told.0
           ∙ ap (λ n. words_follow n (words_in rest)) (sym told.1);
       last = ap (λ ls. last_number c.args.before (numbered c.args.before ls)) items

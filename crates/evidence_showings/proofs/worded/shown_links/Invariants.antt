@@ -1,7 +1,8 @@
 use Rattle.std.proofs.Common.{◌≡◌, map, take, drop}
 use Rattle.authenticator.specs.declared.member.LogVersion.TheVariants.{Two}
 use Rattle.evidence_spec.specs.secure_log.LogEntries.Chain.{last_number}
-use Rattle.evidence_spec.specs.Showing.{link_value, numbered, words_follow}
+use Rattle.evidence_spec.specs.secure_log.LogEntries.Words.{words_follow}
+use Rattle.evidence_spec.specs.Showing.{link_value, numbered}
 use Rattle.evidence_showings.specs.Worded.{worded_link_value, words_in}
 use Rattle.evidence_showings.proofs.worded.shown_links.Given as goal
 

@@ -3,7 +3,8 @@ use Rattle.std.proofs.Common.{subst, sym}
 use Rattle.std.specs.List.{AllByRecursion, flat_map}
 use Rattle.xdr.specs.Item.{spelling}
 use Rattle.authenticator.specs.declared.member.LogVersion.TheVariants.{Two}
-use Rattle.evidence_spec.specs.Showing.{MaySkip, link_item, link_value, numbered}
+use Rattle.evidence_spec.specs.secure_log.LogEntries.Words.{MaySkip}
+use Rattle.evidence_spec.specs.Showing.{link_item, link_value, numbered}
 use Rattle.evidence_showings.specs.Showings.{numbered_link}
 use Rattle.evidence_showings.proofs.Words.{head_is}
 use Rattle.evidence_showings.proofs.write.add_each_worded.Goals as goal

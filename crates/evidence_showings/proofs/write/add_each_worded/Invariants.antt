@@ -2,7 +2,8 @@ use Rattle.std.proofs.Common.{◌≡◌, ◌++◌, ℕ, List, drop}
 use Rattle.std.specs.List.{AllByRecursion, flat_map}
 use Rattle.xdr.specs.Item.{spelling}
 use Rattle.authenticator.specs.declared.member.LogVersion.TheVariants.{Two}
-use Rattle.evidence_spec.specs.Showing.{MaySkip, link_item, link_value, numbered}
+use Rattle.evidence_spec.specs.secure_log.LogEntries.Words.{MaySkip}
+use Rattle.evidence_spec.specs.Showing.{link_item, link_value, numbered}
 use Rattle.evidence_showings.proofs.write.add_each_worded.Given as goal
 
 abbrev pub invariant-loop-place : goal.invariant-loop-place

@@ -1,7 +1,8 @@
 use Rattle.std.proofs.Common.{◌≡◌, ◌-◌, ◌∙◌, ap, ap₂, subst, sym}
 use Rattle.std.specs.List.{AllByRecursion}
 use Rattle.authenticator.specs.declared.member.LogVersion.TheVariants.{Two}
-use Rattle.evidence_spec.specs.Showing.{MaySkip, ShowingParts, links_in, numbered}
+use Rattle.evidence_spec.specs.secure_log.LogEntries.Words.{MaySkip}
+use Rattle.evidence_spec.specs.Showing.{ShowingParts, links_in, numbered}
 use Rattle.evidence_showings.proofs.Words.{follow_skips, same_bool, skips_follow}
 use Rattle.evidence_showings.proofs.showing.Showing.has_words.Goals as goal
 

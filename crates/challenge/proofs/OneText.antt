@@ -1,0 +1,258 @@
+-- A charge that is read is told by its text: two of one text are the same.
+-- Serves: a_text_has_one_charge.
+use Rattle.std.proofs.Common.{◌≡◌, ℕ, zero, suc, ◌+◌, ◌-◌, ◌<◌, List, [], ◌∷◌, Option, Some, None, map}
+use Rattle.std.proofs.Common.{refl, sym, ap, ap₂, subst, ◌∙◌, arith}
+use Rattle.std.specs.Prelude.{IfSome, option_map}
+use Rattle.std.specs.List.{AllByRecursion}
+use Rattle.xdr.specs.Item.{Value, choice}
+use Rattle.authenticator.specs.declared.authenticator.Authenticator.{Authenticator}
+use Rattle.authenticator.specs.declared.member.LogVersion.{LogVersion}
+use Rattle.authenticator.specs.declared.member.LogVersion.TheVariants.{One, Two}
+use Rattle.authenticator.specs.Numbers.{word_of}
+use Rattle.authenticator.proofs.Words.{word_is}
+use Rattle.secure_log.specs.declared.log_entries.entry.Entry.{Entry}
+use Rattle.secure_log.specs.LogEntries.Chain.{Logged}
+use Rattle.secure_log.specs.LogEntries.Entry.{entry_item, entry_value}
+use Rattle.secure_log.specs.Versioned.{VersionedParts, logged_item, logged_values, versioned_item, versioned_value}
+use Rattle.secure_log.specs.declared.segment.TheConstants.{MAX_ENTRIES}
+use Rattle.secure_log.proofs.OfLogEntries.Values.{same_entry}
+use Rattle.secure_log.proofs.Texts.{same_authenticator}
+use Rattle.evidence_showings.specs.evidence_spec.Showing.{ShowingParts, ShownLink, link_value, numbered}
+use Rattle.evidence_showings.specs.evidence_spec.Showing.{showing_item, showing_value}
+use Rattle.evidence_showings.specs.evidence_spec.Evidence.{Charge, Fork, ForkParts, Replay, charge_item}
+use Rattle.evidence_showings.specs.evidence_spec.Evidence.{charge_value, fork_charge, fork_item, fork_value}
+use Rattle.evidence_showings.specs.evidence_spec.Evidence.{is_charge, replay_charge, replay_item}
+use Rattle.challenge.specs.Charges.{IsWritten, LogSaysNoMore, SaysNoMore}
+
+-- ---- showings
+
+same_link : (l k : ShownLink) → l.skipped ≡ k.skipped → l.kind ≡ k.kind → l.content ≡ k.content → l ≡ k
+same_link l k s n c = λ i. record { skipped = s i; kind = n i; content = c i }
+
+-- links that skip nothing are told by a text of version 1
+plain_links : (n m : ℕ) (ls ks : List ShownLink) → AllByRecursion (λ l. l.skipped ≡ 0) ls
+    → AllByRecursion (λ l. l.skipped ≡ 0) ks
+    → map (link_value One) (numbered n ls) ≡ map (link_value One) (numbered m ks) → ls ≡ ks
+plain_links n m [] [] a b e = refl
+plain_links n m [] (k ∷ ks) a b e = absurd cc
+plain_links n m (l ∷ ls) [] a b e = absurd cc
+plain_links n m (l ∷ ls) (k ∷ ks) a b e =
+    let head : ◌≡◌ {A = ℕ × List ℕ} (l.kind, l.content) (k.kind, k.content) = cc in
+    let tail : map (link_value One) (numbered (n + 1 + l.skipped) ls)
+    ≡ map (link_value One) (numbered (m + 1 + k.skipped) ks) = cc in
+    ap₂ (λ x xs. x ∷ xs)
+    (same_link l k (a.0 ∙ sym b.0) (ap (λ (p : ℕ × List ℕ). p.0) head) (ap (λ (p : ℕ × List ℕ). p.1) head))
+    (plain_links (n + 1 + l.skipped) (m + 1 + k.skipped) ls ks a.1 b.1 tail)
+
+-- links after one number are told by a text of version 2
+worded_links : (n : ℕ) (ls ks : List ShownLink)
+    → map (link_value Two) (numbered n ls) ≡ map (link_value Two) (numbered n ks) → ls ≡ ks
+worded_links n [] [] e = refl
+worded_links n [] (k ∷ ks) e = absurd cc
+worded_links n (l ∷ ls) [] e = absurd cc
+worded_links n (l ∷ ls) (k ∷ ks) e =
+    let head : ◌≡◌ {A = ℕ × (ℕ × List ℕ)} (word_of l.skipped (n + 1 + l.skipped), (l.kind, l.content))
+    (word_of k.skipped (n + 1 + k.skipped), (k.kind, k.content)) = cc in
+    let tail : map (link_value Two) (numbered (n + 1 + l.skipped) ls)
+    ≡ map (link_value Two) (numbered (n + 1 + k.skipped) ks) = cc in
+    let skip : l.skipped ≡ k.skipped =
+    omega (
+      arith,
+      ap (λ (p : ℕ × (ℕ × List ℕ)). p.0) head,
+      word_is l.skipped (n + 1 + l.skipped),
+      word_is k.skipped (n + 1 + k.skipped),
+    ) in
+    ap₂ (λ x xs. x ∷ xs)
+    (same_link l k skip (ap (λ (p : ℕ × (ℕ × List ℕ)). p.1.0) head) (ap (λ (p : ℕ × (ℕ × List ℕ)). p.1.1) head))
+    (worded_links (n + 1 + l.skipped) ls ks
+    (tail ∙ ap (λ s. map (link_value Two) (numbered (n + 1 + s) ks)) (sym skip)))
+
+same_showing : (s t : ShowingParts) → s.node ≡ t.node → s.first ≡ t.first → s.opening ≡ t.opening
+    → s.links ≡ t.links → s.closing ≡ t.closing → s ≡ t
+same_showing s t n f o l c =
+    λ i. record { node = n i; first = f i; opening = o i; links = l i; closing = c i }
+
+-- a showing that says no more than its text is told by it
+one_showing : (v : LogVersion) (s t : ShowingParts) → SaysNoMore v s → SaysNoMore v t
+    → showing_value v s ≡ showing_value v t → s ≡ t
+one_showing One s t a b e =
+    same_showing s t (ap (λ (x : Value (showing_item One)). x.0) e)
+    (ap (λ (x : Value (showing_item One)). x.1.0) e)
+    (ap (λ (x : Value (showing_item One)). x.1.1.0) e)
+    (plain_links (s.first - 1) (t.first - 1) s.links t.links a b
+    (ap (λ (x : Value (showing_item One)). x.1.1.1.0) e))
+    (same_authenticator s.closing t.closing (ap (λ (x : Value (showing_item One)). x.1.1.1.1) e))
+one_showing Two s t a b e =
+    let start : s.first - 1 ≡ t.first - 1 = ap (λ (x : Value (showing_item Two)). x.1.0) e in
+    same_showing s t (ap (λ (x : Value (showing_item Two)). x.0) e) (omega (arith, start, a, b))
+    (ap (λ (x : Value (showing_item Two)). x.1.1.0) e)
+    (worded_links (s.first - 1) s.links t.links
+    (ap (λ (x : Value (showing_item Two)). x.1.1.1.0) e
+    ∙ ap (λ n. map (link_value Two) (numbered n t.links)) (sym start)))
+    (same_authenticator s.closing t.closing (ap (λ (x : Value (showing_item Two)). x.1.1.1.1) e))
+
+one_second : (v : LogVersion) (s t : Option ShowingParts) → IfSome s (SaysNoMore v) → IfSome t (SaysNoMore v)
+    → option_map (showing_value v) s ≡ option_map (showing_value v) t → s ≡ t
+one_second v None None a b e = refl
+one_second v None (Some t) a b e = absurd cc
+one_second v (Some s) None a b e = absurd cc
+one_second v (Some s) (Some t) a b e =
+    let same : showing_value v s ≡ showing_value v t = cc in ap Some (one_showing v s t a b same)
+
+-- ---- logs
+
+same_logged : (l k : Logged) → l.skipped ≡ k.skipped → l.entry ≡ k.entry → l ≡ k
+same_logged l k s e = λ i. record { skipped = s i; entry = e i }
+
+plain_entries : (n m : ℕ) (ls ks : List Logged) → AllByRecursion (λ l. l.skipped ≡ 0) ls
+    → AllByRecursion (λ l. l.skipped ≡ 0) ks
+    → logged_values One n ls ≡ logged_values One m ks → ls ≡ ks
+plain_entries n m [] [] a b e = refl
+plain_entries n m [] (k ∷ ks) a b e = absurd cc
+plain_entries n m (l ∷ ls) [] a b e = absurd cc
+plain_entries n m (l ∷ ls) (k ∷ ks) a b e =
+    let head : entry_value l.entry ≡ entry_value k.entry = cc in
+    let tail : logged_values One (n + 1 + l.skipped) ls ≡ logged_values One (m + 1 + k.skipped) ks = cc in
+    ap₂ (λ x xs. x ∷ xs) (same_logged l k (a.0 ∙ sym b.0) (same_entry l.entry k.entry head))
+    (plain_entries (n + 1 + l.skipped) (m + 1 + k.skipped) ls ks a.1 b.1 tail)
+
+worded_entries : (n : ℕ) (ls ks : List Logged) → logged_values Two n ls ≡ logged_values Two n ks → ls ≡ ks
+worded_entries n [] [] e = refl
+worded_entries n [] (k ∷ ks) e = absurd cc
+worded_entries n (l ∷ ls) [] e = absurd cc
+worded_entries n (l ∷ ls) (k ∷ ks) e =
+    let head : ◌≡◌ {A = Value (logged_item Two)} (word_of l.skipped (n + 1 + l.skipped), entry_value l.entry)
+    (word_of k.skipped (n + 1 + k.skipped), entry_value k.entry) = cc in
+    let tail : logged_values Two (n + 1 + l.skipped) ls ≡ logged_values Two (n + 1 + k.skipped) ks = cc in
+    let skip : l.skipped ≡ k.skipped =
+    omega (
+      arith,
+      ap (λ (p : Value (logged_item Two)). p.0) head,
+      word_is l.skipped (n + 1 + l.skipped),
+      word_is k.skipped (n + 1 + k.skipped),
+    ) in
+    ap₂ (λ x xs. x ∷ xs)
+    (same_logged l k skip (same_entry l.entry k.entry (ap (λ (p : Value (logged_item Two)). p.1) head)))
+    (worded_entries (n + 1 + l.skipped) ls ks
+    (tail ∙ ap (λ s. logged_values Two (n + 1 + s) ks) (sym skip)))
+
+same_log : (s t : VersionedParts) → s.log_version ≡ t.log_version → s.node ≡ t.node → s.first ≡ t.first
+    → s.opening ≡ t.opening → s.entries ≡ t.entries → s.closing ≡ t.closing → s ≡ t
+same_log s t v n f o es c = λ i. record {
+  log_version = v i;
+  node = n i;
+  first = f i;
+  opening = o i;
+  entries = es i;
+  closing = c i;
+}
+
+abbrev LogValue : LogVersion → Type 0
+LogValue v = Value (versioned_item v MAX_ENTRIES)
+
+-- a log that says no more than its text is told by it
+one_log : (v : LogVersion) (s t : VersionedParts) → s.log_version ≡ t.log_version → LogSaysNoMore v s
+    → LogSaysNoMore v t → versioned_value v s ≡ versioned_value v t → s ≡ t
+one_log One s t same a b e =
+    same_log s t same (ap (λ (x : LogValue One). x.0) e) (ap (λ (x : LogValue One). x.1.0) e)
+    (ap (λ (x : LogValue One). x.1.1.0) e)
+    (plain_entries (s.first - 1) (t.first - 1) s.entries t.entries a b
+    (ap (λ (x : LogValue One). x.1.1.1.0) e))
+    (same_authenticator s.closing t.closing (ap (λ (x : LogValue One). x.1.1.1.1) e))
+one_log Two s t same a b e =
+    let start : s.first - 1 ≡ t.first - 1 = ap (λ (x : LogValue Two). x.1.0) e in
+    same_log s t same (ap (λ (x : LogValue Two). x.0) e) (omega (arith, start, a, b))
+    (ap (λ (x : LogValue Two). x.1.1.0) e)
+    (worded_entries (s.first - 1) s.entries t.entries
+    (ap (λ (x : LogValue Two). x.1.1.1.0) e ∙ ap (λ n. logged_values Two n t.entries) (sym start)))
+    (same_authenticator s.closing t.closing (ap (λ (x : LogValue Two). x.1.1.1.1) e))
+
+-- ---- charges
+
+abbrev ChargeValue : Type 0
+ChargeValue = Value (choice is_charge charge_item)
+
+-- what stands after each kind, or another value
+after_1 : Value (fork_item One) → (n : ℕ) → Value (charge_item n) → Value (fork_item One)
+after_1 d zero x = d
+after_1 d (suc zero) x = x
+after_1 d (suc (suc n)) x = d
+
+after_2 : Value (replay_item One) → (n : ℕ) → Value (charge_item n) → Value (replay_item One)
+after_2 d zero x = d
+after_2 d (suc zero) x = d
+after_2 d (suc (suc zero)) x = x
+after_2 d (suc (suc (suc n))) x = d
+
+after_3 : Value (fork_item Two) → (n : ℕ) → Value (charge_item n) → Value (fork_item Two)
+after_3 d zero x = d
+after_3 d (suc zero) x = d
+after_3 d (suc (suc zero)) x = d
+after_3 d (suc (suc (suc zero))) x = x
+after_3 d (suc (suc (suc (suc n)))) x = d
+
+after_4 : Value (replay_item Two) → (n : ℕ) → Value (charge_item n) → Value (replay_item Two)
+after_4 d zero x = d
+after_4 d (suc zero) x = d
+after_4 d (suc (suc zero)) x = d
+after_4 d (suc (suc (suc zero))) x = d
+after_4 d (suc (suc (suc (suc zero)))) x = x
+after_4 d (suc (suc (suc (suc (suc n))))) x = d
+
+fork_says : (v : LogVersion) (f g : ForkParts) → fork_charge v f ≡ fork_charge v g
+    → fork_value v f ≡ fork_value v g
+unfolding after_1 after_3
+fork_says One f g e = ap (λ (x : ChargeValue). after_1 (fork_value One f) x.0 x.1) e
+fork_says Two f g e = ap (λ (x : ChargeValue). after_3 (fork_value Two f) x.0 x.1) e
+
+log_says : (v : LogVersion) (s t : VersionedParts) → replay_charge v s ≡ replay_charge v t
+    → versioned_value v s ≡ versioned_value v t
+unfolding after_2 after_4
+log_says One s t e = ap (λ (x : ChargeValue). after_2 (versioned_value One s) x.0 x.1) e
+log_says Two s t e = ap (λ (x : ChargeValue). after_4 (versioned_value Two s) x.0 x.1) e
+
+-- the kinds tell versions, and forks from replays
+fork_version : (v w : LogVersion) (f g : ForkParts) → fork_charge v f ≡ fork_charge w g → v ≡ w
+fork_version One One f g e = refl
+fork_version One Two f g e = absurd (omega (arith, ap (λ (x : ChargeValue). x.0) e))
+fork_version Two One f g e = absurd (omega (arith, ap (λ (x : ChargeValue). x.0) e))
+fork_version Two Two f g e = refl
+
+log_version : (v w : LogVersion) (s t : VersionedParts) → replay_charge v s ≡ replay_charge w t → v ≡ w
+log_version One One s t e = refl
+log_version One Two s t e = absurd (omega (arith, ap (λ (x : ChargeValue). x.0) e))
+log_version Two One s t e = absurd (omega (arith, ap (λ (x : ChargeValue). x.0) e))
+log_version Two Two s t e = refl
+
+no_log : (v w : LogVersion) (f : ForkParts) (s : VersionedParts) → fork_charge v f ≡ replay_charge w s → ⊥
+no_log One One f s e = omega (arith, ap (λ (x : ChargeValue). x.0) e)
+no_log One Two f s e = omega (arith, ap (λ (x : ChargeValue). x.0) e)
+no_log Two One f s e = omega (arith, ap (λ (x : ChargeValue). x.0) e)
+no_log Two Two f s e = omega (arith, ap (λ (x : ChargeValue). x.0) e)
+
+one_fork : (f g : ForkParts) → IsWritten (Fork f) → IsWritten (Fork g) → charge_value (Fork f) ≡ charge_value (Fork g)
+    → f ≡ g
+one_fork f g a b e =
+    let v = f.log_version in
+    let same : v ≡ g.log_version = fork_version v g.log_version f g e in
+    let says : fork_value v f ≡ fork_value v g =
+    fork_says v f g (e ∙ sym (ap (λ (w : LogVersion). fork_charge w g) same)) in
+    let first = subst (λ (w : LogVersion). SaysNoMore w g.a) (sym same) b.0 in
+    let second = subst (λ (w : LogVersion). IfSome g.b (SaysNoMore w)) (sym same) b.1 in
+    let at = ap (λ (x : Value (fork_item v)). x.0) says in
+    let x = one_showing v f.a g.a a.0 first (ap (λ (x : Value (fork_item v)). x.1.0) says) in
+    let y = one_second v f.b g.b a.1 second (ap (λ (x : Value (fork_item v)). x.1.1) says) in
+    λ i. record { log_version = same i; at = at i; a = x i; b = y i }
+
+-- two charges that are read of one text are the same
+pub one_charge : (one other : Charge) → IsWritten one → IsWritten other
+    → charge_value one ≡ charge_value other → one ≡ other
+one_charge (Fork f) (Fork g) a b e = ap Fork (one_fork f g a b e)
+one_charge (Fork f) (Replay s) a b e = absurd (no_log f.log_version s.log_version f s e)
+one_charge (Replay s) (Fork f) a b e = absurd (no_log f.log_version s.log_version f s (sym e))
+one_charge (Replay s) (Replay t) a b e =
+    let v = s.log_version in
+    let same : v ≡ t.log_version = log_version v t.log_version s t e in
+    ap Replay (one_log v s t same a
+    (subst (λ (w : LogVersion). LogSaysNoMore w t) (sym same) b)
+    (log_says v s t (e ∙ sym (ap (λ (w : LogVersion). replay_charge w t) same))))

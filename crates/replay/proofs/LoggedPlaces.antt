@@ -1,0 +1,85 @@
+-- Places of entries with how many numbers are skipped before each.
+-- Serves: run, replay_entries.
+use Rattle.std.proofs.Common.{◌≡◌, ℕ, ◌+◌, ◌<◌, ◌^◌, Bool, true, false, List, [], ◌∷◌, length, drop, get_or}
+use Rattle.std.proofs.Common.{refl, sym, ap, ap₂, subst, ◌∙◌, arith}
+use Rattle.std.specs.Prelude.{nat_lt}
+use Rattle.std.specs.List.{AllByRecursion}
+use Rattle.std.proofs.lemmas.Bool.{ltb-true, ltb-false}
+use Rattle.std.proofs.lemmas.List.{drop_all, drop_more, get_or_past}
+use Rattle.authenticator.specs.Numbers.{word_of}
+use Rattle.secure_log.specs.LogEntries.Chain.{Logged, chain_text, hash_after, link_of, logged_link}
+use Rattle.secure_log.specs.LogEntries.Words.{logged}
+use Rattle.secure_log.specs.declared.log_entries.entry.Entry.{Entry}
+use Rattle.replay_spec.specs.Placed.{HasWord, place, placed, places_from}
+
+-- ---- entries from a place on
+
+-- the entry at a place has the count that stands there, or none
+skips_from : (skips : List ℕ) (i : ℕ) (e : Entry) (es : List Entry)
+    → logged (drop i skips) (e ∷ es)
+    ≡ record { skipped = get_or skips i 0; entry = e } ∷ logged (drop (i + 1) skips) es
+skips_from skips i e es = by (nat_lt i (length skips)) refl
+  where
+    by : (b : Bool) → nat_lt i (length skips) ≡ b
+        → logged (drop i skips) (e ∷ es)
+        ≡ record { skipped = get_or skips i 0; entry = e } ∷ logged (drop (i + 1) skips) es
+    by true h = ap (λ ks. logged ks (e ∷ es)) (drop_more skips i 0 (ltb-true i (length skips) h))
+    by false h =
+        let past = ltb-false i (length skips) h in
+        let none : drop (i + 1) skips ≡ [] = drop_all (i + 1) skips (omega (arith, past)) in
+        ap (λ ks. logged ks (e ∷ es)) (drop_all i skips past)
+        ∙ ap₂ (λ n ks. record { skipped = n; entry = e } ∷ logged ks es)
+        (sym (get_or_past skips i 0 past)) (sym none)
+
+-- the entries from one on are it, with what is skipped before it, and those after it
+pub logged_rest : (skips : List ℕ) (entries : List Entry) (i : ℕ) (skipped : ℕ) (e : Entry)
+    → drop i entries ≡ e ∷ drop (i + 1) entries → skipped ≡ get_or skips i 0
+    → logged (drop i skips) (drop i entries)
+    ≡ record { skipped = skipped; entry = e } ∷ logged (drop (i + 1) skips) (drop (i + 1) entries)
+logged_rest skips entries i skipped e rest is =
+    ap (logged (drop i skips)) rest
+    ∙ skips_from skips i e (drop (i + 1) entries)
+    ∙ ap (λ n. record { skipped = n; entry = e } ∷ logged (drop (i + 1) skips) (drop (i + 1) entries))
+    (sym is)
+
+-- ---- hashes
+
+-- the hash at an entry is that of a link with its word as number, before which none is skipped
+pub hash_at : (before : List ℕ) (number : ℕ) (l : Logged) (entry_word kind : ℕ) (digest after : List ℕ)
+    → entry_word ≡ word_of l.skipped number → kind ≡ (logged_link number l).kind
+    → digest ≡ (logged_link number l).content
+    → after ≡ hash_after before
+    (record { skipped = 0; number = entry_word; kind = kind; content = digest })
+    → after ≡ hash_after before (logged_link number l)
+unfolding hash_after chain_text
+hash_at before number l entry_word kind digest after words kinds digests is =
+    is
+    ∙ ap (λ w. hash_after before (record { skipped = 0; number = w; kind = kind; content = digest })) words
+    ∙ ap₂ (λ k d. hash_after before
+    (record { skipped = 0; number = word_of l.skipped number; kind = k; content = d })) kinds digests
+
+-- ---- entries before which none is skipped
+
+-- they stand at numbers one after the other
+pub places_plain : (first : ℕ) (opening : List ℕ) (es : List Entry)
+    → places_from first opening (logged [] es) ≡ placed first opening es
+places_plain first opening [] = refl
+places_plain first opening (e ∷ es) =
+    let number : first + 0 ≡ first = omega arith in
+    ap (λ n. place n opening e ∷ places_from (n + 1) (hash_after opening (link_of n e)) (logged [] es)) number
+    ∙ ap (λ ps. place first opening e ∷ ps)
+    (places_plain (first + 1) (hash_after opening (link_of first e)) es)
+
+plain_words : (first : ℕ) (opening : List ℕ) (es : List Entry) → first + length es < 2 ^ 64
+    → AllByRecursion HasWord (placed first opening es)
+plain_words first opening [] low = tt
+plain_words first opening (e ∷ es) low = (
+  omega (arith, low),
+  plain_words (first + 1) (hash_after opening (link_of first e)) es (omega (arith, low)),
+)
+
+-- and have words, where their numbers have 64 bits
+pub plain_has_words : (first : ℕ) (opening : List ℕ) (es : List Entry) → first + length es < 2 ^ 64
+    → AllByRecursion HasWord (places_from first opening (logged [] es))
+plain_has_words first opening es low =
+    subst (AllByRecursion HasWord) (sym (places_plain first opening es)) (plain_words first opening es low)
