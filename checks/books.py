@@ -6,8 +6,7 @@ book after a step) are written out here a second time, over plain values: a hash
 entry is marked as bad. Random steps are made, and after each the reply and all parts are compared. The limits are small,
 so that every refusal of a node's own step is reached; then errors are planted in the equations, and each must be seen.
 
-All of it is done with a log of version 1, and then with one of version 2, whose numbers have gaps: the crates have version 1
-alone today.
+All of it is done with a log of version 1, and then with one of version 2, whose numbers have gaps.
 
     checks/books.py [HISTORIES]     prints how many steps were compared, which replies came, and what was planted; of
                                     version 2 half as many histories are tried

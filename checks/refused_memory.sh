@@ -17,7 +17,7 @@ readonly REFUSED=400
 # Of each subject one more than the requests that the calls have, and how many what is made first has, which aren't refused.
 declare -rA MOST=(
     [replies]=29 [files]=36 [keys]=8 [log]=84 [state]=124 [client]=25 [server]=54 [streams]=19 [steps]=28 [entries]=27
-    [segments]=67 [evidence]=107 [fork]=47 [replay2]=67 [books]=34 [filings]=13 [served]=27 [returned]=13 [jobs]=41 [rounds]=64 [stored]=0
+    [segments]=67 [evidence]=107 [fork]=47 [replay2]=67 [books]=34 [filings]=14 [served]=27 [returned]=13 [jobs]=41 [rounds]=64 [stored]=0
 )
 declare -rA MADE=(
     [replies]=0 [files]=8 [keys]=0 [log]=13 [state]=1 [client]=10 [server]=18 [streams]=17 [steps]=20 [entries]=28
@@ -189,7 +189,7 @@ check_subject() {
             ;;
         # A done value that was refused comes back, and is filed then. This evidence is made when it is asked for.
         filings)
-            exactly_refused 1 'File of a sound verdict' 3 Forward 1 'File of a fault' 7 'Ask of the evidence'
+            exactly_refused 1 'File of a sound verdict' 3 Forward 1 'File of a fault' 8 'Ask of the evidence'
             ;;
         # A service also takes memory for its pass, its journal, and two notes of the event and the reply.
         served)

@@ -16,7 +16,7 @@ use Rattle.replay.specs.Verdicts.{IsOutcome}
 use Rattle.replay.specs.Faults.{fault_in}
 use Rattle.replay.specs.declared.outcome.Outcome.{Outcome}
 use Rattle.replay.specs.declared.outcome.Outcome.TheVariants as outcomes
-use Rattle.evidence_showings.specs.declared.mark.Mark.{Mark}
+use Rattle.secure_log.specs.declared.mark.Mark.{Mark}
 use Rattle.evidence_showings.specs.evidence_spec.Showing.{ShowingParts, Shows}
 use Rattle.evidence_showings.specs.evidence_spec.Evidence.{Charge, Fork, Replay, EvidenceParts, AcceptsFork}
 use Rattle.evidence_showings.specs.evidence_spec.Evidence.{AcceptsReplay, AcceptsCharge, Accepts}

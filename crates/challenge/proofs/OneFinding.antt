@@ -16,9 +16,9 @@ use Rattle.replay.specs.replay_spec.Replay.{verdict_of}
 use Rattle.replay.specs.replay_spec.Placed.{places_in}
 use Rattle.replay.specs.replay_spec.Opening.{opening_of}
 use Rattle.secure_log.proofs.OfLogEntries.Marks.{one_mark}
-use Rattle.evidence_showings.specs.Marks.{mark_in}
-use Rattle.evidence_showings.specs.declared.mark.Mark.{Mark}
-use Rattle.evidence_showings.specs.declared.mark.Mark.TheVariants.{Hash, NoEntry}
+use Rattle.secure_log.specs.Marks.{mark_in}
+use Rattle.secure_log.specs.declared.mark.Mark.{Mark}
+use Rattle.secure_log.specs.declared.mark.Mark.TheVariants.{Hash, NoEntry}
 use Rattle.evidence_showings.specs.Showings.{Ends}
 use Rattle.evidence_showings.specs.evidence_spec.Showing.{ShowingParts, Shows, links_in}
 use Rattle.evidence_showings.specs.evidence_spec.Evidence.{Charge, Fork, Replay}

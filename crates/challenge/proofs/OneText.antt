@@ -1,21 +1,16 @@
 -- A charge that is read is told by its text: two of one text are the same.
 -- Serves: a_text_has_one_charge.
-use Rattle.std.proofs.Common.{◌≡◌, ℕ, zero, suc, ◌+◌, ◌-◌, ◌<◌, List, [], ◌∷◌, Option, Some, None, map}
+use Rattle.std.proofs.Common.{◌≡◌, ℕ, zero, suc, ◌+◌, ◌-◌, List, [], ◌∷◌, Option, Some, None, map}
 use Rattle.std.proofs.Common.{refl, sym, ap, ap₂, subst, ◌∙◌, arith}
 use Rattle.std.specs.Prelude.{IfSome, option_map}
 use Rattle.std.specs.List.{AllByRecursion}
 use Rattle.xdr.specs.Item.{Value, choice}
-use Rattle.authenticator.specs.declared.authenticator.Authenticator.{Authenticator}
 use Rattle.authenticator.specs.declared.member.LogVersion.{LogVersion}
 use Rattle.authenticator.specs.declared.member.LogVersion.TheVariants.{One, Two}
 use Rattle.authenticator.specs.Numbers.{word_of}
 use Rattle.authenticator.proofs.Words.{word_is}
-use Rattle.secure_log.specs.declared.log_entries.entry.Entry.{Entry}
-use Rattle.secure_log.specs.LogEntries.Chain.{Logged}
-use Rattle.secure_log.specs.LogEntries.Entry.{entry_item, entry_value}
-use Rattle.secure_log.specs.Versioned.{VersionedParts, logged_item, logged_values, versioned_item, versioned_value}
-use Rattle.secure_log.specs.declared.segment.TheConstants.{MAX_ENTRIES}
-use Rattle.secure_log.proofs.OfLogEntries.Values.{same_entry}
+use Rattle.secure_log.specs.Versioned.{VersionedParts, versioned_value}
+use Rattle.secure_log.proofs.OneText as logs
 use Rattle.secure_log.proofs.Texts.{same_authenticator}
 use Rattle.evidence_showings.specs.evidence_spec.Showing.{ShowingParts, ShownLink, link_value, numbered}
 use Rattle.evidence_showings.specs.evidence_spec.Showing.{showing_item, showing_value}
@@ -101,71 +96,15 @@ one_second v (Some s) (Some t) a b e =
 
 -- ---- logs
 
-same_logged : (l k : Logged) → l.skipped ≡ k.skipped → l.entry ≡ k.entry → l ≡ k
-same_logged l k s e = λ i. record { skipped = s i; entry = e i }
+-- a log that says no more than its text
+as_log : (v : LogVersion) (s : VersionedParts) → LogSaysNoMore v s → logs.SaysNoMore v s
+as_log One s a = a
+as_log Two s a = a
 
-plain_entries : (n m : ℕ) (ls ks : List Logged) → AllByRecursion (λ l. l.skipped ≡ 0) ls
-    → AllByRecursion (λ l. l.skipped ≡ 0) ks
-    → logged_values One n ls ≡ logged_values One m ks → ls ≡ ks
-plain_entries n m [] [] a b e = refl
-plain_entries n m [] (k ∷ ks) a b e = absurd cc
-plain_entries n m (l ∷ ls) [] a b e = absurd cc
-plain_entries n m (l ∷ ls) (k ∷ ks) a b e =
-    let head : entry_value l.entry ≡ entry_value k.entry = cc in
-    let tail : logged_values One (n + 1 + l.skipped) ls ≡ logged_values One (m + 1 + k.skipped) ks = cc in
-    ap₂ (λ x xs. x ∷ xs) (same_logged l k (a.0 ∙ sym b.0) (same_entry l.entry k.entry head))
-    (plain_entries (n + 1 + l.skipped) (m + 1 + k.skipped) ls ks a.1 b.1 tail)
-
-worded_entries : (n : ℕ) (ls ks : List Logged) → logged_values Two n ls ≡ logged_values Two n ks → ls ≡ ks
-worded_entries n [] [] e = refl
-worded_entries n [] (k ∷ ks) e = absurd cc
-worded_entries n (l ∷ ls) [] e = absurd cc
-worded_entries n (l ∷ ls) (k ∷ ks) e =
-    let head : ◌≡◌ {A = Value (logged_item Two)} (word_of l.skipped (n + 1 + l.skipped), entry_value l.entry)
-    (word_of k.skipped (n + 1 + k.skipped), entry_value k.entry) = cc in
-    let tail : logged_values Two (n + 1 + l.skipped) ls ≡ logged_values Two (n + 1 + k.skipped) ks = cc in
-    let skip : l.skipped ≡ k.skipped =
-    omega (
-      arith,
-      ap (λ (p : Value (logged_item Two)). p.0) head,
-      word_is l.skipped (n + 1 + l.skipped),
-      word_is k.skipped (n + 1 + k.skipped),
-    ) in
-    ap₂ (λ x xs. x ∷ xs)
-    (same_logged l k skip (same_entry l.entry k.entry (ap (λ (p : Value (logged_item Two)). p.1) head)))
-    (worded_entries (n + 1 + l.skipped) ls ks
-    (tail ∙ ap (λ s. logged_values Two (n + 1 + s) ks) (sym skip)))
-
-same_log : (s t : VersionedParts) → s.log_version ≡ t.log_version → s.node ≡ t.node → s.first ≡ t.first
-    → s.opening ≡ t.opening → s.entries ≡ t.entries → s.closing ≡ t.closing → s ≡ t
-same_log s t v n f o es c = λ i. record {
-  log_version = v i;
-  node = n i;
-  first = f i;
-  opening = o i;
-  entries = es i;
-  closing = c i;
-}
-
-abbrev LogValue : LogVersion → Type 0
-LogValue v = Value (versioned_item v MAX_ENTRIES)
-
--- a log that says no more than its text is told by it
+-- is told by it
 one_log : (v : LogVersion) (s t : VersionedParts) → s.log_version ≡ t.log_version → LogSaysNoMore v s
     → LogSaysNoMore v t → versioned_value v s ≡ versioned_value v t → s ≡ t
-one_log One s t same a b e =
-    same_log s t same (ap (λ (x : LogValue One). x.0) e) (ap (λ (x : LogValue One). x.1.0) e)
-    (ap (λ (x : LogValue One). x.1.1.0) e)
-    (plain_entries (s.first - 1) (t.first - 1) s.entries t.entries a b
-    (ap (λ (x : LogValue One). x.1.1.1.0) e))
-    (same_authenticator s.closing t.closing (ap (λ (x : LogValue One). x.1.1.1.1) e))
-one_log Two s t same a b e =
-    let start : s.first - 1 ≡ t.first - 1 = ap (λ (x : LogValue Two). x.1.0) e in
-    same_log s t same (ap (λ (x : LogValue Two). x.0) e) (omega (arith, start, a, b))
-    (ap (λ (x : LogValue Two). x.1.1.0) e)
-    (worded_entries (s.first - 1) s.entries t.entries
-    (ap (λ (x : LogValue Two). x.1.1.1.0) e ∙ ap (λ n. logged_values Two n t.entries) (sym start)))
-    (same_authenticator s.closing t.closing (ap (λ (x : LogValue Two). x.1.1.1.1) e))
+one_log v s t same a b e = logs.one_log v s t same (as_log v s a) (as_log v t b) e
 
 -- ---- charges
 

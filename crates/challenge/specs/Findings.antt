@@ -15,10 +15,10 @@ use Rattle.replay.specs.Faults.{fault_in}
 use Rattle.replay.specs.declared.fault.ReplayFault.{ReplayFault}
 use Rattle.replay.specs.declared.outcome.Outcome.{Outcome}
 use Rattle.replay.specs.declared.outcome.Outcome.TheVariants as outcomes
-use Rattle.evidence_showings.specs.Marks.{mark_in}
+use Rattle.secure_log.specs.Marks.{mark_in}
 use Rattle.evidence_showings.specs.Showings.{Ends}
-use Rattle.evidence_showings.specs.declared.mark.Mark.{Mark}
-use Rattle.evidence_showings.specs.declared.mark.Mark.TheVariants.{Hash, NoEntry}
+use Rattle.secure_log.specs.declared.mark.Mark.{Mark}
+use Rattle.secure_log.specs.declared.mark.Mark.TheVariants.{Hash, NoEntry}
 use Rattle.evidence_showings.specs.evidence_spec.Showing.{ShowingParts, IsClosedShowing, Shows}
 use Rattle.evidence_showings.specs.evidence_spec.Evidence.{Charge, Fork, Replay, EvidenceParts}
 use Rattle.evidence_showings.specs.evidence_spec.Evidence.{ShowsTwo, ShowsNoOpening, AcceptsReplay}

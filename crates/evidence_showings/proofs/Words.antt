@@ -1,6 +1,6 @@
 -- Words of shown links: those that follow, and what links may skip.
--- Serves: may_skip, closes, Showing::has_words, Showing::of_words, WordedShowing::into_showing, read_parts,
--- add_links.
+-- Serves: may_skip, closes, links_after, Showing::has_words, Showing::of_words, Showing::of_closed,
+-- WordedShowing::into_showing, read_parts, add_links.
 use Rattle.std.proofs.Common.{◌≡◌, ℕ, ◌+◌, ◌-◌, ◌<◌, ◌≤◌, ◌^◌, Bool, true, false, List, [], ◌∷◌, ◌++◌, length}
 use Rattle.std.proofs.Common.{drop, get_or, map, refl, sym, ap, ap₂, subst, ◌∙◌, arith}
 use Rattle.std.specs.Prelude.{◌*◌, ◌/◌, ◌%◌, ◌==◌, ◌↔◌, nat_le}
@@ -10,6 +10,7 @@ use Rattle.std.proofs.lemmas.List.{drop_more, length-map, map-append}
 use Rattle.xdr.specs.Item.{Fits}
 use Rattle.authenticator.specs.declared.member.LogVersion.{LogVersion}
 use Rattle.authenticator.specs.declared.member.LogVersion.TheVariants.{One, Two}
+use Rattle.authenticator.specs.declared.member.Member.{Member}
 use Rattle.authenticator.specs.Numbers.{number_in, word_of}
 use Rattle.authenticator.proofs.Words.{word_is}
 use Rattle.evidence_spec.specs.secure_log.LogEntries.Chain.{Link, last_number}
@@ -18,11 +19,17 @@ use Rattle.evidence_spec.proofs.Gaps.{closing_number, length-shown, rise, shown_
 use Rattle.evidence_spec.specs.secure_log.LogEntries.Words.{ClosesAt, MAX_SKIPPED, MaySkip, follows}
 use Rattle.evidence_spec.specs.secure_log.LogEntries.Words.{last_word, words_follow}
 use Rattle.evidence_spec.specs.Showing.{ShownLink, ShowingParts, link_item, link_value}
+use Rattle.evidence_spec.specs.Showing.{IsClosedShowing, links_follow}
 use Rattle.evidence_spec.specs.Showing.{links_in, numbered, showing_item, showing_value}
 use Rattle.evidence_showings.specs.Showings.{HasText, HasWords, numbered_link, word_after}
 use Rattle.evidence_showings.specs.Worded.{WordedLinkParts, worded_link_value}
 
 -- ---- one link more
+
+-- some items, one more and the rest
+pub then_rest : {A : Type 0} (xs : List A) (x : A) (rest : List A) → (xs ++ x ∷ []) ++ rest ≡ xs ++ x ∷ rest
+then_rest [] x rest = refl
+then_rest (y ∷ xs) x rest = ap (λ ys. y ∷ ys) (then_rest xs x rest)
 
 -- the links of some and one more
 pub numbered_snoc : (before : ℕ) (ls : List ShownLink) (l : ShownLink)
@@ -152,6 +159,18 @@ text_of_words s low fits =
         ),
       ),
     )
+
+-- as one with a text of a log of its version has, which begins so
+pub plain_text : (v : LogVersion) (s : ShowingParts) → s.first < 2 ^ 64 → Fits (showing_item v) (showing_value v s)
+    → HasText s
+plain_text One s low fits = fits
+plain_text Two s low fits = text_of_words s low fits
+
+-- the words of a closed showing follow
+pub closed_follow : (v : LogVersion) (ms : List Member) (s : ShowingParts) → IsClosedShowing v ms s
+    → links_follow v (showing_value v s) ≡ true
+closed_follow One ms s closed = refl
+closed_follow Two ms s closed = skips_follow (s.first - 1) s.links closed.skips
 
 -- it has few links
 pub links_few : (s : ShowingParts) → HasText s → length s.links ≤ MAX_ENTRIES

@@ -1,6 +1,5 @@
 pub use Rattle.evidence_spec.specs as evidence_spec
 pub mod Kinds
-pub mod Marks
 pub mod Plain
 pub mod Worded
 pub mod Showings

@@ -12,23 +12,29 @@ use Rattle.replay_spec.specs.authenticator.declared.authenticator.Authenticator.
 use Rattle.replay_spec.specs.authenticator.declared.member.LogVersion.{LogVersion}
 use Rattle.replay_spec.specs.authenticator.declared.member.LogVersion.TheVariants.{One, Two}
 use Rattle.replay_spec.specs.authenticator.declared.member.Member.{Member}
-use Rattle.replay_spec.specs.authenticator.Numbers.{is_number, number_in}
+use Rattle.replay_spec.specs.authenticator.Numbers.{is_number, number_in, number_item}
 use Rattle.replay_spec.specs.authenticator.Signed.{IsSignedIn, authenticator_item, authenticator_value}
 use Rattle.replay_spec.specs.secure_log.declared.log_entries.entry.Entry.{Entry}
 use Rattle.replay_spec.specs.secure_log.declared.log_entries.entry.Entry.TheVariants.{Send, Recv, Ack, Clock}
 use Rattle.replay_spec.specs.secure_log.declared.log_entries.entry.Entry.TheVariants.{Check}
-use Rattle.replay_spec.specs.secure_log.LogEntries.Entry.{is_kind, kind_number, entry_value, content}
-use Rattle.replay_spec.specs.secure_log.LogEntries.Chain.{last_hash, links_from, link_of, marks}
-use Rattle.replay_spec.proofs.secure_log.OfLogEntries.Marks.{marks_are_pairs}
+use Rattle.replay_spec.specs.secure_log.LogEntries.Entry.{is_kind, kind_number, content}
+use Rattle.replay_spec.specs.secure_log.LogEntries.Chain.{Link, Logged, last_hash, logged_link, logged_links}
+use Rattle.replay_spec.specs.secure_log.LogEntries.Chain.{marks, without_gaps}
+use Rattle.replay_spec.specs.secure_log.LogEntries.Words.{ClosesAt, MaySkip}
 use Rattle.replay_spec.specs.secure_log.declared.segment.TheConstants.{MAX_ENTRIES}
 use Rattle.replay_spec.specs.secure_log.Segment.{SegmentParts, IsClosed, FitsWithin, segment_pairs}
-use Rattle.replay_spec.specs.secure_log.LogEntries.Words.{ClosesAt, MaySkip, last_word}
-use Rattle.evidence_spec.specs.Showing.{numbered, link_item, link_value, links_in}
-use Rattle.evidence_spec.specs.Showing.{authenticator_showing, segment_showing, shown_link, start_item}
-use Rattle.evidence_spec.specs.Showing.{start_value}
+use Rattle.replay_spec.specs.secure_log.Versioned.{VersionedParts, FitsVersion, IsClosedIn, logged_item}
+use Rattle.replay_spec.specs.secure_log.Versioned.{logged_value, logged_values, of_plain, segment_marks}
+use Rattle.replay_spec.specs.secure_log.Versioned.{start_number, versioned_links}
+use Rattle.replay_spec.proofs.secure_log.Gaps.{length-logged_links}
+use Rattle.replay_spec.proofs.secure_log.VersionedTexts.{length-values, plain_fits}
+use Rattle.evidence_spec.specs.Showing.{ShownLink, numbered, link_item, link_value, links_in}
+use Rattle.evidence_spec.specs.Showing.{authenticator_showing, segment_showing, shown_link, shown_logged}
+use Rattle.evidence_spec.specs.Showing.{start_item, start_value, versioned_showing}
 use Rattle.evidence_spec.specs.Laws.{ShowsMarks}
-use Rattle.evidence_spec.proofs.Places.{length-links}
+use Rattle.evidence_spec.proofs.PlainSegments.{marks_plain}
 use Rattle.evidence_spec.proofs.Shown.{next_fits}
+use Rattle.evidence_spec.proofs.WithoutGaps.{closed_plain}
 
 -- ---- an authenticator
 
@@ -70,81 +76,92 @@ kind_fits (Clock seconds microseconds) = (omega arith, refl)
 kind_fits (Check digest) = (omega arith, refl)
 
 -- the links shown are those of the entries
-same_links : (before : ℕ) (es : List Entry) → numbered before (map shown_link es) ≡ links_from (before + 1) es
+same_links : (before : ℕ) (ls : List Logged) → numbered before (map shown_logged ls) ≡ logged_links before ls
 same_links before [] = refl
-same_links before (e ∷ es) =
-    let number : before + 1 + 0 ≡ before + 1 = omega arith in
-    ap (λ n. link_of n e ∷ numbered n (map shown_link es)) number
-    ∙ ap (λ ls. link_of (before + 1) e ∷ ls) (same_links (before + 1) es)
+same_links before (l ∷ ls) =
+    let n = before + 1 + l.skipped in
+    ap (λ (ks : List Link). logged_link n l ∷ ks) (same_links n ls)
 
-pub none_skipped : (first : ℕ) (es : List Entry) → AllByRecursion (MaySkip One) (links_from first es)
-none_skipped first [] = tt
-none_skipped first (e ∷ es) = (refl, none_skipped (first + 1) es)
+link_fits : (v : LogVersion) (n : ℕ) (l : Logged) → Fits (logged_item v) (logged_value v n l)
+    → Fits (link_item v) (link_value v (logged_link n l))
+link_fits One n l fits = (kind_fits l.entry, length-sha256 (content l.entry))
+link_fits Two n l fits = (fits.0, (kind_fits l.entry, length-sha256 (content l.entry)))
 
-links_fit : (first : ℕ) (es : List Entry)
-    → AllByRecursion (Fits (link_item One)) (map (link_value One) (links_from first es))
-links_fit first [] = tt
-links_fit first (e ∷ es) = ((kind_fits e, length-sha256 (content e)), links_fit (first + 1) es)
+links_fit : (v : LogVersion) (before : ℕ) (ls : List Logged)
+    → AllByRecursion (Fits (logged_item v)) (logged_values v before ls)
+    → AllByRecursion (Fits (link_item v)) (map (link_value v) (logged_links before ls))
+links_fit v before [] fits = tt
+links_fit v before (l ∷ ls) fits =
+    let n = before + 1 + l.skipped in (link_fits v n l fits.0, links_fit v n ls fits.1)
 
-last_after : (first : ℕ) (e : Entry) (es : List Entry)
-    → last_word (link_of first e) (links_from (first + 1) es) ≡ first + length es
-last_after first e [] = omega arith
-last_after first e (f ∷ es) = omega (arith, last_after (first + 1) f es)
+begin_fits : (v : LogVersion) (first : ℕ) → Fits number_item (start_number v first)
+    → Fits (start_item v) (start_value v first)
+begin_fits One first fits = fits.0
+begin_fits Two first fits = fits
 
--- the word after the last number closes them
-pub closes : (before closing : ℕ) (es : List Entry) → closing ≡ before + length es
-    → ClosesAt One before (links_from (before + 1) es) closing
-closes before closing [] h = omega (arith, h)
-closes before closing (e ∷ es) h = omega (arith, h, last_after (before + 1) e es)
-
--- and no other does
-pub closes_back : (before closing : ℕ) (es : List Entry)
-    → ClosesAt One before (links_from (before + 1) es) closing → closing ≡ before + length es
-closes_back before closing [] h = omega (arith, h)
-closes_back before closing (e ∷ es) h = omega (arith, h, last_after (before + 1) e es)
-
--- a closed segment, as a showing without its entries, shows all its pairs
-pub own_pairs : (ms : List Member) (s : SegmentParts) → FitsWithin MAX_ENTRIES s → 0 < s.first
-    → IsClosed ms s → ShowsMarks One ms (segment_showing s) (segment_pairs s)
-own_pairs ms s fits some closed =
-    let back : s.first - 1 + 1 ≡ s.first = omega (arith, some) in
-    let same : links_in (segment_showing s) ≡ links_from s.first s.entries =
-    same_links (s.first - 1) s.entries ∙ ap (λ n. links_from n s.entries) back in
-    let shown : length (links_from s.first s.entries) ≡ length s.entries = length-links s.first s.entries in
-    let values : length (map (link_value One) (links_from s.first s.entries))
-    ≡ length (links_from s.first s.entries) =
-    length-map (links_from s.first s.entries) (link_value One) in
-    let entries : length (map entry_value s.entries) ≡ length s.entries = length-map s.entries entry_value in
-    let few = fits.1.1.1.0 in
-    let fit : Fits (array MAX_ENTRIES (link_item One)) (map (link_value One) (links_from s.first s.entries)) = (
-      omega (arith, shown, values, entries, few.0),
-      omega (arith, shown, values, entries, few.1),
-      links_fit s.first s.entries,
+-- a closed segment, as a showing without its entries, shows all its marks
+pub own_marks : (ms : List Member) (s : VersionedParts) → FitsVersion MAX_ENTRIES s → IsClosedIn ms s
+    → ShowsMarks s.log_version ms (versioned_showing s) (segment_marks s)
+own_marks ms s fits closed =
+    let v = s.log_version in
+    let links = versioned_links s in
+    let same : links_in (versioned_showing s) ≡ links = same_links (s.first - 1) s.entries in
+    let count : length (map (link_value v) links) ≡ length (logged_values v (s.first - 1) s.entries) =
+    length-map links (link_value v)
+    ∙ length-logged_links (s.first - 1) s.entries
+    ∙ sym (length-values v (s.first - 1) s.entries) in
+    let few = fits.text.1.1.1.0 in
+    let fit : Fits (array MAX_ENTRIES (link_item v)) (map (link_value v) links) = (
+      omega (arith, count, few.0),
+      omega (arith, count, few.1),
+      links_fit v (s.first - 1) s.entries few.2,
     ) in
     record {
       closed = record {
-        first = some;
-        skips = subst (AllByRecursion (MaySkip One)) (sym same) (none_skipped s.first s.entries);
+        first = closed.ends.first;
+        skips = subst (AllByRecursion (MaySkip v)) (sym same) closed.ends.skips;
         node = closed.ends.node;
-        last = subst (λ ls. ClosesAt One (s.first - 1) ls s.closing.word) (sym (same_links (s.first - 1) s.entries))
-            (closes (s.first - 1) s.closing.word s.entries (omega (arith, closed.ends.number, some)));
+        last = subst (λ ls. ClosesAt v (s.first - 1) ls s.closing.word) (sym same) closed.ends.last;
         hash = closed.ends.hash ∙ ap (last_hash s.opening) (sym same);
         signed = closed.signed;
       };
       text = (
-        fits.0,
+        fits.text.0,
         (
-          fits.1.0.0,
+          begin_fits v s.first fits.text.1.0,
           (
-            fits.1.1.0,
+            fits.text.1.1.0,
             (
-              subst (λ ls. Fits (array MAX_ENTRIES (link_item One)) (map (link_value One) ls)) (sym same) fit,
-              fits.1.1.1.1,
+              subst (λ ls. Fits (array MAX_ENTRIES (link_item v)) (map (link_value v) ls)) (sym same) fit,
+              fits.text.1.1.1.1,
             ),
           ),
         ),
       );
-      is = ap (marks (s.first - 1) s.opening) same
-          ∙ marks_are_pairs (s.first - 1) s.opening (links_from s.first s.entries)
-          (none_skipped s.first s.entries);
+      is = ap (marks (s.first - 1) s.opening) same;
     }
+
+-- ---- one of a log of version 1
+
+shown_plain : (es : List Entry) → map shown_logged (without_gaps es) ≡ map shown_link es
+shown_plain [] = refl
+shown_plain (e ∷ es) = ap (λ (ls : List ShownLink). shown_link e ∷ ls) (shown_plain es)
+
+-- it is shown as one that skips nothing
+pub showing_plain : (s : SegmentParts) → versioned_showing (of_plain s) ≡ segment_showing s
+showing_plain s =
+    ap (λ (ls : List ShownLink). record {
+      node = s.node;
+      first = s.first;
+      opening = s.opening;
+      links = ls;
+      closing = s.closing;
+    }) (shown_plain s.entries)
+
+-- so it shows its pairs
+pub own_pairs : (ms : List Member) (s : SegmentParts) → FitsWithin MAX_ENTRIES s → 0 < s.first
+    → IsClosed ms s → ShowsMarks One ms (segment_showing s) (segment_pairs s)
+own_pairs ms s fits some closed =
+    subst (λ x. ShowsMarks One ms x (segment_pairs s)) (showing_plain s)
+    (subst (ShowsMarks One ms (versioned_showing (of_plain s))) (marks_plain s some)
+    (own_marks ms (of_plain s) (plain_fits MAX_ENTRIES s fits) ((closed_plain s some ms).0 closed)))

@@ -10,7 +10,8 @@ pub mod Shown
 pub mod Reached
 pub mod Replayed
 pub mod Accepted
-pub mod Closed
 pub mod WithoutGaps
+pub mod PlainSegments
+pub mod Closed
 pub mod Nothing
 pub mod OneReading

@@ -1,5 +1,5 @@
 -- Where a pair stands among the pairs of a chain whose links are numbered one after the other.
--- Serves: one_hash_at_a_number, what_is_shown_is_of_the_log.
+-- Serves: one_hash_at_a_number.
 use Rattle.std.proofs.Common.{◌≡◌, ℕ, suc, ◌+◌, List, [], ◌∷◌, ◌++◌, length, inl, inr, refl, sym, ap}
 use Rattle.std.proofs.Common.{subst, ◌∙◌, arith}
 use Rattle.std.specs.List.{AllByRecursion}
@@ -70,19 +70,6 @@ behind before opening (l ∷ links) number hash n (inr i) =
 pub head_among : (n : ℕ) (h : List ℕ) (ls : List Link) → IsAmong (n, h) (pairs n h ls)
 head_among n h [] = inl refl
 head_among n h (l ∷ ls) = inl refl
-
--- and the number and hash after some first links are a pair of the chain
-pub among : (before : ℕ) (opening : List ℕ) (front rest : List Link) (number : ℕ)
-    → AreNumbered (before + 1) (front ++ rest) → number ≡ before + length front
-    → IsAmong (number, last_hash opening front) (pairs before opening (front ++ rest))
-among before opening [] [] number n h = let same : number ≡ before =
-    omega (arith, h) in inl (ap (λ k. (k, opening)) same)
-among before opening [] (l ∷ rest) number n h = let same : number ≡ before =
-    omega (arith, h) in inl (ap (λ k. (k, opening)) same)
-among before opening (l ∷ front) rest number n h =
-    let rising : AreNumbered (l.number + 1) (front ++ rest) =
-    subst (λ k. AreNumbered (k + 1) (front ++ rest)) (sym n.0) n.1 in
-    inr (among l.number (hash_after opening l) front rest number rising (omega (arith, h, n.0)))
 
 -- ---- one hash at a number
 

@@ -1,42 +1,36 @@
 -- Showings and segments whose closing is a pair of a log show marks of that log alone.
 -- Serves: what_is_shown_is_of_the_log, accepted_evidence_proves.
-use Rattle.std.proofs.Common.{◌≡◌, ℕ, ◌+◌, ◌<◌, ◌≤◌, ◌^◌, List, ◌++◌, length, subst, arith}
+use Rattle.std.proofs.Common.{◌≡◌, ℕ, ◌+◌, ◌<◌, ◌^◌, List, [], ◌∷◌, ◌++◌, subst, arith}
 use Rattle.std.specs.Prelude.{◌-◌, IsTrue}
 use Rattle.std.proofs.lemmas.Bool.{ltb-true}
-use Rattle.std.specs.List.{flat_map}
+use Rattle.std.specs.List.{AllByRecursion, flat_map}
 use Rattle.xdr.specs.Item.{Fits}
 use Rattle.replay_spec.specs.authenticator.Numbers.{is_number, number_in}
 use Rattle.replay_spec.specs.authenticator.declared.member.LogVersion.{LogVersion}
 use Rattle.replay_spec.specs.authenticator.declared.member.LogVersion.TheVariants.{One, Two}
 use Rattle.replay_spec.specs.authenticator.declared.member.Member.{Member}
-use Rattle.replay_spec.specs.secure_log.declared.log_entries.entry.Entry.{Entry}
-use Rattle.replay_spec.specs.secure_log.LogEntries.Chain.{AreNumbered, IsChain, Logged, zeros, links_from}
-use Rattle.replay_spec.specs.secure_log.LogEntries.Chain.{chain_texts}
+use Rattle.replay_spec.specs.secure_log.LogEntries.Entry.{entry_item, entry_value}
+use Rattle.replay_spec.specs.secure_log.LogEntries.Chain.{AreNumbered, IsChain, Logged, zeros, chain_texts}
 use Rattle.replay_spec.specs.secure_log.LogEntries.Chain.{IsAmong, NoCollision, last_number}
-use Rattle.replay_spec.proofs.secure_log.OfLogEntries.Chains.{links-are-links}
-use Rattle.replay_spec.specs.secure_log.Log.{log_pairs}
-use Rattle.replay_spec.specs.secure_log.Segment.{SegmentParts, IsClosed, FitsWithin, segment_pairs}
-use Rattle.replay_spec.proofs.secure_log.Places.{is_chain}
+use Rattle.replay_spec.specs.secure_log.Versioned.{VersionedParts, IsClosedIn, logged_item, logged_value}
+use Rattle.replay_spec.specs.secure_log.Versioned.{logged_values, segment_marks, versioned_links}
+use Rattle.replay_spec.specs.secure_log.Versioned.{versioned_value}
+use Rattle.replay_spec.proofs.secure_log.OfLogEntries.FewerTexts.{Within, fewer, left, right, both}
 use Rattle.evidence_spec.specs.Showing.{ShowingParts, IsClosedShowing, Shows, links_in, showing_item}
 use Rattle.evidence_spec.specs.Showing.{showing_value}
-use Rattle.evidence_spec.specs.Evidence.{MAX_AUDITED}
-use Rattle.evidence_spec.specs.Proving.{IsLog, IsLogOf, entry_texts, log_links, log_texts, marks_of, pairs_of}
-use Rattle.evidence_spec.specs.Proving.{segment_texts, showing_texts, texts_of}
+use Rattle.evidence_spec.specs.Evidence.{replay_item}
+use Rattle.evidence_spec.specs.Proving.{IsLogOf, entry_texts, log_links, marks_of, pairs_of}
+use Rattle.evidence_spec.specs.Proving.{showing_texts, texts_of, versioned_texts}
 use Rattle.evidence_spec.specs.Laws.{IsPartOf}
-use Rattle.replay_spec.proofs.secure_log.OfLogEntries.FewerTexts.{Within, fewer, left, right, both}
-use Rattle.evidence_spec.proofs.Places.{entries_numbered, length-links}
-use Rattle.evidence_spec.proofs.Gaps.{closing_number, log_are_links, logged_after, shown_after}
-use Rattle.evidence_spec.proofs.Gaps.{shown_are_links}
-use Rattle.evidence_spec.proofs.ShownMarks.{in_log}
-use Rattle.evidence_spec.proofs.Chained.{IsPartOfChain, zeros-length, ends_in_log, shown_in_log}
-use Rattle.evidence_spec.proofs.Parts.{each_of_values, entries_in_log}
+use Rattle.evidence_spec.proofs.Chained.{zeros-length}
+use Rattle.evidence_spec.proofs.Gaps.{closing_number, log_are_links, logged_after, logged_are_links}
+use Rattle.evidence_spec.proofs.Gaps.{shown_after, shown_are_links}
+use Rattle.evidence_spec.proofs.Parts.{EachLogged, entries_in_log, logged_texts}
+use Rattle.evidence_spec.proofs.ShownMarks.{StandsInLog, in_log, marks_in, opening_in, stands_in_log}
 
 -- a number of a text has a next one in 64 bits
 pub next_fits : (n : ℕ) → IsTrue (is_number n) → n + 1 < 2 ^ 64
 next_fits n h = omega (arith, ltb-true _ _ h)
-
-log_chain : (log : List Entry) → IsLog log → IsChain One zeros (links_from 1 log)
-log_chain log is = record { opened = zeros-length; each = links-are-links 1 log (omega (arith, is.few)) }
 
 -- ---- showings
 
@@ -82,51 +76,77 @@ module _ (v : LogVersion) (ms : List Member) (log : List Logged) (s : ShowingPar
 
 -- ---- segments
 
-module _ (ms : List Member) (log : List Entry) (s : SegmentParts) (is : IsLog log)
-    (fits : FitsWithin MAX_AUDITED s) (some : 1 ≤ s.first) (closed : IsClosed ms s)
-    (i : IsAmong (s.closing.word, s.closing.hash) (log_pairs log))
-    (unlike : NoCollision (log_texts log ++ segment_texts s)) where
-  segment_part : IsPartOfChain (links_from 1 log) s.first s.opening (links_from s.first s.entries)
-  segment_part =
-      let links = links_from s.first s.entries in
-      let whole = links_from 1 log in
-      let small : s.closing.word + 1 < 2 ^ 64 = next_fits s.closing.word fits.1.1.1.1.1.0.1 in
-      let count : s.closing.word + 1 ≡ s.first + length links =
-      omega (arith, closed.ends.number, length-links s.first s.entries) in
-      let within : Within (chain_texts zeros whole ++ chain_texts s.opening links)
-      (log_texts log ++ segment_texts s) =
-      both (chain_texts zeros whole) (chain_texts s.opening links) (log_texts log ++ segment_texts s)
-      (λ t k. left (log_texts log) (segment_texts s) t
-      (left (chain_texts zeros whole) (flat_map entry_texts log) t k))
-      (λ t k. right (log_texts log) (segment_texts s) t
-      (left (chain_texts s.opening links) (flat_map entry_texts s.entries) t k)) in
-      ends_in_log whole links s.first s.opening s.closing.word s.closing.hash (entries_numbered 1 log)
-      (log_chain log is) (is_chain ms s fits.1.1.0 small closed) (omega (arith, some)) count closed.ends.hash
-      (fewer (chain_texts zeros whole ++ chain_texts s.opening links)
-      (log_texts log ++ segment_texts s) within unlike) i
+entry_fits : (v : LogVersion) (n : ℕ) (l : Logged) → Fits (logged_item v) (logged_value v n l)
+    → Fits entry_item (entry_value l.entry)
+entry_fits One n l fits = fits
+entry_fits Two n l fits = fits.1
 
-  -- the segment's pairs are the log's
-  pub segment_in_log : (number : ℕ) (hash : List ℕ) → IsAmong (number, hash) (segment_pairs s)
-      → IsAmong (number, hash) (log_pairs log)
-  segment_in_log number hash shown =
-      shown_in_log (links_from 1 log) (links_from s.first s.entries) s.first s.opening number hash
-      (entries_numbered 1 log) (entries_numbered s.first s.entries) (omega (arith, some)) segment_part shown
+-- entries whose values each have a spelling each have a text
+each_of_logged : (v : LogVersion) (before : ℕ) (ls : List Logged)
+    → AllByRecursion (Fits (logged_item v)) (logged_values v before ls) → EachLogged ls
+each_of_logged v before [] each = tt
+each_of_logged v before (l ∷ ls) each =
+    (entry_fits v (before + 1 + l.skipped) l each.0, each_of_logged v (before + 1 + l.skipped) ls each.1)
+
+module _ (ms : List Member) (log : List Logged) (s : VersionedParts) (is : IsLogOf s.log_version log)
+    (fits : Fits (replay_item s.log_version) (versioned_value s.log_version s)) (closed : IsClosedIn ms s)
+    (i : IsAmong (number_in s.log_version s.closing.word, s.closing.hash) (pairs_of log))
+    (unlike : NoCollision (texts_of log ++ versioned_texts s)) where
+  abbrev all : List (List ℕ)
+  all = texts_of log ++ versioned_texts s
+
+  last : number_in s.log_version s.closing.word ≡ last_number (s.first - 1) (versioned_links s)
+  last = closing_number s.log_version (s.first - 1) (versioned_links s) s.closing.word closed.ends.skips
+      closed.ends.last
+
+  chain : IsChain s.log_version s.opening (versioned_links s)
+  chain = record {
+    opened = fits.1.1.0;
+    each = logged_are_links s.log_version (s.first - 1) s.entries closed.ends.skips
+        (omega (arith, last, number_low s.log_version s.closing.word fits.1.1.1.1.1.0.1));
+  }
+
+  -- the texts of both chains
+  abbrev log_chained : List (List ℕ)
+  log_chained = chain_texts zeros (log_links log)
+
+  abbrev chained : List (List ℕ)
+  chained = chain_texts s.opening (versioned_links s)
+
+  chains_within : Within (log_chained ++ chained) all
+  chains_within =
+      both log_chained chained all
+      (λ t k. left (texts_of log) (versioned_texts s) t (left log_chained (logged_texts log) t k))
+      (λ t k. right (texts_of log) (versioned_texts s) t (left chained (logged_texts s.entries) t k))
+
+  stands : StandsInLog (log_links log) (s.first - 1) s.opening (versioned_links s)
+  stands = stands_in_log s.log_version (log_links log) (versioned_links s) (s.first - 1) s.opening
+      (log_chain_of s.log_version log is) chain (logged_after 0 log) (logged_after (s.first - 1) s.entries)
+      (fewer (log_chained ++ chained) all chains_within unlike)
+      (subst (λ h. IsAmong (last_number (s.first - 1) (versioned_links s), h) (pairs_of log)) closed.ends.hash
+      (subst (λ n. IsAmong (n, s.closing.hash) (pairs_of log)) last i))
+
+  -- the segment's marks are the log's
+  pub segment_in_log : (number : ℕ) (mark : List ℕ) → IsAmong (number, mark) (segment_marks s)
+      → IsAmong (number, mark) (marks_of log)
+  segment_in_log number mark shown =
+      marks_in (log_links log) (s.first - 1) s.opening (versioned_links s) stands number mark shown
+
+  -- so is the pair before its first number
+  pub segment_opens : IsAmong (s.first - 1, s.opening) (pairs_of log)
+  segment_opens = opening_in (log_links log) (s.first - 1) s.opening (versioned_links s) stands
 
   -- and its entries are those of the log at its places
   pub segment_is_part : IsPartOf log s
   segment_is_part =
-      let part = segment_part in
-      let found = entries_in_log (log_texts log ++ segment_texts s) unlike log s.entries s.first part.before
-      part.rest
-      is.each (each_of_values s.entries fits.1.1.1.0.2)
-      (λ t k. left (log_texts log) (segment_texts s) t
-      (right (chain_texts zeros (links_from 1 log)) (flat_map entry_texts log) t k))
-      (λ t k. right (log_texts log) (segment_texts s) t
-      (right (chain_texts s.opening (links_from s.first s.entries)) (flat_map entry_texts s.entries) t k))
-      part.whole part.place in
+      let found = entries_in_log all unlike log s.entries (s.first - 1) stands.front stands.rest is.each
+      (each_of_logged s.log_version (s.first - 1) s.entries fits.1.1.1.0.2)
+      (λ t k. left (texts_of log) (versioned_texts s) t (right log_chained (logged_texts log) t k))
+      (λ t k. right (texts_of log) (versioned_texts s) t (right chained (logged_texts s.entries) t k))
+      stands.whole stands.is_number in
       record {
         before = found.before;
         rest = found.rest;
         whole = found.whole;
-        place = omega (arith, found.place, part.place);
+        place = omega (arith, found.place, closed.ends.first);
       }

@@ -1,22 +1,32 @@
 -- A chain whose last pair is one of a log's stands in it and has its marks among the log's, gaps included,
--- where no two texts have one digest. Serves: what_is_shown_is_of_the_log, accepted_evidence_proves.
-use Rattle.std.proofs.Common.{◌≡◌, ℕ, ◌<◌, ◌≤◌, List, [], ◌∷◌, ◌++◌, length, inl, inr, refl}
+-- where no two texts have one digest. Serves: what_is_shown_is_of_the_log, accepted_evidence_proves and
+-- a_segment_after_a_reached_place_is_sound.
+use Rattle.std.proofs.Common.{◌≡◌, ℕ, ◌+◌, ◌<◌, ◌≤◌, List, [], ◌∷◌, ◌++◌, length, inl, inr, refl}
 use Rattle.std.proofs.Common.{sym, ap, subst, ◌∙◌, arith, append_assoc, length-append}
 use Rattle.std.proofs.lemmas.Bool.{cases_lt}
-use Rattle.std.proofs.lemmas.List.{nil_from_length}
 use Rattle.std.specs.Prelude.{◌⊎◌}
 use Rattle.std.specs.List.{AllByRecursion}
 use Rattle.replay_spec.specs.authenticator.declared.member.LogVersion.{LogVersion}
 use Rattle.replay_spec.specs.secure_log.LogEntries.Chain.{AreNumbered, Link, IsLink, IsChain, IsEndOf}
 use Rattle.replay_spec.specs.secure_log.LogEntries.Chain.{IsAmong}
 use Rattle.replay_spec.specs.secure_log.LogEntries.Chain.{NoCollision, zeros, hash_after, last_hash}
-use Rattle.replay_spec.specs.secure_log.LogEntries.Chain.{last_number}
+use Rattle.replay_spec.specs.secure_log.LogEntries.Chain.{last_number, none_from}
 use Rattle.replay_spec.specs.secure_log.LogEntries.Chain.{pairs, marks, chain_texts}
 use Rattle.replay_spec.proofs.secure_log.OfLogEntries.FewerTexts.{Within, fewer, left, right, both, beginning}
 use Rattle.replay_spec.proofs.secure_log.OfLogEntries.Chains.{chain_end}
 use Rattle.replay_spec.proofs.secure_log.OfLogEntries.Marks.{marks_parts, marks_begin}
 use Rattle.evidence_spec.proofs.Places.{all_front}
 use Rattle.evidence_spec.proofs.Gaps.{rise}
+
+-- each pair of links is a mark of them
+pub pair_is_mark : (before : ℕ) (opening : List ℕ) (links : List Link) (p : ℕ × List ℕ)
+    → IsAmong p (pairs before opening links) → IsAmong p (marks before opening links)
+pair_is_mark before opening [] p i = i
+pair_is_mark before opening (l ∷ ls) p (inl e) = inl e
+pair_is_mark before opening (l ∷ ls) p (inr i) =
+    let after = hash_after opening l in
+    inr (right (none_from (before + 1) l.skipped) (marks l.number after ls) p
+    (pair_is_mark l.number after ls p i))
 
 last_number-append : (before : ℕ) (xs ys : List Link)
     → last_number before (xs ++ ys) ≡ last_number (last_number before xs) ys
@@ -42,7 +52,8 @@ pub record StandsInLog (log : List Link) (before : ℕ) (opening : List ℕ) (li
   pub is_hash : last_hash zeros front ≡ opening
 
 -- a number and a hash are those after the first links of a chain
-record StandsAfter (before : ℕ) (opening : List ℕ) (links : List Link) (number : ℕ) (hash : List ℕ) : Type 0 where
+record StandsAfter (before : ℕ) (opening : List ℕ) (links : List Link) (number : ℕ) (hash : List ℕ)
+    : Type 0 where
   front : List Link
   rest : List Link
   whole : links ≡ front ++ rest
@@ -74,6 +85,13 @@ behind before opening (l ∷ links) number hash (inr i) =
       is_hash = rest.is_hash;
     }
 
+-- the number and hash after the first of some links are a pair of all
+pub pair_after : (before : ℕ) (opening : List ℕ) (xs ys : List Link)
+    → IsAmong (last_number before xs, last_hash opening xs) (pairs before opening (xs ++ ys))
+pair_after before opening [] [] = inl refl
+pair_after before opening [] (y ∷ ys) = inl refl
+pair_after before opening (x ∷ xs) ys = inr (pair_after x.number (hash_after opening x) xs ys)
+
 -- links that come from zeros as a log does, and stand at the end of others that are numbered, are all of them
 not_longer : (before : ℕ) (xs front : List Link) → AreNumbered before (xs ++ front) → AreNumbered 0 front
     → last_number before (xs ++ front) ≡ last_number 0 front → length xs ≡ 0
@@ -90,9 +108,19 @@ same_before : (before : ℕ) (b links : List Link) → AreNumbered before links 
 same_before before b [] n m e = omega (arith, last_number-append 0 b [], e)
 same_before before b (l ∷ ls) n m e = omega (arith, (numbered_rest 0 b (l ∷ ls) m).0, n.0)
 
+-- the number and hash before links that stand in a log are a pair of the log
+pub opening_in : (log : List Link) (before : ℕ) (opening : List ℕ) (links : List Link)
+    → StandsInLog log before opening links → IsAmong (before, opening) (pairs 0 zeros log)
+opening_in log before opening links s =
+    subst (λ ls. IsAmong (before, opening) (pairs 0 zeros ls)) (sym s.whole)
+    (subst (λ h. IsAmong (before, h) (pairs 0 zeros (s.front ++ (links ++ s.rest)))) s.is_hash
+    (subst (λ n. IsAmong (n, last_hash zeros s.front) (pairs 0 zeros (s.front ++ (links ++ s.rest))))
+    s.is_number (pair_after 0 zeros s.front (links ++ s.rest))))
+
 -- the marks of links that stand in a log are the log's
-marks_in : (log : List Link) (before : ℕ) (opening : List ℕ) (links : List Link)
-    → StandsInLog log before opening links → (number : ℕ) (mark : List ℕ) → IsAmong (number, mark) (marks before opening links)
+pub marks_in : (log : List Link) (before : ℕ) (opening : List ℕ) (links : List Link)
+    → StandsInLog log before opening links → (number : ℕ) (mark : List ℕ)
+    → IsAmong (number, mark) (marks before opening links)
     → IsAmong (number, mark) (marks 0 zeros log)
 marks_in log before opening links s number mark i =
     let m = marks_parts 0 zeros s.front (links ++ s.rest) in
@@ -106,17 +134,9 @@ marks_in log before opening links s number mark i =
     (right m.0 (marks before opening (links ++ s.rest)) (number, mark)
     (marks_begin before opening links s.rest (number, mark) i))
 
--- links that stand in a log after the number 0 are its first
-pub stands_first : (log : List Link) (opening : List ℕ) (links : List Link) → AreNumbered 0 log
-    → (s : StandsInLog log 0 opening links) → log ≡ links ++ s.rest
-stands_first log opening links n s =
-    let numbered : AreNumbered 0 s.front =
-    numbered_front 0 s.front (links ++ s.rest) (subst (AreNumbered 0) s.whole n) in
-    let none : length s.front ≡ 0 = omega (arith, rise 0 s.front numbered, s.is_number) in
-    s.whole ∙ ap (λ ls. ls ++ (links ++ s.rest)) (nil_from_length s.front none)
-
-module _ (v : LogVersion) (log links : List Link) (before : ℕ) (opening : List ℕ) (log_chain : IsChain v zeros log)
-    (chain : IsChain v opening links) (log_numbered : AreNumbered 0 log) (links_numbered : AreNumbered before links)
+module _ (v : LogVersion) (log links : List Link) (before : ℕ) (opening : List ℕ)
+    (log_chain : IsChain v zeros log) (chain : IsChain v opening links)
+    (log_numbered : AreNumbered 0 log) (links_numbered : AreNumbered before links)
     (unlike : NoCollision (chain_texts zeros log ++ chain_texts opening links))
     (closing : IsAmong (last_number before links, last_hash opening links) (pairs 0 zeros log)) where
   b : StandsAfter 0 zeros log (last_number before links) (last_hash opening links)

@@ -1,5 +1,5 @@
 -- What holds of evidence: each law is the contract of a function in src/laws.rt.
-use Rattle.std.specs.Prelude.{◌≡◌, ◌↔◌, ℕ, ◌+◌, ◌<◌, ◌≤◌, List, [], ◌∷◌, ◌++◌, length}
+use Rattle.std.specs.Prelude.{◌≡◌, ◌↔◌, ℕ, ◌+◌, ◌<◌, List, [], ◌∷◌, ◌++◌}
 use Rattle.std.specs.Prelude.{Option, Some, option_map, IfSome}
 use Rattle.std.specs.List.{AllByRecursion}
 use Rattle.sha2.specs.Sha256.{sha256}
@@ -12,29 +12,31 @@ use Rattle.replay_spec.specs.authenticator.declared.member.Kind.TheVariants.{Cli
 use Rattle.replay_spec.specs.authenticator.declared.authenticator.Authenticator.{Authenticator}
 use Rattle.replay_spec.specs.authenticator.Roster.{member_of}
 use Rattle.replay_spec.specs.authenticator.Signed.{IsSignedIn, authenticator_item, authenticator_value}
-use Rattle.replay_spec.specs.secure_log.LogEntries.Chain.{zeros, Logged, NoCollision, IsAmong}
+use Rattle.replay_spec.specs.secure_log.LogEntries.Chain.{zeros, Logged, NoCollision, IsAmong, last_hash}
+use Rattle.replay_spec.specs.secure_log.LogEntries.Chain.{span}
 use Rattle.replay_spec.specs.secure_log.LogEntries.Entry.{entry_item, entry_value, kind_number, content}
 use Rattle.replay_spec.specs.secure_log.declared.log_entries.entry.Entry.{Entry}
 use Rattle.replay_spec.specs.secure_log.declared.log_entries.entry.Entry.TheVariants.{Clock}
 use Rattle.replay_spec.specs.secure_log.Log.{log_hash, log_pairs}
 use Rattle.replay_spec.specs.secure_log.Segment.{SegmentParts, IsClosed, FitsWithin, segment_pairs}
 use Rattle.replay_spec.specs.secure_log.Segment.{segment_value}
-use Rattle.replay_spec.specs.secure_log.Versioned.{VersionedParts, of_plain, versioned_value}
+use Rattle.replay_spec.specs.secure_log.Versioned.{VersionedParts, FitsVersion, IsClosedIn, of_plain}
+use Rattle.replay_spec.specs.secure_log.Versioned.{segment_marks, versioned_value}
 use Rattle.replay_spec.specs.secure_log.declared.segment.TheConstants.{MAX_ENTRIES}
 use Rattle.replay_spec.specs.state_spec.State.{State}
-use Rattle.replay_spec.specs.Placed.{placed}
+use Rattle.replay_spec.specs.Placed.{logged_places, places_in}
 use Rattle.replay_spec.specs.Stepping.{ReplayFault}
-use Rattle.replay_spec.specs.Replay.{Honest, Fault, Sound, segment_verdict}
+use Rattle.replay_spec.specs.Replay.{Honest, Fault, Sound, segment_verdict, verdict_of}
 use Rattle.replay_spec.specs.Opening.{opening_of}
 use Rattle.replay_spec.specs.HonestLogs.{IsHonestWithGaps}
 use Rattle.evidence_spec.specs.Showing.{ShowingParts, IsClosedShowing, Shows}
 use Rattle.evidence_spec.specs.Showing.{showing_item, showing_value, showing_marks}
-use Rattle.evidence_spec.specs.Showing.{authenticator_showing, segment_showing}
+use Rattle.evidence_spec.specs.Showing.{authenticator_showing, segment_showing, versioned_showing}
 use Rattle.evidence_spec.specs.Evidence.{ForkParts, Fork, Replay, EvidenceParts}
 use Rattle.evidence_spec.specs.Evidence.{MAX_AUDITED, evidence_item, evidence_value, Accepts}
 use Rattle.evidence_spec.specs.Evidence.{AcceptsReplay}
-use Rattle.evidence_spec.specs.Proving.{IsLog, IsLogOf, pairs_of, marks_of, log_texts, texts_of}
-use Rattle.evidence_spec.specs.Proving.{segment_texts, showing_texts, entry_texts}
+use Rattle.evidence_spec.specs.Proving.{IsLogOf, log_links, pairs_of, marks_of, texts_of}
+use Rattle.evidence_spec.specs.Proving.{versioned_texts, showing_texts, entry_texts}
 use Rattle.evidence_spec.specs.Proving.{charge_texts, closings, IsUnforgedIn, Proves}
 
 -- A log of version 1 has one hash at each number.
@@ -59,55 +61,56 @@ ShownIsOfTheLog =
     → NoCollision (texts_of log ++ showing_texts s)
     → Shows s number mark → IsAmong (number, mark) (marks_of log)
 
--- The same of a segment of a log of version 1, whose entries are then those of the log at its places.
-pub record IsPartOf (log : List Entry) (s : SegmentParts) : Type 0 where
-  pub before : List Entry
-  pub rest : List Entry
+-- The same of a segment, whose entries are then those of the log after its first number.
+pub record IsPartOf (log : List Logged) (s : VersionedParts) : Type 0 where
+  pub before : List Logged
+  pub rest : List Logged
   pub whole : log ≡ before ++ (s.entries ++ rest)
-  pub place : length before + 1 ≡ s.first
+  pub place : span before + 1 ≡ s.first
 
 abbrev pub SegmentIsOfTheLog : Type 0
 SegmentIsOfTheLog =
-    (ms : List Member) (log : List Entry) (s : SegmentParts)
-    → IsLog log → FitsWithin MAX_AUDITED s → 1 ≤ s.first → IsClosed ms s
-    → IsAmong (s.closing.word, s.closing.hash) (log_pairs log)
-    → NoCollision (log_texts log ++ segment_texts s)
-    → IsPartOf log s × ((number : ℕ) (hash : List ℕ)
-    → IsAmong (number, hash) (segment_pairs s) → IsAmong (number, hash) (log_pairs log))
+    (ms : List Member) (log : List Logged) (s : VersionedParts)
+    → IsLogOf s.log_version log → FitsVersion MAX_AUDITED s → IsClosedIn ms s
+    → IsAmong (number_in s.log_version s.closing.word, s.closing.hash) (pairs_of log)
+    → NoCollision (texts_of log ++ versioned_texts s)
+    → IsPartOf log s × ((number : ℕ) (mark : List ℕ)
+    → IsAmong (number, mark) (segment_marks s) → IsAmong (number, mark) (marks_of log))
 
--- A log has reached a state at a number: after as many entries it is honest from this state on.
-pub record Reached (ms : List Member) (log : List Entry) (number : ℕ) (state : State) : Type 0 where
-  pub before : List Entry
-  pub rest : List Entry
+-- A log has reached a state at a number: after the entries up to it, it is honest from this state on.
+pub record Reached (ms : List Member) (log : List Logged) (number : ℕ) (state : State) : Type 0 where
+  pub before : List Logged
+  pub rest : List Logged
   pub whole : log ≡ before ++ rest
-  pub count : length before ≡ number
+  pub count : span before ≡ number
   -- the state after each entry of the rest
   pub states : List State
-  pub honest : Honest ms state (placed (length before + 1) (log_hash before) rest) states
+  pub honest : Honest ms state (logged_places number (last_hash zeros (log_links before)) rest) states
 
 -- A segment is a log's, right after a number: its entries stand there, and its opening hash is that of the
 -- number.
-pub record IsNextIn (log : List Entry) (number : ℕ) (s : SegmentParts) : Type 0 where
+pub record IsNextIn (log : List Logged) (number : ℕ) (s : VersionedParts) : Type 0 where
   pub first : s.first ≡ number + 1
-  -- it has an entry at each number up to its closing one
-  pub last : s.closing.word + 1 ≡ s.first + length s.entries
+  -- its closing's number is that of its last entry, or the one before its first
+  pub last : number_in s.log_version s.closing.word + 1 ≡ s.first + span s.entries
   pub part : IsPartOf log s
-  pub opening : IsAmong (number, s.opening) (log_pairs log)
+  pub opening : IsAmong (number, s.opening) (pairs_of log)
 
 -- A segment replays sound from a state, and the log has reached the state after it at its closing number.
-pub record IsSoundIn (ms : List Member) (log : List Entry) (state : State) (s : SegmentParts) : Type 0 where
+pub record IsSoundIn (ms : List Member) (log : List Logged) (state : State) (s : VersionedParts)
+    : Type 0 where
   pub after : State
   -- what it shows of other nodes
   pub found : List Authenticator
-  pub sound : segment_verdict ms state s ≡ Sound after found
-  pub reached : Reached ms log s.closing.word after
+  pub sound : verdict_of ms state (places_in s) ≡ Sound after found
+  pub reached : Reached ms log (number_in s.log_version s.closing.word) after
 
 -- A segment of a log, right after a number at which the log has reached a state, replays sound from that
 -- state, and the log has reached the state after it at the segment's closing number. No digest is spoken of:
 -- that the segment is the log's is a premise.
 abbrev pub SegmentsGoOnSound : Type 0
 SegmentsGoOnSound =
-    (ms : List Member) (log : List Entry) (number : ℕ) (state : State) (s : SegmentParts)
+    (ms : List Member) (log : List Logged) (number : ℕ) (state : State) (s : VersionedParts)
     → Reached ms log number state → IsNextIn log number s → IsSoundIn ms log state s
 
 -- Two entries are of one kind, and their contents have one digest.
@@ -149,6 +152,12 @@ abbrev pub SegmentsShowTheirPairs : Type 0
 SegmentsShowTheirPairs =
     (ms : List Member) (s : SegmentParts) → FitsWithin MAX_ENTRIES s → 0 < s.first → IsClosed ms s
     → ShowsMarks One ms (segment_showing s) (segment_pairs s)
+
+-- A closed segment's links show its marks, whatever its entries skip.
+abbrev pub SegmentsShowTheirMarks : Type 0
+SegmentsShowTheirMarks =
+    (ms : List Member) (s : VersionedParts) → FitsVersion MAX_ENTRIES s → IsClosedIn ms s
+    → ShowsMarks s.log_version ms (versioned_showing s) (segment_marks s)
 
 -- ---- what proves nothing
 

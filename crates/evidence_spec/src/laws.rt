@@ -5,6 +5,7 @@ ghost use Rattle.evidence_spec.specs.Laws.{SegmentIsOfTheLog};
 ghost use Rattle.evidence_spec.specs.Laws.{SegmentsGoOnSound};
 ghost use Rattle.evidence_spec.specs.Laws.{ContentsGiveEntriesBack, AcceptedEvidenceProves};
 ghost use Rattle.evidence_spec.specs.Laws.{AuthenticatorsShowOnePair, SegmentsShowTheirPairs};
+ghost use Rattle.evidence_spec.specs.Laws.{SegmentsShowTheirMarks};
 ghost use Rattle.evidence_spec.specs.Laws.{OwnTextsProveNothing, UnsignedProveNothing};
 ghost use Rattle.evidence_spec.specs.Laws.{OneReadingProvesNothing, ReplaysWithoutGaps, TextsWithoutGaps};
 
@@ -16,7 +17,7 @@ pub fn one_hash_at_a_number()
 {}
 
 /// Where the closing of a showing, or of a segment, is a pair of a log and no two texts have one digest, all
-/// that it shows are marks, or pairs, of the log; and the segment's entries are the log's.
+/// that it shows are marks of the log; and the segment's entries are the log's.
 pub fn what_is_shown_is_of_the_log()
     ensures showing { ShownIsOfTheLog }
     ensures segment { SegmentIsOfTheLog }
@@ -40,10 +41,11 @@ pub fn accepted_evidence_proves()
 {}
 
 /// A signed authenticator alone, and the links of a closed segment, are closed showings, of that pair and of
-/// the segment's.
+/// the segment's; so are those of a segment that skips numbers, of its marks.
 pub fn what_is_shown_is_closed()
     ensures authenticator { AuthenticatorsShowOnePair }
     ensures segment { SegmentsShowTheirPairs }
+    ensures marks { SegmentsShowTheirMarks }
 {}
 
 /// What an honest log shows of itself proves nothing against its node, as one of a single clock reading whose

@@ -1,4 +1,5 @@
 pub mod Faulted
+pub mod ForkTexts
 pub mod Mapped
 pub mod Reaching
 pub mod Taken

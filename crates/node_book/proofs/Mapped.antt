@@ -1,5 +1,5 @@
 -- Lists that are mapped: what is found, counted, kept and joined of them.
--- Serves: is_open, count_sends, close_answered, close_send; count_entries and entries_shown by way of Shown.
+-- Serves: is_open, count_sends, close_answered, close_send; is_answered; count_entries and shown_of by way of Shown.
 use Rattle.std.proofs.Common.{◌≡◌, ◌+◌, ◌<◌, ◌≤◌, ℕ, Bool, true, false, cond, List, [], ◌∷◌, ◌++◌, map}
 use Rattle.std.proofs.Common.{filter, flat_map, count_by, fold, length, get_or, take, refl, sym, ap, ◌∙◌}
 use Rattle.std.proofs.Common.{◌||◌, take_all}

@@ -8,8 +8,10 @@ use Rattle.std.proofs.lemmas.List.{map-append}
 use Rattle.std.proofs.lemmas.List.Elements.{filter-append}
 use Rattle.std.proofs.lemmas.List.Sums.{fold-append}
 use Rattle.authenticator.specs.declared.authenticator.Authenticator.{Authenticator}
+use Rattle.authenticator.specs.declared.member.LogVersion.{LogVersion}
 use Rattle.witness_spec.specs.Limits.{MAX_ASKED}
 use Rattle.witness_spec.specs.Owing.{last_in_reach}
+use Rattle.witness_spec.specs.Pairs.{number_of}
 
 -- one number more, after those that were looked at
 one_more : (most greatest n : ℕ) (b : Bool) → nat_le n most ≡ b
@@ -23,16 +25,18 @@ in_reach end n true e = le-leb (n - end) MAX_ASKED (omega (arith, leb-true n (en
 in_reach end n false e = lt-leb (n - end) MAX_ASKED (omega (arith, leb-false n (end + MAX_ASKED) e))
 
 -- with one authenticator more it is that one's number, where this is in reach and greater
-pub reach_more : (end : ℕ) (xs : List Authenticator) (a : Authenticator)
-    → last_in_reach end (xs ++ a ∷ [])
-    ≡ cond (nat_le (a.word - end) MAX_ASKED) (max (last_in_reach end xs) a.word) (last_in_reach end xs)
-reach_more end xs a =
+pub reach_more : (v : LogVersion) (end : ℕ) (xs : List Authenticator) (a : Authenticator)
+    → last_in_reach v end (xs ++ a ∷ [])
+    ≡ cond (nat_le (number_of v a - end) MAX_ASKED) (max (last_in_reach v end xs) (number_of v a))
+    (last_in_reach v end xs)
+reach_more v end xs a =
+    let number = number_of v a in
     let most = end + MAX_ASKED in
     let kept = λ (ns : List ℕ). filter (λ k. nat_le k most) ns in
-    ap (λ (ns : List ℕ). fold max 0 (kept ns)) (map-append (λ (x : Authenticator). x.word) xs (a ∷ []))
+    ap (λ (ns : List ℕ). fold max 0 (kept ns)) (map-append (number_of v) xs (a ∷ []))
     ∙ (ap (λ (ns : List ℕ). fold max 0 ns)
-    (filter-append (λ k. nat_le k most) (map (λ (x : Authenticator). x.word) xs) (a.word ∷ []))
-    ∙ (fold-append max 0 (kept (map (λ (x : Authenticator). x.word) xs)) (kept (a.word ∷ []))
-    ∙ (one_more most (last_in_reach end xs) a.word (nat_le a.word most) refl
-    ∙ ap (λ b. cond b (max (last_in_reach end xs) a.word) (last_in_reach end xs))
-    (sym (in_reach end a.word (nat_le a.word most) refl)))))
+    (filter-append (λ k. nat_le k most) (map (number_of v) xs) (number ∷ []))
+    ∙ (fold-append max 0 (kept (map (number_of v) xs)) (kept (number ∷ []))
+    ∙ (one_more most (last_in_reach v end xs) number (nat_le number most) refl
+    ∙ ap (λ b. cond b (max (last_in_reach v end xs) number) (last_in_reach v end xs))
+    (sym (in_reach end number (nat_le number most) refl)))))

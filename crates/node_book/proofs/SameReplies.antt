@@ -1,10 +1,8 @@
 -- Refusals with the same number are the same, and so are challenges that say the same.
 -- Serves: is_same of replies.
-use Rattle.std.proofs.Common.{◌≡◌, ℕ, ◌==◌, List, [], ◌∷◌, map, refl, sym, ap, ap₂, ◌∙◌}
-use Rattle.std.specs.Prelude.{if◌then◌else◌}
-use Rattle.witness_spec.specs.Refusals.{Refusal, UnknownNode, Garbage, BadSignature, LearnedFull}
-use Rattle.witness_spec.specs.Refusals.{ChallengesFull, OutboxFull, TooFar, NothingToAudit, Busy, NotAsked}
-use Rattle.witness_spec.specs.Refusals.{NoJob, WrongJob, BookFull, NoMemory, refusal_number}
+use Rattle.std.proofs.Common.{◌≡◌, List, [], ◌∷◌, map, refl, sym, ap, ap₂, ◌∙◌}
+use Rattle.witness_spec.specs.Refusals.{Refusal}
+use Rattle.witness_spec.specs.Refusals.{refusal_number}
 use Rattle.challenge.specs.declared.challenge.Challenge.{Challenge}
 use Rattle.challenge.specs.declared.challenge.Challenge.TheVariants as challenges
 use Rattle.node_book.specs.Replies.{challenge_in}

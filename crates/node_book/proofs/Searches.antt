@@ -5,63 +5,64 @@ use Rattle.std.proofs.Common.{nat_le, ◌&&◌, List, [], ◌∷◌, length, get
 use Rattle.std.proofs.Common.{ap, ◌∙◌, arith}
 use Rattle.std.proofs.lemmas.Bool.{and_from, le-leb, leb-true, ltb-true, ltb-false}
 use Rattle.std.proofs.lemmas.Bool.Decides.{nat_tests}
-use Rattle.secure_log.specs.Segment.{ClosedParts}
+use Rattle.secure_log.specs.Versioned.{ClosedVersionedParts}
 use Rattle.secure_log.proofs.PartitionPoints.{PassInFront}
 use Rattle.witness_spec.specs.Exposing.{segment_holding}
+use Rattle.witness_spec.specs.Pairs.{last_of}
 use Rattle.witness_book_laws.specs.Fitting.{Tile}
 use Rattle.node_book.specs.Looking.{count_ended}
 use Rattle.node_book.specs.Rows.{segments_in}
 
 -- none ends before they begin
-pub ends_after : (first : ℕ) (cs : List ClosedParts) (next : ℕ) (k : ℕ) (d : ClosedParts)
-    → Tile first (segments_in cs) next → k < length cs → first ≤ (get_or cs k d).segment.closing.word
+pub ends_after : (first : ℕ) (cs : List ClosedVersionedParts) (next : ℕ) (k : ℕ) (d : ClosedVersionedParts)
+    → Tile first (segments_in cs) next → k < length cs → first ≤ last_of (get_or cs k d).segment
 ends_after first [] next k d t h = absurd (omega arith)
 ends_after first (c ∷ cs) next zero d t h = t.1
 ends_after first (c ∷ cs) next (suc k) d t h =
-    let rest : c.segment.closing.word + 1 ≤ (get_or cs k d).segment.closing.word =
-    ends_after (c.segment.closing.word + 1) cs next k d t.2 (omega arith) in
+    let rest : last_of c.segment + 1 ≤ last_of (get_or cs k d).segment =
+    ends_after (last_of c.segment + 1) cs next k d t.2 (omega arith) in
     omega (arith, t.1)
 
 -- one ends before a number exactly where its index is below how many do
-pub at_count : (first n : ℕ) (cs : List ClosedParts) (next : ℕ) (k : ℕ) (d : ClosedParts)
+pub at_count : (first n : ℕ) (cs : List ClosedVersionedParts) (next : ℕ) (k : ℕ) (d : ClosedVersionedParts)
     → Tile first (segments_in cs) next → k < length cs
-    → nat_lt (get_or cs k d).segment.closing.word n ≡ nat_lt k (count_ended n (segments_in cs))
+    → nat_lt (last_of (get_or cs k d).segment) n ≡ nat_lt k (count_ended n (segments_in cs))
 at_count first n [] next k d t h = absurd (omega arith)
 at_count first n (c ∷ cs) next k d t h =
-    by (nat_lt c.segment.closing.word n) refl k h
-    (λ j lt. at_count (c.segment.closing.word + 1) n cs next j d t.2 lt)
+    by (nat_lt (last_of c.segment) n) refl k h
+    (λ j lt. at_count (last_of c.segment + 1) n cs next j d t.2 lt)
   where
-    by : (b : Bool) → nat_lt c.segment.closing.word n ≡ b → (j : ℕ) → j < length (c ∷ cs)
+    by : (b : Bool) → nat_lt (last_of c.segment) n ≡ b → (j : ℕ) → j < length (c ∷ cs)
         → ((i : ℕ) → i < length cs
-        → nat_lt (get_or cs i d).segment.closing.word n ≡ nat_lt i (count_ended n (segments_in cs)))
-        → nat_lt (get_or (c ∷ cs) j d).segment.closing.word n
+        → nat_lt (last_of (get_or cs i d).segment) n ≡ nat_lt i (count_ended n (segments_in cs)))
+        → nat_lt (last_of (get_or (c ∷ cs) j d).segment) n
         ≡ nat_lt j (cond b (count_ended n (segments_in cs) + 1) 0)
     by true e zero h behind = grind (arith, nat_tests)
     by true e (suc j) h behind =
-        let rest : nat_lt (get_or cs j d).segment.closing.word n
+        let rest : nat_lt (last_of (get_or cs j d).segment) n
         ≡ nat_lt j (count_ended n (segments_in cs)) = behind j (omega arith) in
         rest ∙ grind (arith, nat_tests)
     by false e zero h behind = grind (arith, nat_tests)
     by false e (suc j) h behind =
-        let above : n ≤ c.segment.closing.word = ltb-false _ _ e in
-        let there : c.segment.closing.word + 1 ≤ (get_or cs j d).segment.closing.word =
-        ends_after (c.segment.closing.word + 1) cs next j d t.2 (omega arith) in
+        let above : n ≤ last_of c.segment = ltb-false _ _ e in
+        let there : last_of c.segment + 1 ≤ last_of (get_or cs j d).segment =
+        ends_after (last_of c.segment + 1) cs next j d t.2 (omega arith) in
         grind (arith, nat_tests)
 
 -- at most all do
-pub count_within : (n : ℕ) (cs : List ClosedParts) → count_ended n (segments_in cs) ≤ length cs
+pub count_within : (n : ℕ) (cs : List ClosedVersionedParts) → count_ended n (segments_in cs) ≤ length cs
 count_within n [] = omega arith
 count_within n (c ∷ cs) =
     let rest = count_within n cs in
-    elim (nat_lt c.segment.closing.word n)
+    elim (nat_lt (last_of c.segment) n)
     as (λ b. cond b (count_ended n (segments_in cs) + 1) 0 ≤ length (c ∷ cs)) [
       | true ↦ omega arith
       | false ↦ omega arith
     ]
 
 -- so many pass in front, and none after them
-pub pass_in_front : (n : ℕ) (cs : List ClosedParts) (next : ℕ) → Tile 1 (segments_in cs) next
-    → PassInFront (λ (c : ClosedParts). nat_lt c.segment.closing.word n) cs (count_ended n (segments_in cs))
+pub pass_in_front : (n : ℕ) (cs : List ClosedVersionedParts) (next : ℕ) → Tile 1 (segments_in cs) next
+    → PassInFront (λ (c : ClosedVersionedParts). nat_lt (last_of c.segment) n) cs (count_ended n (segments_in cs))
 pass_in_front n cs next t = (count_within n cs, λ k d there. at_count 1 n cs next k d t there)
 
 -- a segment that ends before a number doesn't hold it
@@ -74,47 +75,47 @@ ended from to n h = by (nat_le from n) (nat_le n to) refl
     by false b e = refl
 
 -- so it is found among the others
-found_behind : (n : ℕ) (c : ClosedParts) (cs : List ClosedParts) → nat_lt c.segment.closing.word n ≡ true
+found_behind : (n : ℕ) (c : ClosedVersionedParts) (cs : List ClosedVersionedParts) → nat_lt (last_of c.segment) n ≡ true
     → segment_holding n (segments_in (c ∷ cs)) ≡ segment_holding n (segments_in cs)
 found_behind n c cs e =
     ap (λ b. cond b (Some c.segment) (segment_holding n (segments_in cs)))
-    (ended c.segment.first c.segment.closing.word n (ltb-true c.segment.closing.word n e))
+    (ended c.segment.first (last_of c.segment) n (ltb-true (last_of c.segment) n e))
 
 -- the one after them holds the number
-pub holds_at : (first n : ℕ) (cs : List ClosedParts) (next : ℕ) (d : ClosedParts)
+pub holds_at : (first n : ℕ) (cs : List ClosedVersionedParts) (next : ℕ) (d : ClosedVersionedParts)
     → Tile first (segments_in cs) next → first ≤ n → count_ended n (segments_in cs) < length cs
     → segment_holding n (segments_in cs) ≡ Some (get_or cs (count_ended n (segments_in cs)) d).segment
 holds_at first n [] next d t low h = absurd (omega arith)
 holds_at first n (c ∷ cs) next d t low h =
-    by (nat_lt c.segment.closing.word n) refl h
-    (λ more lt. holds_at (c.segment.closing.word + 1) n cs next d t.2 more lt)
+    by (nat_lt (last_of c.segment) n) refl h
+    (λ more lt. holds_at (last_of c.segment + 1) n cs next d t.2 more lt)
   where
-    by : (b : Bool) → nat_lt c.segment.closing.word n ≡ b
+    by : (b : Bool) → nat_lt (last_of c.segment) n ≡ b
         → cond b (count_ended n (segments_in cs) + 1) 0 < length (c ∷ cs)
-        → (c.segment.closing.word + 1 ≤ n → count_ended n (segments_in cs) < length cs
+        → (last_of c.segment + 1 ≤ n → count_ended n (segments_in cs) < length cs
         → segment_holding n (segments_in cs) ≡ Some (get_or cs (count_ended n (segments_in cs)) d).segment)
         → segment_holding n (segments_in (c ∷ cs))
         ≡ Some (get_or (c ∷ cs) (cond b (count_ended n (segments_in cs) + 1) 0) d).segment
     by true e h rest =
-        let past : c.segment.closing.word < n = ltb-true _ _ e in
+        let past : last_of c.segment < n = ltb-true _ _ e in
         let one : suc (count_ended n (segments_in cs)) ≡ count_ended n (segments_in cs) + 1 = omega arith in
         found_behind n c cs e ∙ rest (omega arith) (omega arith)
         ∙ ap (λ k. Some (get_or (c ∷ cs) k d).segment) one
     by false e h rest =
         let from : c.segment.first ≤ n = omega (arith, t.0, low) in
-        let to : n ≤ c.segment.closing.word = ltb-false _ _ e in
+        let to : n ≤ last_of c.segment = ltb-false _ _ e in
         ap (λ b. cond b (Some c.segment) (segment_holding n (segments_in cs)))
-        (and_from (nat_le c.segment.first n) (nat_le n c.segment.closing.word)
-        (le-leb c.segment.first n from) (le-leb n c.segment.closing.word to))
+        (and_from (nat_le c.segment.first n) (nat_le n (last_of c.segment))
+        (le-leb c.segment.first n from) (le-leb n (last_of c.segment) to))
 
 -- where there is none after them, none holds it
-pub holds_none : (n : ℕ) (cs : List ClosedParts) → length cs ≤ count_ended n (segments_in cs)
+pub holds_none : (n : ℕ) (cs : List ClosedVersionedParts) → length cs ≤ count_ended n (segments_in cs)
     → segment_holding n (segments_in cs) ≡ None
 holds_none n [] h = refl
 holds_none n (c ∷ cs) h =
-    by (nat_lt c.segment.closing.word n) refl h (λ more. holds_none n cs more)
+    by (nat_lt (last_of c.segment) n) refl h (λ more. holds_none n cs more)
   where
-    by : (b : Bool) → nat_lt c.segment.closing.word n ≡ b
+    by : (b : Bool) → nat_lt (last_of c.segment) n ≡ b
         → length (c ∷ cs) ≤ cond b (count_ended n (segments_in cs) + 1) 0
         → (length cs ≤ count_ended n (segments_in cs) → segment_holding n (segments_in cs) ≡ None)
         → segment_holding n (segments_in (c ∷ cs)) ≡ None

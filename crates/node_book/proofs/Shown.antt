@@ -1,29 +1,38 @@
 -- The entries of segments, and the log that they show.
--- Serves: count_entries, entries_shown, replayed_evidence.
-use Rattle.std.proofs.Common.{◌≡◌, ◌+◌, ◌<◌, ◌≤◌, ℕ, Bool, true, false, List, ◌++◌, flat_map, length}
-use Rattle.std.proofs.Common.{get_or, take, Option, Some, None, refl, sym, ap, ◌∙◌, arith, length-append}
+-- Serves: count_entries, add_skips, add_segment, shown_of, replayed_evidence.
+use Rattle.std.proofs.Common.{◌≡◌, ◌+◌, ◌<◌, ◌≤◌, ℕ, zero, suc, Bool, true, false, not, ◌==◌, ◌&&◌, List, [], ◌∷◌}
+use Rattle.std.proofs.Common.{◌++◌, flat_map, length, map, nat_lt, eqb-true}
+use Rattle.std.proofs.Common.{get_or, take, Option, Some, None, refl, sym, ap, ap₂, subst, ◌∙◌, arith}
+use Rattle.std.specs.Prelude.{slice_index_or}
+use Rattle.std.proofs.Common.{Result, Ok, Err}
 use Rattle.std.specs.Option.{IfNone, IsSome}
-use Rattle.std.proofs.lemmas.Grind.{common_steps}
-use Rattle.std.proofs.lemmas.List.{take-map}
+use Rattle.std.specs.Result.{IfOk}
+use Rattle.std.specs.List.{AllByRecursion}
+use Rattle.std.proofs.lemmas.List.{length-append, length-map, map-append, take-map}
 use Rattle.std.proofs.lemmas.List.Folds.{length-flat_map-take}
 use Rattle.authenticator.specs.declared.authenticator.Authenticator.{Authenticator}
-use Rattle.secure_log.specs.LogEntries.Chain.{zeros}
+use Rattle.authenticator.specs.declared.member.LogVersion.{LogVersion}
+use Rattle.authenticator.specs.declared.member.LogVersion.TheVariants.{One, Two}
+use Rattle.authenticator.proofs.Signed.{is_false}
+use Rattle.secure_log.specs.LogEntries.Chain.{Logged, logged_links, zeros}
+use Rattle.secure_log.specs.LogEntries.Words.{MaySkip, logged}
 use Rattle.secure_log.specs.declared.log_entries.entry.Entry.{Entry}
-use Rattle.secure_log.specs.Segment.{SegmentParts, ClosedParts, is_whole, segment_value}
-use Rattle.secure_log.specs.Versioned.{of_plain}
+use Rattle.secure_log.specs.Versioned.{VersionedParts, ClosedVersionedParts}
+use Rattle.secure_log.proofs.VersionedTexts.{whole_is}
 use Rattle.evidence_spec.specs.Evidence.{Replay, charge_value, is_whole_charge}
-use Rattle.evidence_spec.proofs.WithoutGaps.{text_plain}
 use Rattle.witness_spec.specs.Limits.{MAX_AUDITED}
+use Rattle.node_book.specs.declared.replayed.ShownEntries.{ShownEntries}
 use Rattle.node_book.specs.Rows.{ShowsLog, entries_of, replayed_log, segments_in}
+use Rattle.node_book.specs.Shown.{IsShown, counts_of}
 use Rattle.node_book.proofs.Mapped.{flat_map_map}
 
 -- the entries of closed segments
-pub entries_are : (cs : List ClosedParts)
+pub entries_are : (cs : List ClosedVersionedParts)
     → entries_of (segments_in cs) ≡ flat_map (λ c. c.segment.entries) cs
 entries_are cs = flat_map_map (λ s. s.entries) (λ c. c.segment) cs
 
 -- those of the segments up to one, with its own, are no more than those of all
-pub entries_within : (cs : List ClosedParts) (i : ℕ) (c : ClosedParts) → i < length cs → c ≡ get_or cs i c
+pub entries_within : (cs : List ClosedVersionedParts) (i : ℕ) (c : ClosedVersionedParts) → i < length cs → c ≡ get_or cs i c
     → length (flat_map (λ d. d.segment.entries) (take i cs)) + length c.segment.entries
     ≤ length (entries_of (segments_in cs))
 entries_within cs i c inside is =
@@ -35,65 +44,135 @@ entries_within cs i c inside is =
     )
 
 -- the first of closed segments are the first of the segments
-pub first_are : (n : ℕ) (cs : List ClosedParts) → segments_in (take n cs) ≡ take n (segments_in cs)
+pub first_are : (n : ℕ) (cs : List ClosedVersionedParts) → segments_in (take n cs) ≡ take n (segments_in cs)
 first_are n cs = sym (take-map (λ c. c.segment) n cs)
 
--- the log that is shown has no more entries than evidence may have
-pub shown_few : (cs : List ClosedParts) (n : ℕ) (s : SegmentParts) (shown : List Entry)
-    → ShowsLog (segments_in cs) n s → shown ≡ entries_of (segments_in (take n cs)) ++ s.entries
-    → length shown ≤ MAX_AUDITED
-shown_few cs n s shown h is =
+-- ---- what is skipped before entries
+
+-- a list without counts has none at a place
+none_there : (i : ℕ) → ◌≡◌ {A = ℕ} (slice_index_or [] i 0) 0
+none_there zero = refl
+none_there (suc i) = refl
+
+-- one more
+pub counts_more : (skips : List ℕ) (count : ℕ)
+    → counts_of skips (suc count) ≡ counts_of skips count ++ slice_index_or skips count 0 ∷ []
+counts_more [] zero = refl
+counts_more (n ∷ skips) zero = refl
+counts_more [] (suc count) =
+    ap (λ ns. 0 ∷ ns) (counts_more [] count ∙ ap (λ n. counts_of [] count ++ n ∷ []) (none_there count))
+counts_more (n ∷ skips) (suc count) = ap (λ ns. n ∷ ns) (counts_more skips count)
+
+-- they are those of the entries
+counts_are : (skips : List ℕ) (es : List Entry)
+    → counts_of skips (length es) ≡ map (λ (l : Logged). l.skipped) (logged skips es)
+counts_are skips [] = refl
+counts_are [] (e ∷ es) = ap (λ ns. 0 ∷ ns) (counts_are [] es)
+counts_are (n ∷ skips) (e ∷ es) = ap (λ ns. n ∷ ns) (counts_are skips es)
+
+-- entries with what is skipped before them are a log again
+pub shown_log : (log : List Logged)
+    → logged (map (λ (l : Logged). l.skipped) log) (map (λ (l : Logged). l.entry) log) ≡ log
+shown_log [] = refl
+shown_log (l ∷ ls) = ap (λ ks. l ∷ ks) (shown_log ls)
+
+-- ---- what is shown so far, with a segment more
+
+-- what follows of a value, if there is one
+pub ok_then : {A E : Type 0} (P Q : A → Type 0) (r : Result A E) → ((a : A) → P a → Q a) → IfOk r P → IfOk r Q
+ok_then P Q (Ok a) f h = f a h
+ok_then P Q (Err e) f h = tt
+
+-- nothing is the log without entries
+pub none_shown : (s : ShownEntries) → s.skips.items ≡ [] → s.entries.items ≡ [] → IsShown s []
+none_shown s skips entries = record { skips = skips; entries = entries }
+
+-- that of a segment added
+pub one_more : (s : ShownEntries) (log more : List Logged) (old : List ℕ) (was given : List Entry)
+    (skips : List ℕ) → old ≡ map (λ (l : Logged). l.skipped) log → was ≡ map (λ (l : Logged). l.entry) log
+    → given ≡ map (λ (l : Logged). l.entry) more → logged skips given ≡ more
+    → s.skips.items ≡ old ++ counts_of skips (length given) → s.entries.items ≡ was ++ given
+    → IsShown s (log ++ more)
+one_more s log more old was given skips o w g back grown added = record {
+  skips = grown
+      ∙ ap (λ ns. ns ++ counts_of skips (length given)) o
+      ∙ ap (λ ns. map (λ (l : Logged). l.skipped) log ++ ns)
+      (counts_are skips given ∙ ap (map (λ (l : Logged). l.skipped)) back)
+      ∙ sym (map-append (λ (l : Logged). l.skipped) log more);
+  entries = added ∙ ap (λ es. es ++ given) w ∙ ap (λ es. map (λ (l : Logged). l.entry) log ++ es) g
+      ∙ sym (map-append (λ (l : Logged). l.entry) log more);
+}
+
+-- ---- the log that is shown
+
+-- it has no more entries than evidence may have
+pub shown_few : (v : LogVersion) (cs : List ClosedVersionedParts) (n : ℕ) (s : VersionedParts)
+    (shown : ShownEntries) → ShowsLog v (segments_in cs) n s
+    → IsShown shown (entries_of (segments_in (take n cs)) ++ s.entries) → length shown.entries.items ≤ MAX_AUDITED
+shown_few v cs n s shown h is =
+    let log = entries_of (segments_in (take n cs)) ++ s.entries in
     omega (
       arith,
-      ap length is,
+      ap length is.entries,
+      length-map log (λ (l : Logged). l.entry),
       length-append (entries_of (segments_in (take n cs))) s.entries,
       ap (λ ss. length (entries_of ss)) (first_are n cs),
       h.most,
     )
 
--- it has an entry
-pub shown_some : (cs : List ClosedParts) (n : ℕ) (s : SegmentParts) (shown : List Entry)
-    → ShowsLog (segments_in cs) n s → shown ≡ entries_of (segments_in (take n cs)) ++ s.entries
-    → 0 < length shown
-shown_some cs n s shown h is =
-    omega (
-      arith,
-      ap length is,
-      length-append (entries_of (segments_in (take n cs))) s.entries,
-      h.some,
-    )
+-- they skip as they may
+pub shown_skips : (v : LogVersion) (cs : List ClosedVersionedParts) (n : ℕ) (s : VersionedParts)
+    (shown : ShownEntries) → ShowsLog v (segments_in cs) n s
+    → IsShown shown (entries_of (segments_in (take n cs)) ++ s.entries)
+    → AllByRecursion (MaySkip v) (logged_links 0 (logged shown.skips.items shown.entries.items))
+shown_skips v cs n s shown h is =
+    let log = entries_of (segments_in (take n cs)) ++ s.entries in
+    subst (λ ls. AllByRecursion (MaySkip v) (logged_links 0 ls))
+    (ap (λ ss. entries_of ss ++ s.entries) (sym (first_are n cs))
+    ∙ sym (ap₂ logged is.skips is.entries ∙ shown_log log))
+    h.skips
 
--- a log with an entry, from 1 on, is whole
-pub whole : (s : SegmentParts) → s.first ≡ 1 → 0 < length s.entries → is_whole (segment_value s) ≡ true
-whole s first some = grind (arith, common_steps)
-
--- so evidence of it has a text
-pub whole_charge : (s : SegmentParts) → s.first ≡ 1 → 0 < length s.entries
-    → is_whole_charge (charge_value (Replay (of_plain s))) ≡ true
-whole_charge s first some = ap is_whole (text_plain s) ∙ whole s first some
+-- evidence of it has a text
+pub whole_charge : (v : LogVersion) (cs : List ClosedVersionedParts) (n : ℕ) (node : ℕ) (s : VersionedParts)
+    → ShowsLog v (segments_in cs) n s
+    → is_whole_charge (charge_value (Replay (replayed_log v node (segments_in cs) n s))) ≡ true
+whole_charge v cs n node s h = by v h
+  where
+    by : (v : LogVersion) → ShowsLog v (segments_in cs) n s
+        → is_whole_charge (charge_value (Replay (replayed_log v node (segments_in cs) n s))) ≡ true
+    by One h = sym (whole_is One (replayed_log One node (segments_in cs) n s) h.skips tt) ∙ some h.some
+      where
+        some : 0 < length s.entries → (nat_lt 0 1 && not (length (entries_of (take n (segments_in cs)) ++ s.entries) == 0)) ≡ true
+        some more = ap not (is_false _ (λ e. absurd (omega (arith, eqb-true _ _ e, length-append (entries_of (take n (segments_in cs))) s.entries, more))))
+    by Two h = sym (whole_is Two (replayed_log Two node (segments_in cs) n s) h.skips (omega arith)) ∙ some h.some
+      where
+        some : 0 < length s.entries → (nat_lt 0 1 && not (length (entries_of (take n (segments_in cs)) ++ s.entries) == 0)) ≡ true
+        some more = ap not (is_false _ (λ e. absurd (omega (arith, eqb-true _ _ e, length-append (entries_of (take n (segments_in cs))) s.entries, more))))
 
 -- the log from the start, of these entries and this closing, is the one that is to be shown
-pub log_is : (node : ℕ) (cs : List ClosedParts) (n : ℕ) (s log : SegmentParts) (shown : List Entry)
-    (closing : Authenticator) → log ≡ record {
+pub log_is : (v : LogVersion) (node : ℕ) (cs : List ClosedVersionedParts) (n : ℕ) (s : VersionedParts)
+    (shown : ShownEntries) (closing : Authenticator)
+    → IsShown shown (entries_of (segments_in (take n cs)) ++ s.entries) → closing ≡ s.closing
+    → ◌≡◌ {A = VersionedParts} (record {
+      log_version = v;
       node = node;
       first = 1;
       opening = zeros;
-      entries = shown;
+      entries = logged shown.skips.items shown.entries.items;
       closing = closing;
-    }
-    → shown ≡ entries_of (segments_in (take n cs)) ++ s.entries → closing ≡ s.closing
-    → log ≡ replayed_log node (segments_in cs) n s
-log_is node cs n s log shown closing is entries closed =
-    is
-    ∙ ap (λ es. record { node = node; first = 1; opening = zeros; entries = es; closing = closing })
-    (entries ∙ ap (λ ss. entries_of ss ++ s.entries) (first_are n cs))
-    ∙ ap (λ c. record {
+    }) (replayed_log v node (segments_in cs) n s)
+log_is v node cs n s shown closing is closed =
+    ap₂ (λ (ls : List Logged) (c : Authenticator). record {
+      log_version = v;
       node = node;
       first = 1;
       opening = zeros;
-      entries = entries_of (take n (segments_in cs)) ++ s.entries;
+      entries = ls;
       closing = c;
-    }) closed
+    })
+    (ap₂ logged is.skips is.entries ∙ shown_log (entries_of (segments_in (take n cs)) ++ s.entries)
+    ∙ ap (λ ss. entries_of ss ++ s.entries) (first_are n cs))
+    closed
 
 -- evidence that may be there is there where what it lacks otherwise isn't lacking
 pub there : {X : Type 0} (o : Option X) (b : Bool) → IfNone o (b ≡ false) → b ≡ true → IsSome o

@@ -1,12 +1,16 @@
 -- The code of a book, by which a proof tells books apart.
-use Rattle.std.specs.Prelude.{◌≡◌, ℕ, List, Option, refl}
+use Rattle.std.specs.Prelude.{◌≡◌, ◌==◌, ℕ, List, Option, if◌then◌else◌, refl}
 use Rattle.std.specs.Coded.{Coded, code_by, coded×, coded⊎, coded_ℕ, coded_list, coded_option}
 use Rattle.std.proofs.Common.{inl, inr, ◌⊎◌}
 use Rattle.authenticator.specs.declared.authenticator.Authenticator.{Authenticator}
 use Rattle.authenticator.specs.contracts.authenticator.Authenticator as authenticators
+use Rattle.authenticator.specs.declared.member.LogVersion.{LogVersion}
+use Rattle.authenticator.specs.declared.member.LogVersion.TheVariants.{One, Two}
+use Rattle.authenticator.specs.Roster.{log_number}
+use Rattle.secure_log.specs.LogEntries.Chain.{Logged}
 use Rattle.secure_log.specs.declared.log_entries.entry.Entry.{Entry}
 use Rattle.secure_log.specs.contracts.log_entries.entry.Entry as entries
-use Rattle.secure_log.specs.Segment.{SegmentParts, ClosedParts}
+use Rattle.secure_log.specs.Versioned.{VersionedParts, ClosedVersionedParts}
 use Rattle.envelopes.specs.declared.envelope.Envelope.{Envelope}
 use Rattle.envelopes.specs.contracts.envelope.Envelope as envelopes
 use Rattle.evidence_spec.specs.Evidence.{EvidenceParts}
@@ -22,15 +26,40 @@ use Rattle.replay_jobs.specs.Codes.{closed_code}
 abbrev pub authenticator_code : Coded Authenticator
 authenticator_code = authenticators.the_row.coded
 
+-- the version of a log with this number
+abbrev pub version_numbered : ℕ → LogVersion
+version_numbered n = if n == 2 then Two else One
+
+-- a version is that of its number
+pub version_back : (v : LogVersion) → version_numbered (log_number v) ≡ v
+version_back One = refl
+version_back Two = refl
+
+-- of a log's version
+abbrev pub version_code : Coded LogVersion
+version_code = code_by ℕ coded_ℕ log_number version_numbered version_back
+
+-- of an entry, with how many numbers are skipped before it
+abbrev pub logged_code : Coded Logged
+logged_code =
+    code_by (ℕ × Entry) (coded× coded_ℕ entries.the_row.coded) (λ l. (l.skipped, l.entry))
+    (λ p. record { skipped = p.0; entry = p.1 }) (λ _. refl)
+
 -- of a segment
-abbrev pub segment_code : Coded SegmentParts
+abbrev pub segment_code : Coded VersionedParts
 segment_code =
-    code_by (ℕ × (ℕ × (List ℕ × (List Entry × Authenticator))))
-    (coded× coded_ℕ (coded× coded_ℕ (coded× (coded_list coded_ℕ)
-    (coded× (coded_list entries.the_row.coded) authenticator_code))))
-    (λ s. (s.node, (s.first, (s.opening, (s.entries, s.closing)))))
-    (λ p. record { node = p.0; first = p.1.0; opening = p.1.1.0; entries = p.1.1.1.0; closing = p.1.1.1.1 })
-    (λ _. refl)
+    code_by (LogVersion × (ℕ × (ℕ × (List ℕ × (List Logged × Authenticator)))))
+    (coded× version_code (coded× coded_ℕ (coded× coded_ℕ (coded× (coded_list coded_ℕ)
+    (coded× (coded_list logged_code) authenticator_code)))))
+    (λ s. (s.log_version, (s.node, (s.first, (s.opening, (s.entries, s.closing))))))
+    (λ p. record {
+      log_version = p.0;
+      node = p.1.0;
+      first = p.1.1.0;
+      opening = p.1.1.1.0;
+      entries = p.1.1.1.1.0;
+      closing = p.1.1.1.1.1;
+    }) (λ _. refl)
 
 -- what a challenge is made of, without names: two numbers, or an envelope
 abbrev pub ChallengeParts : Type 0
@@ -59,7 +88,7 @@ challenge_code =
 
 -- what a stage is made of, without names: nothing, two numbers, or a segment for each of the two others
 abbrev pub StageParts : Type 0
-StageParts = ℕ ⊎ ((ℕ × ℕ) ⊎ (ClosedParts ⊎ ClosedParts))
+StageParts = ℕ ⊎ ((ℕ × ℕ) ⊎ (ClosedVersionedParts ⊎ ClosedVersionedParts))
 
 -- the parts of a stage
 abbrev pub stage_parts : Stage → StageParts
@@ -101,7 +130,7 @@ authenticators_code = coded_list authenticator_code
 
 -- of a book's lists
 abbrev pub ListParts : Type 0
-ListParts = List Authenticator × (List SegmentParts × (List Challenge × List Authenticator))
+ListParts = List Authenticator × (List VersionedParts × (List Challenge × List Authenticator))
 
 -- of a book's lists
 abbrev pub lists_code : Coded ListParts
@@ -112,11 +141,11 @@ lists_code =
 -- of a book
 abbrev pub book_code : Coded Book
 book_code =
-    code_by (ℕ × (End × (Stage × (ℕ × (ListParts × Option EvidenceParts)))))
-    (coded× coded_ℕ (coded× end_code (coded× stage_code (coded× coded_ℕ
+    code_by ((ℕ × LogVersion) × (End × (Stage × (ℕ × (ListParts × Option EvidenceParts)))))
+    (coded× (coded× coded_ℕ version_code) (coded× end_code (coded× stage_code (coded× coded_ℕ
     (coded× lists_code (coded_option evidences.the_row.coded))))))
     (λ b. (
-      b.node,
+      (b.node, b.log_version),
       (
         b.end,
         (
@@ -129,7 +158,8 @@ book_code =
       ),
     ))
     (λ p. record {
-      node = p.0;
+      node = p.0.0;
+      log_version = p.0.1;
       end = p.1.0;
       stage = p.1.1.0;
       begun = p.1.1.1.0;

@@ -13,3 +13,4 @@ pub mod BookCodes
 pub mod NoteCodes
 pub mod Deciding
 pub mod Looking
+pub mod Shown

@@ -2,7 +2,7 @@
 
 ghost use Rattle.std.specs.Prelude.{◌≡◌, IfOk};
 ghost use Rattle.witness_book_laws.specs.Books.{book_opening};
-ghost use Rattle.witness_book_laws.specs.Ready.{IsReady};
+ghost use Rattle.witness_book_laws.specs.Ready.{IsOfLog, IsReady};
 ghost use Rattle.node_book.specs.Events.{step_in};
 ghost use Rattle.node_book.specs.Replies.{refusal_in, reply_in};
 ghost use Rattle.node_book.specs.Deciding.{reply_of};
@@ -37,7 +37,7 @@ impl Model for Book {
 
     ghost view = { λ b. book_in b.rows };
 
-    ghost invariant = { λ b. KeepsExposure (segments_in b.rows.segments.items) b.rows.exposure };
+    ghost invariant = { λ b. KeepsExposure b.rows.log_version (segments_in b.rows.segments.items) b.rows.exposure };
 }
 
 impl Step {
@@ -69,6 +69,7 @@ impl Book {
         let state = SharedState::new(alloc, &opening_state(alloc, member)?)?;
         let rows = Rows {
             node: member.node,
+            log_version: member.log_version,
             end: 0,
             state,
             stage: Stage::NoAudit,
@@ -94,7 +95,8 @@ impl Book {
     /// that is put back, an acknowledgement and a question for the indication take none. So is the book
     /// after any other refusal.
     pub fn step(&mut self, alloc: Global, step: Step) -> Reply
-        requires { IsReady self.old }
+        requires ready { IsReady self.old }
+        requires of_log { IsOfLog self.old.log_version (step_in step) }
         ensures { Steps self.old (step_in step) (reply_in result) self.new }
     {
         match self.rows.prepare(alloc, &step) {
@@ -110,7 +112,8 @@ impl Book {
         alloc: Global,
         step: Step,
     ) -> (Reply, Option<(PlainReply, PlainReply)>)
-        requires { IsReady self.old }
+        requires ready { IsReady self.old }
+        requires of_log { IsOfLog self.old.log_version (step_in step) }
         ensures { NotedSteps self.old (step_in step) result.0 result.1 self.new }
     {
         let Ok(decided) = self.rows.prepare(alloc, &step) else {

@@ -5,11 +5,11 @@ ghost use Rattle.std.specs.Arc.{arc_value};
 ghost use Rattle.std.specs.Vec.{vec_capacity};
 ghost use Rattle.envelopes.specs.Acknowledgement.{acked_message};
 ghost use Rattle.witness_book_laws.specs.Ready.{IsReady};
+ghost use Rattle.witness_spec.specs.Pairs.{number_of};
 ghost use Rattle.witness_book_laws.specs.Going.{after_learn, after_send_challenge, after_answer, after_ack};
 ghost use Rattle.witness_book_laws.specs.Going.{after_audit, after_begin, after_file, after_put_back};
 ghost use Rattle.witness_book_laws.specs.Going.{after_forward};
 ghost use Rattle.witness_book_laws.specs.Going.{audited_with, book_after, first_evidence, having_filed};
-ghost use Rattle.secure_log.specs.Versioned.{of_plain};
 ghost use Rattle.evidence_spec.specs.Evidence as charges;
 ghost use Rattle.witness_spec.specs.Standing as standing;
 ghost use Rattle.replay_jobs.specs.Jobs.{verdict_told};
@@ -48,10 +48,10 @@ impl Rows {
     fn carry_learn(&mut self, authenticator: Authenticator, learning: LearnDecision) -> Reply
         requires decided { DecidesLearn (book_in self.old) authenticator learning }
         requires room { HasRoomToLearn self.old learning }
-        requires keeps { KeepsExposure (segments_in self.old.segments.items) self.old.exposure }
+        requires keeps { KeepsExposure self.old.log_version (segments_in self.old.segments.items) self.old.exposure }
         ensures reply { result ≡ learn_reply learning }
         ensures after { book_in self.new ≡ after_learn (book_in self.old) authenticator (reply_in result) }
-        ensures keeps { KeepsExposure (segments_in self.new.segments.items) self.new.exposure }
+        ensures keeps { KeepsExposure self.new.log_version (segments_in self.new.segments.items) self.new.exposure }
     {
         let reply = learn_reply(&learning);
         match learning {
@@ -66,11 +66,11 @@ impl Rows {
     fn carry_send_challenge(&mut self, envelope: Envelope, opening: ChallengeDecision) -> Reply
         requires decided { DecidesChallenge (book_in self.old) envelope opening }
         requires room { HasRoomToOpen self.old opening }
-        requires keeps { KeepsExposure (segments_in self.old.segments.items) self.old.exposure }
+        requires keeps { KeepsExposure self.old.log_version (segments_in self.old.segments.items) self.old.exposure }
         ensures reply { result ≡ challenge_reply opening }
         ensures after { book_in self.new ≡ after_send_challenge (book_in self.old) envelope
             (reply_in result) }
-        ensures keeps { KeepsExposure (segments_in self.new.segments.items) self.new.exposure }
+        ensures keeps { KeepsExposure self.new.log_version (segments_in self.new.segments.items) self.new.exposure }
     {
         let reply = challenge_reply(&opening);
         if let ChallengeDecision::Opened = opening {
@@ -83,10 +83,10 @@ impl Rows {
     fn carry_answer(&mut self, segment: SharedSegment, accepting: AnswerDecision) -> Reply
         requires decided { DecidesAnswer (book_in self.old) segment accepting }
         requires room { HasRoomToAccept self.old accepting }
-        requires keeps { KeepsExposure (segments_in self.old.segments.items) self.old.exposure }
+        requires keeps { KeepsExposure self.old.log_version (segments_in self.old.segments.items) self.old.exposure }
         ensures reply { result ≡ answer_reply accepting }
         ensures after { book_in self.new ≡ after_answer (book_in self.old) segment (reply_in result) }
-        ensures keeps { KeepsExposure (segments_in self.new.segments.items) self.new.exposure }
+        ensures keeps { KeepsExposure self.new.log_version (segments_in self.new.segments.items) self.new.exposure }
     {
         let reply = answer_reply(&accepting);
         if let AnswerDecision::Accepted(share, evidence) = accepting {
@@ -101,10 +101,10 @@ impl Rows {
     /// Closes the challenge that an acknowledgement answers.
     fn carry_ack(&mut self, ack: Ack, is_open: bool) -> Reply
         requires decided { DecidesAck (book_in self.old) ack is_open }
-        requires keeps { KeepsExposure (segments_in self.old.segments.items) self.old.exposure }
+        requires keeps { KeepsExposure self.old.log_version (segments_in self.old.segments.items) self.old.exposure }
         ensures reply { result ≡ ack_reply is_open }
         ensures after { book_in self.new ≡ after_ack (book_in self.old) ack (reply_in result) }
-        ensures keeps { KeepsExposure (segments_in self.new.segments.items) self.new.exposure }
+        ensures keeps { KeepsExposure self.new.log_version (segments_in self.new.segments.items) self.new.exposure }
     {
         if is_open {
             close_send(&mut self.challenges, &ack.message());
@@ -116,10 +116,10 @@ impl Rows {
     fn carry_audit(&mut self, asking: AuditDecision) -> Reply
         requires decided { DecidesAudit (book_in self.old) asking }
         requires room { HasRoomToAsk self.old asking }
-        requires keeps { KeepsExposure (segments_in self.old.segments.items) self.old.exposure }
+        requires keeps { KeepsExposure self.old.log_version (segments_in self.old.segments.items) self.old.exposure }
         ensures reply { result ≡ audit_reply asking }
         ensures after { book_in self.new ≡ after_audit (book_in self.old) (reply_in result) }
-        ensures keeps { KeepsExposure (segments_in self.new.segments.items) self.new.exposure }
+        ensures keeps { KeepsExposure self.new.log_version (segments_in self.new.segments.items) self.new.exposure }
     {
         let reply = audit_reply(&asking);
         if let AuditDecision::Asked(first, last) = asking {
@@ -134,10 +134,10 @@ impl Rows {
     fn carry_begin(&mut self, beginning: BeginDecision) -> Reply
         requires ready { IsReady (book_in self.old) }
         requires decided { DecidesBegin (book_in self.old) beginning }
-        requires keeps { KeepsExposure (segments_in self.old.segments.items) self.old.exposure }
+        requires keeps { KeepsExposure self.old.log_version (segments_in self.old.segments.items) self.old.exposure }
         ensures reply { result ≡ begin_reply beginning }
         ensures after { book_in self.new ≡ after_begin (book_in self.old) (reply_in result) }
-        ensures keeps { KeepsExposure (segments_in self.new.segments.items) self.new.exposure }
+        ensures keeps { KeepsExposure self.new.log_version (segments_in self.new.segments.items) self.new.exposure }
     {
         match beginning {
             BeginDecision::Begun(job) => {
@@ -155,10 +155,10 @@ impl Rows {
     /// Takes a job back.
     fn carry_put_back(&mut self, job: ReplayJob, coming: ReturnDecision) -> Reply
         requires decided { DecidesReturn (book_in self.old) job coming }
-        requires keeps { KeepsExposure (segments_in self.old.segments.items) self.old.exposure }
+        requires keeps { KeepsExposure self.old.log_version (segments_in self.old.segments.items) self.old.exposure }
         ensures reply { result ≡ put_back_reply job coming }
         ensures after { book_in self.new ≡ after_put_back (book_in self.old) job (reply_in result) }
-        ensures keeps { KeepsExposure (segments_in self.new.segments.items) self.new.exposure }
+        ensures keeps { KeepsExposure self.new.log_version (segments_in self.new.segments.items) self.new.exposure }
     {
         match coming {
             ReturnDecision::NoJob => ReplyOf::PutBackRefused(Refusal::NoJob, job),
@@ -175,11 +175,11 @@ impl Rows {
         requires ready { IsReady (book_in self.old) }
         requires decided { DecidesReturn (book_in self.old) done coming }
         requires room { HasRoomToFile self.old coming }
-        requires keeps { KeepsExposure (segments_in self.old.segments.items) self.old.exposure }
+        requires keeps { KeepsExposure self.old.log_version (segments_in self.old.segments.items) self.old.exposure }
         ensures reply { result ≡ file_reply done coming }
         ensures after { book_in self.new ≡
             after_file (book_in self.old) (done_parts done) (reply_in result) }
-        ensures keeps { KeepsExposure (segments_in self.new.segments.items) self.new.exposure }
+        ensures keeps { KeepsExposure self.new.log_version (segments_in self.new.segments.items) self.new.exposure }
     {
         match coming {
             ReturnDecision::NoJob => ReplyOf::FileRefused(Refusal::NoJob, done),
@@ -198,15 +198,15 @@ impl Rows {
         requires ready { IsReady (book_in self.old) }
         requires out { stage_in self.old.stage ≡ standing.Out segment }
         requires room { HasPlace self.old.outbox }
-        requires keeps { KeepsExposure (segments_in self.old.segments.items) self.old.exposure }
+        requires keeps { KeepsExposure self.old.log_version (segments_in self.old.segments.items) self.old.exposure }
         ensures after { book_in self.new ≡
             having_filed (book_in self.old) segment.segment (verdict_told verdict) }
-        ensures keeps { KeepsExposure (segments_in self.new.segments.items) self.new.exposure }
+        ensures keeps { KeepsExposure self.new.log_version (segments_in self.new.segments.items) self.new.exposure }
     {
         match verdict {
             JobVerdict::Sound(state, found) => {
-                let closing = segment.closed().segment().closing();
-                let end = closing.word.number(LogVersion::One).get();
+                let given = segment.closed().segment();
+                let end = given.closing().word.number(given.log_version()).get();
                 self.move_end(end, state, found);
             }
             JobVerdict::Fault(_, _) => {
@@ -222,7 +222,7 @@ impl Rows {
         ensures after { book_in self.new ≡ record (book_in self.old) {
           end = record { number = end; state = state };
           stage = standing.NoAudit;
-          learned = filter (λ a. nat_lt end a.word) self.old.learned.items;
+          learned = filter (λ a. nat_lt end (number_of self.old.log_version a)) self.old.learned.items;
           outbox = outbox_in self.old.outbox ++ (arc_value found).items;
         } }
         ensures segments { self.new.segments ≡ self.old.segments }
@@ -232,21 +232,21 @@ impl Rows {
         self.state = state;
         self.stage = Stage::NoAudit;
         self.outbox.add(found);
-        keep_above(&mut self.learned, end);
+        keep_above(self.log_version, &mut self.learned, end);
     }
 
     /// A replay found a fault in the segment that is out. The first evidence stays.
     fn expose_by_replay(&mut self, segment: SharedSegment)
         requires ready { IsReady (book_in self.old) }
         requires out { stage_in self.old.stage ≡ standing.Out segment }
-        requires keeps { KeepsExposure (segments_in self.old.segments.items) self.old.exposure }
+        requires keeps { KeepsExposure self.old.log_version (segments_in self.old.segments.items) self.old.exposure }
         ensures after { book_in self.new ≡ record (book_in self.old) {
           evidence = first_evidence (book_in self.old).evidence (Some (record {
             node = self.old.node;
-            charge = charges.Replay (of_plain (audited_with (book_in self.old) segment.segment));
+            charge = charges.Replay (audited_with (book_in self.old) segment.segment);
           }));
         } }
-        ensures keeps { KeepsExposure (segments_in self.new.segments.items) self.new.exposure }
+        ensures keeps { KeepsExposure self.new.log_version (segments_in self.new.segments.items) self.new.exposure }
     {
         if let Exposure::Nothing = self.exposure {
             let before = all_but_one(&self.segments);
@@ -257,10 +257,10 @@ impl Rows {
     /// Gives what is to be forwarded.
     fn carry_forward(&mut self, forwarding: Option<Authenticator>) -> Reply
         requires decided { DecidesForward (book_in self.old) forwarding }
-        requires keeps { KeepsExposure (segments_in self.old.segments.items) self.old.exposure }
+        requires keeps { KeepsExposure self.old.log_version (segments_in self.old.segments.items) self.old.exposure }
         ensures reply { result ≡ forward_reply forwarding }
         ensures after { book_in self.new ≡ after_forward (book_in self.old) (reply_in result) }
-        ensures keeps { KeepsExposure (segments_in self.new.segments.items) self.new.exposure }
+        ensures keeps { KeepsExposure self.new.log_version (segments_in self.new.segments.items) self.new.exposure }
     {
         match forwarding {
             Some(authenticator) => {
@@ -273,12 +273,12 @@ impl Rows {
 
     /// Evidence of a fork exposes the node, if there is some. The first evidence stays.
     fn expose(&mut self, evidence: Option<Arc<Evidence>>)
-        requires keeps { KeepsExposure (segments_in self.old.segments.items) self.old.exposure }
+        requires keeps { KeepsExposure self.old.log_version (segments_in self.old.segments.items) self.old.exposure }
         ensures after { book_in self.new ≡ record (book_in self.old) {
           evidence = first_evidence (book_in self.old).evidence (option_map arc_value evidence);
         } }
         ensures segments { self.new.segments ≡ self.old.segments }
-        ensures keeps { KeepsExposure (segments_in self.new.segments.items) self.new.exposure }
+        ensures keeps { KeepsExposure self.new.log_version (segments_in self.new.segments.items) self.new.exposure }
     {
         if let Exposure::Nothing = self.exposure {
             if let Some(evidence) = evidence {
@@ -292,10 +292,10 @@ impl Rows {
         requires ready { IsReady (book_in self.old) }
         requires decided { Decides (book_in self.old) step decided }
         requires room { HasRoomFor self.old decided }
-        requires keeps { KeepsExposure (segments_in self.old.segments.items) self.old.exposure }
+        requires keeps { KeepsExposure self.old.log_version (segments_in self.old.segments.items) self.old.exposure }
         ensures reply { result ≡ reply_of step decided }
         ensures after { book_in self.new ≡ book_after (book_in self.old) (step_in step) (reply_in result) }
-        ensures keeps { KeepsExposure (segments_in self.new.segments.items) self.new.exposure }
+        ensures keeps { KeepsExposure self.new.log_version (segments_in self.new.segments.items) self.new.exposure }
     {
         match (step, decided) {
             (Step::Learn(authenticator), Decision::Learn(d)) => self.carry_learn(authenticator, d),
@@ -334,9 +334,9 @@ fn all_but_one(segments: &[SharedSegment]) -> usize
     segments.len().saturating_sub(1)
 }
 
-/// Lets go of the authenticators with numbers up to the end.
-fn keep_above(learned: &mut Vec<Authenticator>, end: u64)
-    ensures { learned.new.items ≡ filter (λ a. nat_lt end a.word) learned.old.items }
+/// Lets go of the authenticators, of a log of this version, with numbers up to the end.
+fn keep_above(version: LogVersion, learned: &mut Vec<Authenticator>, end: u64)
+    ensures { learned.new.items ≡ filter (λ a. nat_lt end (number_of version a)) learned.old.items }
 {
-    learned.retain(|authenticator| end < authenticator.word.number(LogVersion::One).get());
+    learned.retain(|authenticator| end < authenticator.word.number(version).get());
 }

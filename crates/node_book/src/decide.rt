@@ -8,7 +8,8 @@ ghost use Rattle.witness_spec.specs.Owing as owing;
 ghost use Rattle.witness_spec.specs.Owing.{ask_reply};
 ghost use Rattle.witness_spec.specs.Steps as steps;
 ghost use Rattle.witness_book_laws.specs.Books.{book_indication, exposed, job_of};
-ghost use Rattle.witness_book_laws.specs.Ready.{IsReady};
+ghost use Rattle.witness_book_laws.specs.Ready.{IsOfLog, IsReady};
+ghost use Rattle.witness_spec.specs.Pairs.{number_of};
 ghost use Rattle.witness_spec.specs.Replies as spec;
 ghost use Rattle.witness_book_laws.specs.Replying.{BookOwes, reply_to_answer, reply_to_begin};
 ghost use Rattle.witness_book_laws.specs.Replying.{reply_to_forward};
@@ -89,10 +90,10 @@ impl Rows {
 
     /// Whether an authenticator lies above the end, and as many are kept as may be.
     fn has_no_room(&self, authenticator: &Authenticator) -> bool
-        ensures { result ≡ (nat_lt self.now.end authenticator.now.word
+        ensures { result ≡ (nat_lt self.now.end (number_of self.now.log_version authenticator.now)
             && nat_le limits.MAX_LEARNED (length self.now.learned.items)) }
     {
-        self.end < authenticator.word.number(LogVersion::One).get()
+        self.end < authenticator.word.number(self.log_version).get()
             && MAX_LEARNED <= self.learned.len()
     }
 
@@ -115,7 +116,8 @@ impl Rows {
         alloc: Global,
         segment: &SharedSegment,
     ) -> Result<AnswerDecision, AllocError>
-        requires { IsReady (book_in self.now) }
+        requires ready { IsReady (book_in self.now) }
+        requires of_log { segment.now.segment.log_version ≡ self.now.log_version }
         ensures ok { IfOk result (DecidesAnswer (book_in self.now) segment.now) }
         ensures err { IfErr result (λ _. reply_to_answer (book_in self.now) segment.now ≡ spec.Accepted) }
     {
@@ -123,7 +125,7 @@ impl Rows {
             return Ok(AnswerDecision::NotAsked);
         };
         let given = segment.closed().segment();
-        if given.first() != *first || given.closing().word.number(LogVersion::One) != *last {
+        if given.first() != *first || given.closing().word.number(given.log_version()) != *last {
             return Ok(AnswerDecision::NotAsked);
         }
         let share = segment.try_clone()?;
@@ -157,13 +159,13 @@ impl Rows {
     /// Of an audit where none is under way.
     fn decide_asking(&self) -> AuditDecision
         requires { IsReady (book_in self.now) }
-        ensures { reply_in (audit_reply result) ≡ ask_reply (exposed (book_in self.now)) self.now.end
-            (length (book_in self.now).outbox) self.now.learned.items }
+        ensures { reply_in (audit_reply result) ≡ ask_reply self.now.log_version (exposed (book_in self.now))
+            self.now.end (length (book_in self.now).outbox) self.now.learned.items }
     {
         if self.is_exposed() || self.learned.is_empty() {
             return AuditDecision::Refused(Refusal::NothingToAudit);
         }
-        let last = last_in_reach(self.end, &self.learned);
+        let last = last_in_reach(self.log_version, self.end, &self.learned);
         if last == 0 {
             return AuditDecision::Refused(Refusal::TooFar);
         }
@@ -267,7 +269,7 @@ impl Rows {
 
     /// The evidence against the node, if it is exposed: shared, or made of the accepted segments.
     fn evidence(&self, alloc: Global) -> Result<Option<Arc<Evidence>>, AllocError>
-        requires { KeepsExposure (segments_in self.now.segments.items) self.now.exposure }
+        requires { KeepsExposure self.now.log_version (segments_in self.now.segments.items) self.now.exposure }
         ensures { IfOk result (λ e. option_map arc_value e ≡ (book_in self.now).evidence) }
     {
         match &self.exposure {
@@ -276,6 +278,7 @@ impl Rows {
             Exposure::Replay(before, faulty) => {
                 let evidence = replayed_evidence(
                     alloc,
+                    self.log_version,
                     self.node,
                     &self.segments,
                     *before,
@@ -288,7 +291,7 @@ impl Rows {
 
     /// Of a question. That for the indication takes no memory.
     fn decide_ask(&self, alloc: Global, question: Question) -> Result<AskDecision, AllocError>
-        requires { KeepsExposure (segments_in self.now.segments.items) self.now.exposure }
+        requires { KeepsExposure self.now.log_version (segments_in self.now.segments.items) self.now.exposure }
         ensures ok { IfOk result (DecidesAsk (book_in self.now) question) }
         ensures err { IfErr result (λ _. StepMayWant (steps.Ask (question_in question))) }
     {
@@ -303,7 +306,8 @@ impl Rows {
     /// or `Already`, nor for a job that is put back, an acknowledgement or a question for the indication.
     pub fn decide(&self, alloc: Global, step: &Step) -> Result<Decision, AllocError>
         requires ready { IsReady (book_in self.now) }
-        requires keeps { KeepsExposure (segments_in self.now.segments.items) self.now.exposure }
+        requires of_log { IsOfLog self.now.log_version (step_in step.now) }
+        requires keeps { KeepsExposure self.now.log_version (segments_in self.now.segments.items) self.now.exposure }
         ensures ok { IfOk result (Decides (book_in self.now) step.now) }
         ensures owes { IfOk result
             (λ d. BookOwes (book_in self.now) (step_in step.now) (reply_in (reply_of step.now d))) }
@@ -339,12 +343,12 @@ fn shared(alloc: Global, evidence: Option<Evidence>) -> Result<Option<Arc<Eviden
 
 /// The greatest number among those that an audit after the end can reach; 0 if there is none.
 #[tactic(auto, using(crate::proofs::Reaching::reach_more))]
-fn last_in_reach(end: u64, learned: &[Authenticator]) -> u64
-    ensures { result ≡ owing.last_in_reach end learned.now }
+fn last_in_reach(version: LogVersion, end: u64, learned: &[Authenticator]) -> u64
+    ensures { result ≡ owing.last_in_reach version end learned.now }
 {
     let mut last = 0;
     for authenticator in learned {
-        let number = authenticator.word.number(LogVersion::One).get();
+        let number = authenticator.word.number(version).get();
         if number.saturating_sub(end) <= u64::from(MAX_ENTRIES) {
             last = max(last, number);
         }

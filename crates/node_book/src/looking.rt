@@ -2,7 +2,8 @@
 
 ghost use Rattle.std.specs.Prelude.{◌≡◌, ◌==◌, ◌<◌, ◌≤◌, nat_lt, length, find, option_map, false};
 ghost use Rattle.witness_spec.specs.Exposing.{segment_holding};
-ghost use Rattle.witness_spec.specs.Pairs.{pair_of, is_shown, is_fork};
+ghost use Rattle.secure_log.specs.Marks.{mark_in};
+ghost use Rattle.witness_spec.specs.Pairs.{last_of, number_of, pair_of, is_shown, is_fork};
 ghost use Rattle.witness_book_laws.specs.Books.{book_shown, exposed};
 ghost use Rattle.witness_book_laws.specs.Fitting.{FitsTogether};
 ghost use Rattle.witness_book_laws.specs.LookUps.{hash_shown};
@@ -11,10 +12,11 @@ ghost use Rattle.node_book.specs.Rows.{book_in, segments_in};
 ghost use Rattle.node_book.specs.Looking.{FollowOn, count_ended, is_another, is_the_same};
 
 use crate::rows::Rows;
-use authenticator::{Authenticator, LogVersion, is_same_hash};
+use authenticator::{Authenticator, LogVersion};
 use replay_jobs::SharedSegment;
+use secure_log::Mark;
 
-/// What a book shows at an authenticator's number: its hash, another one, or nothing.
+/// What a book shows at an authenticator's number: its hash, another mark, or nothing.
 #[derive(Clone, Copy)]
 pub(crate) enum ShownHash {
     Same,
@@ -23,20 +25,21 @@ pub(crate) enum ShownHash {
 }
 
 impl Rows {
-    /// The hash that the book shows at a number: zeros at 0, else that in the accepted segment that holds the
-    /// number, else that of the learned authenticator with the number. It looks at the logarithm of how many
-    /// segments there are, or besides at each learned authenticator; nothing is hashed, and no memory taken.
+    /// The mark that the book shows at a number: zeros at 0, else that in the accepted segment that holds the
+    /// number, else the hash of the learned authenticator with the number. It looks at the logarithm of how
+    /// many segments and entries there are, or besides at each learned authenticator; nothing is hashed, and
+    /// no memory taken.
     #[tactic(auto, unfolding(secure_log::specs::LogEntries::Chain::zeros))]
-    pub(crate) fn hash_shown(&self, number: u64) -> Option<[u8; 32]>
+    pub(crate) fn mark_shown(&self, number: u64) -> Option<Mark>
         requires { FitsTogether (book_in self.now) }
-        ensures { result ≡ hash_shown (book_in self.now) number }
+        ensures { option_map mark_in result ≡ hash_shown (book_in self.now) number }
     {
         if number == 0 {
-            return Some([0; 32]);
+            return Some(Mark::Hash([0; 32]));
         }
         match segment_holding(&self.segments, number) {
-            Some(segment) => segment.closed().hash_at(number),
-            None => learned_hash(&self.learned, number),
+            Some(segment) => segment.closed().mark_at(number),
+            None => learned_hash(self.log_version, &self.learned, number),
         }
     }
 
@@ -44,15 +47,16 @@ impl Rows {
     pub(crate) fn knows(&self, authenticator: &Authenticator) -> ShownHash
         requires ready { IsReady (book_in self.now) }
         requires hidden { exposed (book_in self.now) ≡ false }
-        ensures same { is_shown (pair_of authenticator.now) (book_shown (book_in self.now))
+        ensures same { is_shown (pair_of self.now.log_version authenticator.now) (book_shown (book_in self.now))
             ≡ is_the_same result }
-        ensures another { is_fork (pair_of authenticator.now) (book_shown (book_in self.now))
+        ensures another { is_fork (pair_of self.now.log_version authenticator.now) (book_shown (book_in self.now))
             ≡ is_another result }
     {
-        let Some(hash) = self.hash_shown(authenticator.word.number(LogVersion::One).get()) else {
+        let number = authenticator.word.number(self.log_version);
+        let Some(mark) = self.mark_shown(number.get()) else {
             return ShownHash::Nothing;
         };
-        if is_same_hash(&authenticator.hash, &hash) {
+        if mark.is_same(&Mark::Hash(authenticator.hash)) {
             ShownHash::Same
         } else {
             ShownHash::Another
@@ -68,10 +72,10 @@ fn count_ended(segments: &[SharedSegment], number: u64) -> usize
 {
     segments.partition_point(
         |shared: &SharedSegment| -> bool
-            ensures { result ≡ nat_lt shared.now.segment.closing.word number }
+            ensures { result ≡ nat_lt (last_of shared.now.segment) number }
         {
-            let closing = shared.closed().segment().closing();
-            closing.word.number(LogVersion::One).get() < number
+            let segment = shared.closed().segment();
+            segment.closing().word.number(segment.log_version()).get() < number
         },
     )
 }
@@ -90,22 +94,27 @@ pub(crate) fn segment_holding(segments: &[SharedSegment], number: u64) -> Option
     }
 }
 
-/// The authenticator with a number, of some.
-pub(crate) fn learned_at(learned: &[Authenticator], number: u64) -> Option<&Authenticator>
-    ensures { option_map (λ a. a.now) result ≡ find (λ a. a.word == number) learned.now }
+/// The authenticator with a number, of some of a log of this version.
+pub(crate) fn learned_at(
+    version: LogVersion,
+    learned: &[Authenticator],
+    number: u64,
+) -> Option<&Authenticator>
+    ensures { option_map (λ a. a.now) result ≡ find (λ a. number_of version a == number) learned.now }
 {
     for authenticator in learned {
-        if authenticator.word.number(LogVersion::One).get() == number {
+        if authenticator.word.number(version).get() == number {
             return Some(authenticator);
         }
     }
     None
 }
 
-/// The hash of the authenticator with a number, of some.
-fn learned_hash(learned: &[Authenticator], number: u64) -> Option<[u8; 32]>
-    ensures { result ≡ option_map (λ a. a.hash) (find (λ a. a.word == number) learned.now) }
+/// The hash of the authenticator with a number, of some of a log of this version.
+fn learned_hash(version: LogVersion, learned: &[Authenticator], number: u64) -> Option<Mark>
+    ensures { option_map mark_in result
+        ≡ option_map (λ a. a.hash) (find (λ a. number_of version a == number) learned.now) }
 {
-    let authenticator = learned_at(learned, number)?;
-    Some(authenticator.hash)
+    let authenticator = learned_at(version, learned, number)?;
+    Some(Mark::Hash(authenticator.hash))
 }

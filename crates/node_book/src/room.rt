@@ -1,7 +1,7 @@
 //! Room for what a step adds.
 
 ghost use Rattle.std.specs.Prelude.{◌≡◌, IfErr, IfOk, OnOk};
-ghost use Rattle.witness_book_laws.specs.Ready.{IsReady};
+ghost use Rattle.witness_book_laws.specs.Ready.{IsOfLog, IsReady};
 ghost use Rattle.witness_book_laws.specs.Replying.{BookOwes};
 ghost use Rattle.node_book.specs.Deciding.{AddsOne, Decides, HasRoomFor, reply_of};
 ghost use Rattle.node_book.specs.Events.{step_in};
@@ -43,9 +43,10 @@ impl Rows {
     /// job that is put back, an acknowledgement or a question for the indication.
     pub fn prepare(&mut self, alloc: Global, step: &Step) -> Result<Decision, AllocError>
         requires ready { IsReady (book_in self.old) }
-        requires keeps { KeepsExposure (segments_in self.old.segments.items) self.old.exposure }
+        requires of_log { IsOfLog self.old.log_version (step_in step.now) }
+        requires keeps { KeepsExposure self.old.log_version (segments_in self.old.segments.items) self.old.exposure }
         ensures stays { book_in self.new ≡ book_in self.old }
-        ensures keeps { KeepsExposure (segments_in self.new.segments.items) self.new.exposure }
+        ensures keeps { KeepsExposure self.new.log_version (segments_in self.new.segments.items) self.new.exposure }
         ensures decided { IfOk result (Decides (book_in self.new) step.now) }
         ensures owes { IfOk result
             (λ d. BookOwes (book_in self.new) (step_in step.now) (reply_in (reply_of step.now d))) }

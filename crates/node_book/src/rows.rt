@@ -1,7 +1,7 @@
 //! What a book holds in memory.
 
 use crate::outbox::Outbox;
-use authenticator::{Authenticator, Number};
+use authenticator::{Authenticator, LogVersion, Number};
 use challenge::{Challenge, Evidence, SharedState};
 use replay_jobs::SharedSegment;
 use std::sync::Arc;
@@ -31,6 +31,8 @@ pub(crate) enum Exposure {
 pub(crate) struct Rows {
     /// The node's number.
     pub node: u32,
+    /// The version of its log.
+    pub log_version: LogVersion,
     /// The last number that was audited, and the state there.
     pub end: u64,
     pub state: SharedState,

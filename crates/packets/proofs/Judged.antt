@@ -1,13 +1,15 @@
 -- What a packet is taken for, from what a check of its content found.
 -- Serves: read_packet by its four parts.
-use Rattle.std.proofs.Common.{◌≡◌, ◌==◌, ℕ, Bool, true, false, List, length, Result, Ok, Err, Option, Some}
-use Rattle.std.proofs.Common.{None, refl, ap, ◌∙◌}
+use Rattle.std.proofs.Common.{◌≡◌, ◌==◌, ◌-◌, ◌<◌, ℕ, Bool, true, false, List, [], ◌∷◌, Result, Ok, Err, Option, Some}
+use Rattle.std.proofs.Common.{None, refl, ap, subst, ◌∙◌}
 use Rattle.std.proofs.Common.{eqb-true, eq-eqb, inl, inr}
-use Rattle.std.specs.Prelude.{◌+◌, ◌&&◌, ◌⊎◌, not, is_some, IsSome, IsSomeAnd}
+use Rattle.std.specs.Prelude.{◌&&◌, ◌⊎◌, not, is_some, IsSome, IsSomeAnd}
 use Rattle.std.proofs.lemmas.Bool.{and_parts, and_from}
 use Rattle.xdr.specs.declared.fault.XdrFault.{XdrFault}
 use Rattle.xdr.specs.Reading.{number_at}
-use Rattle.envelopes.specs.secure_log.authenticator.declared.member.LogVersion.TheVariants.{One}
+use Rattle.xdr.specs.Texts.Text.{text_at}
+use Rattle.envelopes.specs.secure_log.authenticator.declared.member.LogVersion.{LogVersion}
+use Rattle.envelopes.specs.secure_log.authenticator.declared.member.LogVersion.TheVariants.{One, Two}
 use Rattle.envelopes.specs.secure_log.authenticator.Roster.{keeps_version, member_of}
 use Rattle.envelopes.specs.secure_log.authenticator.Signed.{IsSignedBy, IsSignedIn}
 use Rattle.envelopes.specs.secure_log.authenticator.Checking.{Checks}
@@ -18,20 +20,26 @@ use Rattle.envelopes.specs.secure_log.authenticator.declared.refusal.Refusal.The
 use Rattle.envelopes.specs.Checking.{ChecksEnvelope, ChecksAck}
 use Rattle.envelopes.specs.declared.envelope.Envelope.{Envelope}
 use Rattle.envelopes.specs.declared.acknowledgement.Ack.{Ack}
-use Rattle.envelopes.specs.secure_log.LogEntries.Chain.{last_hash, links_from}
-use Rattle.envelopes.specs.secure_log.Segment.{SegmentParts, ClosedParts, Ends}
+use Rattle.envelopes.specs.secure_log.authenticator.Numbers.{number_in}
+use Rattle.envelopes.specs.secure_log.LogEntries.Chain.{Link, last_hash}
+use Rattle.envelopes.specs.secure_log.LogEntries.Words.{ClosesAt, last_word}
+use Rattle.envelopes.specs.secure_log.Versioned.{VersionedParts, ClosedVersionedParts, Begins, EndsIn, FitsVersion}
+use Rattle.envelopes.specs.secure_log.Versioned.{versioned_links, versioned_text, versioned_value}
+use Rattle.envelopes.specs.secure_log.declared.segment.TheConstants.{MAX_ENTRIES}
 use Rattle.envelopes.specs.secure_log.declared.fault.SegmentFault.{SegmentFault}
 use Rattle.envelopes.specs.secure_log.declared.fault.SegmentFault.TheVariants as fault
-use Rattle.envelopes.specs.secure_log.Checking.{ChecksSegment, IsOf}
-use Rattle.packets.specs.Packet.{Delivery, Learn, SendChallenge, Answer, AckIn, delivery_shows, content_at}
-use Rattle.packets.specs.Packet.{delivery_of}
+use Rattle.envelopes.specs.secure_log.Checking.{ChecksVersioned, IsVersioned}
+use Rattle.packets.specs.Packet.{Delivery, Learn, SendChallenge, Answer, AckIn, answer_number, content_at}
+use Rattle.packets.specs.Packet.{delivery_of, delivery_shows}
+use Rattle.packets.specs.Values.{segment_said}
 use Rattle.envelopes.specs.secure_log.authenticator.Signing.{is_signed_in, is_same}
-use Rattle.packets.specs.Judging.{judged, ends, may_be, is_member, is_of_members, judged_delivery}
+use Rattle.packets.specs.Judging.{judged, closes_at, ends, may_be, is_member, is_of_members, judged_delivery}
 use Rattle.packets.specs.Judging.{judged_option, Refuses, GivesDelivery}
 use Rattle.envelopes.proofs.secure_log.authenticator.Signed.{is_false, of_signed_in, signed_by_member}
 use Rattle.envelopes.proofs.secure_log.authenticator.Signed.{unsigned_by_member}
 use Rattle.envelopes.proofs.secure_log.authenticator.Signed.{same_list, list_same}
-use Rattle.packets.proofs.Contents.{segment_back}
+use Rattle.packets.proofs.Contents.{first_in, segment_back, text_passes}
+use Rattle.packets.proofs.Spelled.{answer_read}
 
 -- ---- the four answers
 
@@ -136,43 +144,64 @@ challenged ms bytes value member (Err refusal.NoMemory) h = tt
 
 -- ---- a segment
 
--- the test whether it ends in its closing is what that means
-pub ends_of : (s : SegmentParts) → Ends s → ends s ≡ true
-ends_of s e =
-    let number_hash = (s.closing.word + 1 == s.first + length s.entries) && is_same s.closing.hash
-    (last_hash s.opening (links_from s.first s.entries)) in
-    and_from (s.closing.node == s.node) number_hash (eq-eqb s.closing.node s.node e.node)
-    (and_from (s.closing.word + 1 == s.first + length s.entries)
-    (is_same s.closing.hash (last_hash s.opening (links_from s.first s.entries)))
-    (eq-eqb (s.closing.word + 1) (s.first + length s.entries) e.number)
-    (list_same s.closing.hash (last_hash s.opening (links_from s.first s.entries)) e.hash))
+-- a word closes links exactly where the test says so
+closes_of : (v : LogVersion) (before : ℕ) (ls : List Link) (closing : ℕ) → ClosesAt v before ls closing
+    → closes_at v before ls closing ≡ true
+closes_of v before [] closing h = eq-eqb (number_in v closing) before h
+closes_of v before (l ∷ ls) closing h = eq-eqb closing (last_word l ls) h
 
--- a segment that passes the tests of its end ends as its closing says
-pub of_ends : (s : SegmentParts) → ends s ≡ true → Ends s
-of_ends s h =
-    let number_hash = (s.closing.word + 1 == s.first + length s.entries) && is_same s.closing.hash
-    (last_hash s.opening (links_from s.first s.entries)) in
-    let one = and_parts (s.closing.node == s.node) number_hash h in
-    let two = and_parts (s.closing.word + 1 == s.first + length s.entries)
-    (is_same s.closing.hash (last_hash s.opening (links_from s.first s.entries))) one.1 in
-    record {
-      node = eqb-true s.closing.node s.node one.0;
-      number = eqb-true (s.closing.word + 1) (s.first + length s.entries) two.0;
-      hash = same_list s.closing.hash (last_hash s.opening (links_from s.first s.entries)) two.1;
-    }
+of_closes : (v : LogVersion) (before : ℕ) (ls : List Link) (closing : ℕ)
+    → closes_at v before ls closing ≡ true → ClosesAt v before ls closing
+of_closes v before [] closing h = eqb-true (number_in v closing) before h
+of_closes v before (l ∷ ls) closing h = eqb-true closing (last_word l ls) h
+
+module _ (s : VersionedParts) where
+  closed : Bool
+  closed = closes_at s.log_version (s.first - 1) (versioned_links s) s.closing.word
+
+  hashed : Bool
+  hashed = is_same s.closing.hash (last_hash s.opening (versioned_links s))
+
+  -- the test whether it ends in its closing is what that means
+  pub ends_of : EndsIn s → ends s ≡ true
+  unfolding closed hashed
+  ends_of e =
+      and_from (s.closing.node == s.node) (closed && hashed) (eq-eqb s.closing.node s.node e.node)
+      (and_from closed hashed (closes_of s.log_version (s.first - 1) (versioned_links s) s.closing.word e.last)
+      (list_same s.closing.hash (last_hash s.opening (versioned_links s)) e.hash))
+
+  -- a segment that passes the tests of its end ends as its closing says, where it says no more than its text
+  pub of_ends : FitsVersion MAX_ENTRIES s → 0 < s.first → ends s ≡ true → EndsIn s
+  unfolding closed hashed
+  of_ends fits first h =
+      let one = and_parts (s.closing.node == s.node) (closed && hashed) h in
+      let two = and_parts closed hashed one.1 in
+      record {
+        first = first;
+        skips = fits.skips;
+        node = eqb-true s.closing.node s.node one.0;
+        last = of_closes s.log_version (s.first - 1) (versioned_links s) s.closing.word two.0;
+        hash = same_list s.closing.hash (last_hash s.opening (versioned_links s)) two.1;
+      }
 
 -- it may be exactly where it ends so, and is of a log of the right version
-pub may_end : (ms : List Member) (s : SegmentParts) → keeps_version ms s.node One ≡ true → Ends s
+pub may_end : (ms : List Member) (s : VersionedParts) → keeps_version ms s.node s.log_version ≡ true → EndsIn s
     → may_be ms (Answer s) ≡ true
 may_end ms s version e = rw version (ends_of s e)
 
 -- what its text delivers
-segment_at : (ms : List Member) (bytes : List ℕ) (s : SegmentParts) → IsOf bytes s
-    → judged_option ms (content_at 3 bytes) ≡ judged_delivery ms (Answer s)
-segment_at ms bytes s of = rw of (ap (λ (t : SegmentParts). judged_delivery ms (Answer t)) (segment_back s))
+segment_at : (ms : List Member) (v : LogVersion) (bytes : List ℕ) (s : VersionedParts) → IsVersioned v bytes s
+    → judged_option ms (content_at (answer_number v) bytes) ≡ judged_delivery ms (Answer s)
+segment_at ms v bytes s of =
+    ap (judged_option ms) (answer_read v bytes (versioned_value v s) of.text)
+    ∙ ap (λ (t : VersionedParts). judged_delivery ms (Answer t)) (said v s of.version of.fits)
+  where
+    said : (v : LogVersion) (s : VersionedParts) → s.log_version ≡ v → FitsVersion MAX_ENTRIES s
+        → segment_said v (versioned_value v s) ≡ s
+    said v s is fits = subst (λ (w : LogVersion). segment_said w (versioned_value w s) ≡ s) is (segment_back s fits)
 
 -- the member that its closing names
-closer : (ms : List Member) (s : SegmentParts) (o : Option Member) → Ends s → member_of ms s.node ≡ o
+closer : (ms : List Member) (s : VersionedParts) (o : Option Member) → EndsIn s → member_of ms s.node ≡ o
     → member_of ms s.closing.node ≡ o
 closer ms s o e is = ap (member_of ms) e.node ∙ is
 
@@ -185,11 +214,12 @@ member_of_signed ms a h = by_member (member_of ms a.node) h
     by_member (Some m) h = refl
 
 -- what its check gives is what is owed to its packet
-pub given : (ms : List Member) (bytes : List ℕ) (c : ClosedParts) → ChecksSegment ms bytes (Ok c)
-    → judged_option ms (content_at 3 bytes) ≡ Ok (Answer c.segment)
-given ms bytes c h =
-    let s : SegmentParts = c.segment in
-    segment_at ms bytes s h.0
+pub given : (ms : List Member) (v : LogVersion) (bytes : List ℕ) (c : ClosedVersionedParts)
+    → ChecksVersioned v ms bytes (Ok c)
+    → judged_option ms (content_at (answer_number v) bytes) ≡ Ok (Answer c.segment)
+given ms v bytes c h =
+    let s : VersionedParts = c.segment in
+    segment_at ms v bytes s h.0
     ∙ taken ms (Answer s) (may_end ms s h.2.version h.2.ends) (member_of_signed ms s.closing h.2.signed)
     (of_signed_in ms s.closing h.2.signed)
 
@@ -203,30 +233,47 @@ refusal_of fault.BrokenChain = refusal.Garbage
 refusal_of fault.OutOfRange = refusal.Garbage
 refusal_of fault.TooLong = refusal.Garbage
 
+-- a segment that was read speaks of numbers from 1 on
+read_first : (v : LogVersion) (bytes : List ℕ) (s : VersionedParts) → IsVersioned v bytes s → 0 < s.first
+read_first v bytes s of =
+    first_in v s (subst (λ w. Begins w s.first) of.version of.fits.begins)
+    (text_passes (versioned_text v MAX_ENTRIES) bytes (versioned_value v s) of.text)
+
+-- bytes that are no segment's text hold none
+unread : (v : LogVersion) (bytes : List ℕ) → text_at (versioned_text v MAX_ENTRIES) bytes ≡ None
+    → content_at (answer_number v) bytes ≡ None
+unread One bytes none = rw none refl
+unread Two bytes none = rw none refl
+
 -- what its check refuses is refused to its packet
-pub answered : (ms : List Member) (bytes : List ℕ) (f : SegmentFault) → ChecksSegment ms bytes (Err f)
-    → Refuses (judged_option ms (content_at 3 bytes)) (refusal_of f)
-answered ms bytes fault.Garbage (inl none) = rw none refl
-answered ms bytes fault.Garbage (inr other) =
-    segment_at ms bytes other.0 other.1.0 ∙ cannot_be ms (Answer other.0) (rw other.1.1 refl)
-answered ms bytes fault.BrokenChain h =
-    let ends_no = is_false (ends h.0) (λ e. h.1.1 (of_ends h.0 e)) in
-    segment_at ms bytes h.0 h.1.0.0 ∙ cannot_be ms (Answer h.0) (rw (h.1.0.1, ends_no) refl)
-answered ms bytes fault.UnknownNode h =
-    let s : SegmentParts = h.0 in
-    segment_at ms bytes s h.1.0.0
-    ∙ of_strangers ms (Answer s) (may_end ms s h.1.0.1 h.1.1)
+pub answered : (ms : List Member) (v : LogVersion) (bytes : List ℕ) (f : SegmentFault)
+    → ChecksVersioned v ms bytes (Err f)
+    → Refuses (judged_option ms (content_at (answer_number v) bytes)) (refusal_of f)
+answered ms v bytes fault.Garbage (inl none) = ap (judged_option ms) (unread v bytes none)
+answered ms v bytes fault.Garbage (inr other) =
+    segment_at ms v bytes other.0 other.1.0
+    ∙ cannot_be ms (Answer other.0) (rw (ap (keeps_version ms other.0.node) other.1.0.version ∙ other.1.1) refl)
+answered ms v bytes fault.BrokenChain h =
+    let s : VersionedParts = h.0 in
+    let ends_no = is_false (ends s) (λ e. h.1.1 (of_ends s h.1.0.0.fits (read_first v bytes s h.1.0.0) e)) in
+    segment_at ms v bytes s h.1.0.0
+    ∙ cannot_be ms (Answer s) (rw (ap (keeps_version ms s.node) h.1.0.0.version ∙ h.1.0.1, ends_no) refl)
+answered ms v bytes fault.UnknownNode h =
+    let s : VersionedParts = h.0 in
+    segment_at ms v bytes s h.1.0.0
+    ∙ of_strangers ms (Answer s) (may_end ms s (ap (keeps_version ms s.node) h.1.0.0.version ∙ h.1.0.1) h.1.1)
     (unknown ms s.closing.node (closer ms s None h.1.1 h.1.2))
-answered ms bytes fault.BadSignature h =
-    let s : SegmentParts = h.0 in
+answered ms v bytes fault.BadSignature h =
+    let s : VersionedParts = h.0 in
     let m : Member = h.1.0 in
     let there : member_of ms s.closing.node ≡ Some m = closer ms s (Some m) h.1.1.1 h.1.1.2 in
-    segment_at ms bytes s h.1.1.0.0
-    ∙ unsigned ms (Answer s) (may_end ms s h.1.1.0.1 h.1.1.1) (known ms s.closing.node m there)
+    segment_at ms v bytes s h.1.1.0.0
+    ∙ unsigned ms (Answer s) (may_end ms s (ap (keeps_version ms s.node) h.1.1.0.0.version ∙ h.1.1.0.1) h.1.1.1)
+    (known ms s.closing.node m there)
     (unsigned_by_member ms s.closing m there h.1.1.3)
-answered ms bytes fault.NoMemory h = tt
-answered ms bytes fault.OutOfRange h = absurd h
-answered ms bytes fault.TooLong h = absurd h
+answered ms v bytes fault.NoMemory h = tt
+answered ms v bytes fault.OutOfRange h = absurd h
+answered ms v bytes fault.TooLong h = absurd h
 
 -- ---- an acknowledgement
 

@@ -1,12 +1,10 @@
 -- Bytes are read as a packet exactly where they spell it.
 -- Serves: packets_are_read_as_spelled, packets_are_taken_as_meant.
-use Rattle.std.proofs.Common.{◌≡◌, ◌==◌, ℕ, zero, suc, ◌<◌, Bool, true, false, cond, List, [], ◌∷◌, ◌++◌, map}
-use Rattle.std.proofs.Common.{Ok, Err, Option, Some, None, refl, sym, ap, ap₂, subst, ◌∙◌, eqb-true, ltb-true}
+use Rattle.std.proofs.Common.{◌≡◌, ◌==◌, ℕ, ◌<◌, Bool, true, false, cond, List, ◌++◌}
+use Rattle.std.proofs.Common.{Ok, Err, Option, Some, None, refl, sym, ap, subst, ◌∙◌, eqb-true}
 use Rattle.std.proofs.Common.{arith}
-use Rattle.std.proofs.lemmas.Bool.{and_parts}
-use Rattle.std.specs.Prelude.{◌↔◌, nat_lt, option_map, IsTrue, ◌^◌}
-use Rattle.std.specs.List.{AllByRecursion}
-use Rattle.xdr.specs.Item.{Value, Fits, IsBytes, word, number_spelling}
+use Rattle.std.specs.Prelude.{◌↔◌, option_map, ◌^◌}
+use Rattle.xdr.specs.Item.{Value, IsBytes, word, number_spelling}
 use Rattle.xdr.specs.Reading.{Read, number_at}
 use Rattle.xdr.proofs.Exact.{takes}
 use Rattle.xdr.proofs.Front.{number_again}
@@ -15,38 +13,16 @@ use Rattle.xdr.proofs.OfTexts.WholeTexts.{is_text}
 use Rattle.envelopes.specs.secure_log.authenticator.Signed.{authenticator_text, authenticator_value}
 use Rattle.envelopes.specs.Envelope.{envelope_text, envelope_value}
 use Rattle.envelopes.specs.Acknowledgement.{ack_text, ack_value}
-use Rattle.envelopes.specs.secure_log.LogEntries.Entry.{entry_item, entry_value, kind_item, is_kind}
-use Rattle.envelopes.specs.secure_log.Segment.{segment_text, segment_value, segment_item}
-use Rattle.packets.specs.Values.{entry_said, entry_of_kind, authenticator_said, envelope_said, segment_said}
+use Rattle.envelopes.specs.secure_log.authenticator.declared.member.LogVersion.{LogVersion}
+use Rattle.envelopes.specs.secure_log.authenticator.declared.member.LogVersion.TheVariants.{One, Two}
+use Rattle.envelopes.specs.secure_log.Versioned.{versioned_item, versioned_text, versioned_value}
+use Rattle.envelopes.specs.secure_log.declared.segment.TheConstants.{MAX_ENTRIES}
+use Rattle.packets.specs.Values.{authenticator_said, envelope_said, segment_said}
 use Rattle.packets.specs.Values.{ack_said}
-use Rattle.packets.specs.Packet.{Delivery, Learn, SendChallenge, Answer, AckIn, packet_number, IsContent}
+use Rattle.packets.specs.Packet.{Delivery, Learn, SendChallenge, Answer, AckIn, answer_number, packet_number}
+use Rattle.packets.specs.Packet.{IsContent}
 use Rattle.packets.specs.Packet.{Says, content_at, after_number, delivery_of}
-use Rattle.packets.proofs.Contents.{segment_back}
-
--- ---- what a value says is the value
-
--- an entry says its value, where that is of a kind
-says_back : (n : ℕ) (v : Value (kind_item n)) → IsTrue (is_kind n) → entry_value (entry_of_kind n v) ≡ (n, v)
-says_back zero v known = absurd cc
-says_back (suc zero) v known = refl
-says_back (suc (suc zero)) v known = refl
-says_back (suc (suc (suc zero))) v known = refl
-says_back (suc (suc (suc (suc zero)))) v known = refl
-says_back (suc (suc (suc (suc (suc zero))))) v known = refl
-says_back (suc (suc (suc (suc (suc (suc n)))))) v known =
-    let both = and_parts (nat_lt 0 (suc (suc (suc (suc (suc (suc n)))))))
-    (nat_lt (suc (suc (suc (suc (suc (suc n)))))) 6) known in
-    let lt = ltb-true (suc (suc (suc (suc (suc (suc n)))))) 6 both.1 in absurd (omega (arith, lt))
-
-all_say_back : (vs : List (Value entry_item)) → AllByRecursion (Fits entry_item) vs
-    → map entry_value (map entry_said vs) ≡ vs
-all_say_back [] fit = refl
-all_say_back (v ∷ vs) fit = ap₂ (λ x xs. x ∷ xs) (says_back v.0 v.1 fit.0.1) (all_say_back vs fit.1)
-
--- a segment says its value
-segment_says : (v : Value segment_item) → Fits segment_item v → segment_value (segment_said v) ≡ v
-segment_says v fit = ap (λ (es : List (Value entry_item)). (v.0, (v.1.0, (v.1.1.0, (es, v.1.1.1.1)))))
-    (all_say_back v.1.1.1.0 fit.1.1.1.0.2)
+use Rattle.packets.proofs.Contents.{segment_back, segment_fits, segment_says}
 
 -- ---- what is read is spelled
 
@@ -65,8 +41,35 @@ read_is_of : (n : ℕ) (text : List ℕ) (d : Delivery) → IsBytes text → con
     → IsOf n text d
 read_is_of n text d bound e = first (n == 1) refl e
   where
+    -- a segment of a log of a version
+    answers : (v : LogVersion) (x : Value (versioned_item v MAX_ENTRIES))
+        → text_at (versioned_text v MAX_ENTRIES) text ≡ Some x
+        → IsOf (answer_number v) text (Answer (segment_said v x))
+    answers v x e =
+        let is = (is_text (versioned_text v MAX_ENTRIES) x text bound).0 e in
+        let fits = segment_fits v x is.0 is.1 in
+        record {
+          number = refl;
+          content = record {
+            fits = fits;
+            is = subst (λ (y : Value (versioned_item v MAX_ENTRIES)). IsText (versioned_text v MAX_ENTRIES) y text)
+                (sym (segment_says v x is.0 is.1)) is;
+          };
+        }
+
+    fifth : (b : Bool) → (n == 5) ≡ b
+        → cond b (option_map (λ x. Answer (segment_said Two x)) (text_at (versioned_text Two MAX_ENTRIES) text)) None
+        ≡ Some d → IsOf n text d
+    fifth true h e =
+        let m = mapped (λ x. Answer (segment_said Two x)) (text_at (versioned_text Two MAX_ENTRIES) text) d e in
+        let five : 5 ≡ n = sym (eqb-true n 5 h) in
+        subst (IsOf n text) m.1.1 (subst (λ k. IsOf k text (Answer (segment_said Two m.0))) five (answers Two m.0 m.1.0))
+    fifth false h e = absurd cc
+
     fourth : (b : Bool) → (n == 4) ≡ b
-        → cond b (option_map (λ v. AckIn (ack_said v)) (text_at ack_text text)) None ≡ Some d → IsOf n text d
+        → cond b (option_map (λ v. AckIn (ack_said v)) (text_at ack_text text))
+        (cond (n == 5) (option_map (λ x. Answer (segment_said Two x)) (text_at (versioned_text Two MAX_ENTRIES) text))
+        None) ≡ Some d → IsOf n text d
     fourth true h e =
         let m = mapped (λ v. AckIn (ack_said v)) (text_at ack_text text) d e in
         let four : 4 ≡ n = sym (eqb-true n 4 h) in
@@ -74,26 +77,25 @@ read_is_of n text d bound e = first (n == 1) refl e
           number = four;
           content = (is_text ack_text m.0 text bound).0 m.1.0;
         })
-    fourth false h e = absurd cc
+    fourth false h e = fifth (n == 5) refl e
 
     third : (b : Bool) → (n == 3) ≡ b
-        → cond b (option_map (λ v. Answer (segment_said v)) (text_at segment_text text))
-        (cond (n == 4) (option_map (λ v. AckIn (ack_said v)) (text_at ack_text text)) None) ≡ Some d
-        → IsOf n text d
+        → cond b (option_map (λ x. Answer (segment_said One x)) (text_at (versioned_text One MAX_ENTRIES) text))
+        (cond (n == 4) (option_map (λ v. AckIn (ack_said v)) (text_at ack_text text))
+        (cond (n == 5) (option_map (λ x. Answer (segment_said Two x)) (text_at (versioned_text Two MAX_ENTRIES) text))
+        None)) ≡ Some d → IsOf n text d
     third true h e =
-        let m = mapped (λ v. Answer (segment_said v)) (text_at segment_text text) d e in
+        let m = mapped (λ x. Answer (segment_said One x)) (text_at (versioned_text One MAX_ENTRIES) text) d e in
         let three : 3 ≡ n = sym (eqb-true n 3 h) in
-        let is = (is_text segment_text m.0 text bound).0 m.1.0 in
-        subst (IsOf n text) m.1.1 (record {
-          number = three;
-          content = subst (λ v. IsText segment_text v text) (sym (segment_says m.0 is.0)) is;
-        })
+        subst (IsOf n text) m.1.1 (subst (λ k. IsOf k text (Answer (segment_said One m.0))) three (answers One m.0 m.1.0))
     third false h e = fourth (n == 4) refl e
 
     second : (b : Bool) → (n == 2) ≡ b
         → cond b (option_map (λ v. SendChallenge (envelope_said v)) (text_at envelope_text text))
-        (cond (n == 3) (option_map (λ v. Answer (segment_said v)) (text_at segment_text text))
-        (cond (n == 4) (option_map (λ v. AckIn (ack_said v)) (text_at ack_text text)) None)) ≡ Some d
+        (cond (n == 3) (option_map (λ x. Answer (segment_said One x)) (text_at (versioned_text One MAX_ENTRIES) text))
+        (cond (n == 4) (option_map (λ v. AckIn (ack_said v)) (text_at ack_text text))
+        (cond (n == 5) (option_map (λ x. Answer (segment_said Two x)) (text_at (versioned_text Two MAX_ENTRIES) text))
+        None))) ≡ Some d
         → IsOf n text d
     second true h e =
         let m = mapped (λ v. SendChallenge (envelope_said v)) (text_at envelope_text text) d e in
@@ -107,9 +109,10 @@ read_is_of n text d bound e = first (n == 1) refl e
     first : (b : Bool) → (n == 1) ≡ b
         → cond b (option_map (λ v. Learn (authenticator_said v)) (text_at authenticator_text text))
         (cond (n == 2) (option_map (λ v. SendChallenge (envelope_said v)) (text_at envelope_text text))
-        (cond (n == 3) (option_map (λ v. Answer (segment_said v)) (text_at segment_text text))
+        (cond (n == 3) (option_map (λ x. Answer (segment_said One x)) (text_at (versioned_text One MAX_ENTRIES) text))
         (cond (n == 4) (option_map (λ v. AckIn (ack_said v)) (text_at ack_text text))
-        None))) ≡ Some d → IsOf n text d
+        (cond (n == 5) (option_map (λ x. Answer (segment_said Two x)) (text_at (versioned_text Two MAX_ENTRIES) text))
+        None)))) ≡ Some d → IsOf n text d
     first true h e =
         let m = mapped (λ v. Learn (authenticator_said v)) (text_at authenticator_text text) d e in
         let one : 1 ≡ n = sym (eqb-true n 1 h) in
@@ -137,6 +140,13 @@ read_is_said bytes d bound e = by_read (number_at 4 bytes) refl e
 
 -- ---- what is spelled is read
 
+-- a segment's packet is read by its number
+pub answer_read : (v : LogVersion) (text : List ℕ) (x : Value (versioned_item v MAX_ENTRIES))
+    → text_at (versioned_text v MAX_ENTRIES) text ≡ Some x
+    → content_at (answer_number v) text ≡ Some (Answer (segment_said v x))
+answer_read One text x e = rw e refl
+answer_read Two text x e = rw e refl
+
 content_read : (d : Delivery) (text : List ℕ) → IsBytes text → IsContent d text
     → content_at (packet_number d) text ≡ Some d
 content_read (Learn a) text bound is =
@@ -144,13 +154,19 @@ content_read (Learn a) text bound is =
 content_read (SendChallenge e) text bound is =
     rw ((is_text envelope_text (envelope_value e) text bound).1 is) refl
 content_read (Answer s) text bound is =
-    rw ((is_text segment_text (segment_value s) text bound).1 is) (ap (λ t. Some (Answer t)) (segment_back s))
+    answer_read s.log_version text (versioned_value s.log_version s)
+    ((is_text (versioned_text s.log_version MAX_ENTRIES) (versioned_value s.log_version s) text bound).1 is.is)
+    ∙ ap (λ t. Some (Answer t)) (segment_back s is.fits)
 content_read (AckIn a) text bound is = rw ((is_text ack_text (ack_value a) text bound).1 is) refl
+
+small_answer : (v : LogVersion) → answer_number v < 256 ^ 4
+small_answer One = omega arith
+small_answer Two = omega arith
 
 small : (d : Delivery) → packet_number d < 256 ^ 4
 small (Learn a) = omega arith
 small (SendChallenge e) = omega arith
-small (Answer s) = omega arith
+small (Answer s) = small_answer s.log_version
 small (AckIn a) = omega arith
 
 -- what is said is read

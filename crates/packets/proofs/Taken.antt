@@ -5,7 +5,6 @@ use Rattle.std.proofs.Common.{Some, None, refl, ap, subst, ◌∙◌, eq-eqb}
 use Rattle.std.specs.Prelude.{◌↔◌, not, is_some, IsSome}
 use Rattle.std.proofs.lemmas.Bool.{and_parts, and_from}
 use Rattle.xdr.specs.Item.{IsBytes, number_spelling}
-use Rattle.envelopes.specs.secure_log.authenticator.declared.member.LogVersion.TheVariants.{One}
 use Rattle.envelopes.specs.secure_log.authenticator.Roster.{keeps_version, member_of}
 use Rattle.envelopes.specs.secure_log.authenticator.declared.member.Member.{Member}
 use Rattle.envelopes.specs.secure_log.authenticator.declared.refusal.Refusal.{Refusal}
@@ -20,6 +19,7 @@ use Rattle.packets.specs.Judging.{ends, may_be, is_member, is_of_members, judged
 use Rattle.packets.specs.Judging.{judged}
 use Rattle.packets.specs.Taking.{MayBe, IsOfMembers, Means}
 use Rattle.envelopes.proofs.secure_log.authenticator.Signed.{is_false, signed_in_of, of_signed_in}
+use Rattle.packets.proofs.Contents.{first_in}
 use Rattle.packets.proofs.Judged.{of_ends, may_end, taken, unsigned, of_strangers, between}
 use Rattle.packets.proofs.Spelled.{exact, one_delivery}
 
@@ -30,13 +30,13 @@ differ a b h e = let same : (a == b) ≡ true = eq-eqb a b e in let nay : not tr
     subst (λ (t : Bool). not t ≡ true) same h in absurd cc
 
 module _ (ms : List Member) where
-  may_of : (d : Delivery) → may_be ms d ≡ true → MayBe ms d
-  may_of (Learn a) h = tt
-  may_of (SendChallenge e) h = differ e.from e.to h
-  may_of (Answer s) h =
-      let both = and_parts (keeps_version ms s.node One) (ends s) h in
-      (both.0, of_ends s both.1)
-  may_of (AckIn a) h = tt
+  may_of : (d : Delivery) (text : List ℕ) → IsContent d text → may_be ms d ≡ true → MayBe ms d
+  may_of (Learn a) text is h = tt
+  may_of (SendChallenge e) text is h = differ e.from e.to h
+  may_of (Answer s) text is h =
+      let both = and_parts (keeps_version ms s.node s.log_version) (ends s) h in
+      (both.0, of_ends s is.fits (first_in s.log_version s is.fits.begins is.is.1) both.1)
+  may_of (AckIn a) text is h = tt
 
   of_may : (d : Delivery) → MayBe ms d → may_be ms d ≡ true
   of_may (Learn a) h = refl
@@ -90,7 +90,7 @@ module _ (ms : List Member) (bytes : List ℕ) (bound : IsBytes bytes) where
       (Err Garbage))
   by_tests d says true true true may of signed = record {
     of_members = record {
-      well = record { says = says; may_be = may_of ms d may };
+      well = record { says = says; may_be = may_of ms d says.content says.is_content may };
       members = members_of ms d of;
     };
     signed = signed_in_of ms (delivery_shows d) signed;
@@ -98,14 +98,14 @@ module _ (ms : List Member) (bytes : List ℕ) (bound : IsBytes bytes) where
   by_tests d says true true false may of signed = (
     d,
     (
-      record { well = record { says = says; may_be = may_of ms d may }; members = members_of ms d of },
+      record { well = record { says = says; may_be = may_of ms d says.content says.is_content may }; members = members_of ms d of },
       (λ s. failed (is_signed_in ms (delivery_shows d)) signed (of_signed_in ms (delivery_shows d) s)),
     ),
   )
   by_tests d says true false signed may of s = (
     d,
     (
-      record { says = says; may_be = may_of ms d may },
+      record { says = says; may_be = may_of ms d says.content says.is_content may },
       λ m. failed (is_of_members ms d) of
           (of_members ms d m),
     ),
@@ -168,7 +168,7 @@ as_spelled ms bytes d bound says = of_said ms bytes bound d says
 content_is : (d : Delivery) (text : List ℕ) → IsContent d text → text ≡ content_text d
 content_is (Learn a) text is = is.2
 content_is (SendChallenge e) text is = is.2
-content_is (Answer s) text is = is.2
+content_is (Answer s) text is = is.is.2
 content_is (AckIn a) text is = is.2
 
 -- what is taken is written back

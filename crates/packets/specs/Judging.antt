@@ -1,7 +1,7 @@
 -- What a packet is taken for under a roster.
-use Rattle.std.specs.Prelude.{◌≡◌, ℕ, ◌+◌, Bool, true, not, ◌&&◌, ◌==◌, List, length, Result, Ok, Err, Option}
+use Rattle.std.specs.Prelude.{◌≡◌, ℕ, ◌-◌, Bool, true, not, ◌&&◌, ◌==◌, List, [], ◌∷◌, Result, Ok, Err, Option}
 use Rattle.std.specs.Prelude.{Some, None, if◌then◌else◌, is_some}
-use Rattle.envelopes.specs.secure_log.authenticator.declared.member.LogVersion.TheVariants.{One}
+use Rattle.envelopes.specs.secure_log.authenticator.declared.member.LogVersion.{LogVersion}
 use Rattle.envelopes.specs.secure_log.authenticator.Roster.{keeps_version, member_of}
 use Rattle.envelopes.specs.secure_log.authenticator.declared.member.Member.{Member}
 use Rattle.envelopes.specs.secure_log.authenticator.declared.refusal.Refusal.{Refusal}
@@ -9,23 +9,31 @@ use Rattle.envelopes.specs.secure_log.authenticator.declared.refusal.Refusal.The
 use Rattle.envelopes.specs.secure_log.authenticator.declared.refusal.Refusal.TheVariants.{Garbage}
 use Rattle.envelopes.specs.secure_log.authenticator.declared.refusal.Refusal.TheVariants.{BadSignature}
 use Rattle.envelopes.specs.secure_log.authenticator.declared.refusal.Refusal.TheVariants.{NoMemory}
-use Rattle.envelopes.specs.secure_log.LogEntries.Chain.{last_hash, links_from}
-use Rattle.envelopes.specs.secure_log.Segment.{SegmentParts}
+use Rattle.envelopes.specs.secure_log.authenticator.Numbers.{number_in}
+use Rattle.envelopes.specs.secure_log.LogEntries.Chain.{Link, last_hash}
+use Rattle.envelopes.specs.secure_log.LogEntries.Words.{last_word}
+use Rattle.envelopes.specs.secure_log.Versioned.{VersionedParts, versioned_links}
 use Rattle.packets.specs.Packet.{Delivery, Learn, SendChallenge, Answer, AckIn, delivery_of, delivery_shows}
 use Rattle.envelopes.specs.secure_log.authenticator.Signing.{is_same, is_signed_in}
 
--- whether a segment's closing is of its node, its last number and its last hash
-abbrev pub ends : SegmentParts → Bool
+-- whether a word closes links after a number: it is the last link's; without links, it is of that number
+abbrev pub closes_at : LogVersion → (before : ℕ) → List Link → (closing : ℕ) → Bool
+closes_at v before [] closing = number_in v closing == before
+closes_at v before (l ∷ ls) closing = closing == last_word l ls
+
+-- whether a segment's closing is of its node, its last word and its last hash
+abbrev pub ends : VersionedParts → Bool
 ends s =
-    (s.closing.node == s.node) && ((s.closing.word + 1 == s.first + length s.entries)
-    && is_same s.closing.hash (last_hash s.opening (links_from s.first s.entries)))
+    (s.closing.node == s.node)
+    && (closes_at s.log_version (s.first - 1) (versioned_links s) s.closing.word
+    && is_same s.closing.hash (last_hash s.opening (versioned_links s)))
 
 -- whether what is delivered may be at all under a roster: an envelope's sender isn't its receiver, and a
--- segment is of a log of version 1, as its node's is where that is a member, and ends in its closing
+-- segment is of a log of its node's version, where that is a member, and ends in its closing
 abbrev pub may_be : List Member → Delivery → Bool
 may_be ms (Learn a) = true
 may_be ms (SendChallenge e) = not (e.from == e.to)
-may_be ms (Answer s) = keeps_version ms s.node One && ends s
+may_be ms (Answer s) = keeps_version ms s.node s.log_version && ends s
 may_be ms (AckIn a) = true
 
 -- a node is a member of the roster

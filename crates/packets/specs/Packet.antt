@@ -10,7 +10,11 @@ use Rattle.envelopes.specs.Envelope.{envelope_item, envelope_text, envelope_valu
 use Rattle.envelopes.specs.Acknowledgement.{ack_item, ack_text, ack_value, ack_shows}
 use Rattle.envelopes.specs.declared.envelope.Envelope.{Envelope}
 use Rattle.envelopes.specs.declared.acknowledgement.Ack.{Ack}
-use Rattle.envelopes.specs.secure_log.Segment.{SegmentParts, segment_item, segment_text, segment_value}
+use Rattle.envelopes.specs.secure_log.authenticator.declared.member.LogVersion.{LogVersion}
+use Rattle.envelopes.specs.secure_log.authenticator.declared.member.LogVersion.TheVariants.{One, Two}
+use Rattle.envelopes.specs.secure_log.Versioned.{VersionedParts, FitsVersion, versioned_item, versioned_text}
+use Rattle.envelopes.specs.secure_log.Versioned.{versioned_value}
+use Rattle.envelopes.specs.secure_log.declared.segment.TheConstants.{MAX_ENTRIES}
 use Rattle.packets.specs.Values.{authenticator_said, envelope_said, segment_said, ack_said}
 
 -- What a packet delivers: a node's authenticator, to be learned; an envelope that its receiver is to
@@ -18,24 +22,34 @@ use Rattle.packets.specs.Values.{authenticator_said, envelope_said, segment_said
 pub data Delivery : Type 0 where
   Learn : Authenticator → Delivery
   SendChallenge : Envelope → Delivery
-  Answer : SegmentParts → Delivery
+  Answer : VersionedParts → Delivery
   AckIn : Ack → Delivery
 
 -- ---- how it is spelled
+
+-- the number of a packet with a segment of a log of a version
+abbrev pub answer_number : LogVersion → ℕ
+answer_number One = 3
+answer_number Two = 5
 
 -- the number of a kind of packet
 abbrev pub packet_number : Delivery → ℕ
 packet_number (Learn a) = 1
 packet_number (SendChallenge e) = 2
-packet_number (Answer s) = 3
+packet_number (Answer s) = answer_number s.log_version
 packet_number (AckIn a) = 4
 
--- The bytes are the text of what is delivered (RFC 4506), and nothing more. A segment has an entry, and its
--- first number is at least 1.
+-- The bytes are the text of a segment, of its log's version, and the segment says no more than that.
+pub record IsSegmentText (s : VersionedParts) (text : List ℕ) : Type 0 where
+  pub fits : FitsVersion MAX_ENTRIES s
+  pub is : IsText (versioned_text s.log_version MAX_ENTRIES) (versioned_value s.log_version s) text
+
+-- The bytes are the text of what is delivered (RFC 4506), and nothing more. A segment has an entry; its first
+-- number is at least 1, and in a log of version 2 its words follow.
 abbrev pub IsContent : Delivery → List ℕ → Type 0
 IsContent (Learn a) text = IsText authenticator_text (authenticator_value a) text
 IsContent (SendChallenge e) text = IsText envelope_text (envelope_value e) text
-IsContent (Answer s) text = IsText segment_text (segment_value s) text
+IsContent (Answer s) text = IsSegmentText s text
 IsContent (AckIn a) text = IsText ack_text (ack_value a) text
 
 -- The bytes are a packet: the number of its kind in four bytes, and then the text of what it delivers.
@@ -48,7 +62,7 @@ pub record Says (bytes : List ℕ) (d : Delivery) : Type 0 where
 abbrev pub content_text : Delivery → List ℕ
 content_text (Learn a) = spelling authenticator_item (authenticator_value a)
 content_text (SendChallenge e) = spelling envelope_item (envelope_value e)
-content_text (Answer s) = spelling segment_item (segment_value s)
+content_text (Answer s) = spelling (versioned_item s.log_version MAX_ENTRIES) (versioned_value s.log_version s)
 content_text (AckIn a) = spelling ack_item (ack_value a)
 
 -- the text of a packet: its number, and what it delivers
@@ -62,8 +76,9 @@ abbrev pub content_at : (number : ℕ) → List ℕ → Option Delivery
 content_at number text =
     if number == 1 then option_map (λ v. Learn (authenticator_said v)) (text_at authenticator_text text)
     else if number == 2 then option_map (λ v. SendChallenge (envelope_said v)) (text_at envelope_text text)
-    else if number == 3 then option_map (λ v. Answer (segment_said v)) (text_at segment_text text)
+    else if number == 3 then option_map (λ v. Answer (segment_said One v)) (text_at (versioned_text One MAX_ENTRIES) text)
     else if number == 4 then option_map (λ v. AckIn (ack_said v)) (text_at ack_text text)
+    else if number == 5 then option_map (λ v. Answer (segment_said Two v)) (text_at (versioned_text Two MAX_ENTRIES) text)
     else None
 
 -- what is delivered, where a packet's number was read

@@ -1,6 +1,5 @@
 -- Which packets are taken under a roster, and why others aren't, in a reader's words.
 use Rattle.std.specs.Prelude.{◌≢◌, ℕ, List, IsSome, IsTrue, Result, Ok, Err}
-use Rattle.envelopes.specs.secure_log.authenticator.declared.member.LogVersion.TheVariants.{One}
 use Rattle.envelopes.specs.secure_log.authenticator.Roster.{keeps_version, member_of}
 use Rattle.envelopes.specs.secure_log.authenticator.Signed.{IsSignedIn}
 use Rattle.envelopes.specs.secure_log.authenticator.declared.member.Member.{Member}
@@ -9,15 +8,15 @@ use Rattle.envelopes.specs.secure_log.authenticator.declared.refusal.Refusal.The
 use Rattle.envelopes.specs.secure_log.authenticator.declared.refusal.Refusal.TheVariants.{Garbage}
 use Rattle.envelopes.specs.secure_log.authenticator.declared.refusal.Refusal.TheVariants.{BadSignature}
 use Rattle.envelopes.specs.secure_log.authenticator.declared.refusal.Refusal.TheVariants.{NoMemory}
-use Rattle.envelopes.specs.secure_log.Segment.{Ends}
+use Rattle.envelopes.specs.secure_log.Versioned.{EndsIn}
 use Rattle.packets.specs.Packet.{Delivery, Learn, SendChallenge, Answer, AckIn, Says, delivery_shows}
 
 -- It may be delivered at all under a roster: an envelope's sender isn't its receiver; the log of a segment's
--- node, where that is a member, is of version 1, and its closing is of its node, last number and last hash.
+-- node, where that is a member, is of its version, and its closing is of its node, last word and last hash.
 abbrev pub MayBe : List Member → Delivery → Type 0
 MayBe ms (Learn a) = Unit {0}
 MayBe ms (SendChallenge e) = e.from ≢ e.to
-MayBe ms (Answer s) = IsTrue (keeps_version ms s.node One) × Ends s
+MayBe ms (Answer s) = IsTrue (keeps_version ms s.node s.log_version) × EndsIn s
 MayBe ms (AckIn a) = Unit {0}
 
 -- Who signs it is a member, and of an envelope its receiver too.

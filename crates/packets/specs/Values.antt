@@ -1,5 +1,5 @@
 -- What texts say, as the values that they are of: of each of these the value comes back from its text's.
-use Rattle.std.specs.Prelude.{ℕ, zero, suc, [], map}
+use Rattle.std.specs.Prelude.{ℕ, zero, suc, ◌+◌, ◌/◌, ◌^◌, [], map}
 use Rattle.xdr.specs.Item.{Value}
 use Rattle.merkle_keys.specs.Signing.{SignatureParts, signature_item}
 use Rattle.envelopes.specs.secure_log.authenticator.Signed.{authenticator_item}
@@ -11,7 +11,11 @@ use Rattle.envelopes.specs.Envelope.{envelope_item}
 use Rattle.envelopes.specs.Acknowledgement.{ack_item}
 use Rattle.envelopes.specs.declared.envelope.Envelope.{Envelope}
 use Rattle.envelopes.specs.declared.acknowledgement.Ack.{Ack}
-use Rattle.envelopes.specs.secure_log.Segment.{SegmentParts, segment_item}
+use Rattle.envelopes.specs.secure_log.authenticator.declared.member.LogVersion.{LogVersion}
+use Rattle.envelopes.specs.secure_log.authenticator.declared.member.LogVersion.TheVariants.{One, Two}
+use Rattle.envelopes.specs.secure_log.LogEntries.Chain.{Logged}
+use Rattle.envelopes.specs.secure_log.Versioned.{VersionedParts, logged_item, versioned_item}
+use Rattle.envelopes.specs.secure_log.declared.segment.TheConstants.{MAX_ENTRIES}
 
 abbrev pub signature_said : Value signature_item → SignatureParts
 signature_said v = record { leaf = v.0; shown = v.1.0; other = v.1.1.0; path = v.1.1.1 }
@@ -57,11 +61,23 @@ entry_of_kind zero v = entry.Check []
 abbrev pub entry_said : Value entry_item → Entry
 entry_said v = entry_of_kind v.0 v.1
 
-abbrev pub segment_said : Value segment_item → SegmentParts
-segment_said v = record {
-  node = v.0;
-  first = v.1.0;
-  opening = v.1.1.0;
-  entries = map entry_said v.1.1.1.0;
-  closing = authenticator_said v.1.1.1.1;
+-- an entry, with what its word says is skipped before it; in a log of version 1 it has no word
+abbrev pub logged_said : (v : LogVersion) → Value (logged_item v) → Logged
+logged_said One x = record { skipped = 0; entry = entry_said x }
+logged_said Two x = record { skipped = x.0 / 2 ^ 32; entry = entry_said x.1 }
+
+-- the first number of a segment whose text begins with this one
+abbrev pub first_said : LogVersion → (start : ℕ) → ℕ
+first_said One start = start
+first_said Two start = start + 1
+
+-- a segment of a log of a version
+abbrev pub segment_said : (v : LogVersion) → Value (versioned_item v MAX_ENTRIES) → VersionedParts
+segment_said v x = record {
+  log_version = v;
+  node = x.0;
+  first = first_said v x.1.0;
+  opening = x.1.1.0;
+  entries = map (logged_said v) x.1.1.1.0;
+  closing = authenticator_said x.1.1.1.1;
 }

@@ -4,7 +4,8 @@ ghost use Rattle.std.specs.Prelude.{◌≡◌};
 ghost use Rattle.packets.specs.Packet.{delivery_node};
 ghost use Rattle.packets.specs.Delivered.{delivery_in};
 
-use envelopes::{Ack, Authenticator, Checked, ClosedSegment, Envelope};
+use envelopes::{Ack, Authenticator, Checked, Envelope};
+use secure_log::ClosedVersioned;
 
 /// What a witness is sent, checked under a roster. `read_packet` makes it of bytes.
 #[derive(Drop)]
@@ -14,7 +15,7 @@ pub enum Packet {
     /// An envelope that its receiver is to acknowledge: a step of the receiver.
     SendChallenge(Checked<Envelope>),
     /// A segment, in answer to an audit: a step of the node that closes it.
-    Answer(ClosedSegment),
+    Answer(ClosedVersioned),
     /// An acknowledgement of an envelope: a step of the node that signs it.
     AckIn(Checked<Ack>),
 }

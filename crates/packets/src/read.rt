@@ -1,19 +1,21 @@
 //! Packets from bytes.
 
 ghost use Rattle.std.specs.Prelude.{IfOk};
-ghost use Rattle.packets.specs.Packet.{content_at};
+ghost use Rattle.packets.specs.Packet.{answer_number, content_at};
 ghost use Rattle.packets.specs.Judging.{GivesDelivery, judged, judged_option};
 ghost use Rattle.packets.specs.Delivered.{IsUnder, delivery_in};
 ghost use Rattle.packets.specs.Uses.{MayUse};
 
 use crate::packet::Packet;
 use crate::signatures::{ByKeys, SignatureCheck};
-use envelopes::{Refusal, Roster, SegmentFault, check_segment};
+use authenticator::LogVersion;
+use envelopes::{Refusal, Roster, SegmentFault};
+use secure_log::check_versioned;
 use std::alloc::Global;
 use xdr::Reader;
 
 /// Reads and checks a packet: `Garbage` where the bytes are none, an envelope's sender is its receiver, the
-/// node of a segment is a member whose log isn't of version 1, or a segment doesn't end in its closing; else
+/// node of a segment is a member whose log is of another version, or a segment doesn't end in its closing; else
 /// `UnknownNode` where who signs, or an envelope's receiver, is no member; else `BadSignature` where who is
 /// to sign it didn't. `NoMemory` comes only where a growth was refused.
 pub fn read_packet(alloc: Global, roster: &Roster, bytes: &[u8]) -> Result<Packet, Refusal>
@@ -59,8 +61,9 @@ fn read_content<C: SignatureCheck>(
     match number {
         1 => read_learn(alloc, roster, signatures, text),
         2 => read_challenge(alloc, roster, signatures, text),
-        3 => read_answer(alloc, roster, signatures, text),
+        3 => read_answer(alloc, roster, signatures, LogVersion::One, text),
         4 => read_ack(alloc, roster, signatures, text),
+        5 => read_answer(alloc, roster, signatures, LogVersion::Two, text),
         _ => Err(Refusal::Garbage),
     }
 }
@@ -107,14 +110,16 @@ fn read_answer<C: SignatureCheck>(
     alloc: Global,
     roster: &Roster,
     signatures: &mut C,
+    version: LogVersion,
     text: &[u8],
 ) -> Result<Packet, Refusal>
-    ensures answers { GivesDelivery (judged_option roster.now (content_at 3 text.now)) delivery_in result }
+    ensures answers { GivesDelivery (judged_option roster.now (content_at (answer_number version) text.now))
+        delivery_in result }
     ensures under { IfOk result (IsUnder roster.now) }
-    ensures uses { MayUse C.uses roster.now (judged_option roster.now (content_at 3 text.now))
+    ensures uses { MayUse C.uses roster.now (judged_option roster.now (content_at (answer_number version) text.now))
         signatures.old signatures.new }
 {
-    match check_segment(alloc, roster, text) {
+    match check_versioned(alloc, roster, version, text) {
         Ok(segment) => {
             signatures.keep_closing(alloc, &segment);
             Ok(Packet::Answer(segment))

@@ -1,17 +1,18 @@
 //! Packets as bytes.
 
-ghost use Rattle.std.specs.Prelude.{◌++◌, OnOk};
+ghost use Rattle.std.specs.Prelude.{◌≡◌, ◌++◌, OnOk};
 ghost use Rattle.xdr.specs.Item.{Fits, number_spelling};
 ghost use Rattle.xdr.specs.Writing.{Adds, Appends};
 ghost use Rattle.envelopes.specs.secure_log.authenticator.Signed.{authenticator_item, authenticator_value};
 ghost use Rattle.envelopes.specs.Acknowledgement.{ack_in, ack_item, ack_value};
 ghost use Rattle.envelopes.specs.Envelope.{envelope_in, envelope_item, envelope_value};
-ghost use Rattle.envelopes.specs.secure_log.Segment.{segment_item, segment_value};
-ghost use Rattle.packets.specs.Packet.{Learn, SendChallenge, Answer, AckIn, Says, packet_text};
+ghost use Rattle.packets.specs.Packet.{Learn, SendChallenge, Answer, AckIn, Says, answer_number, packet_text};
 ghost use Rattle.packets.specs.Delivered.{delivery_in};
 
 use crate::packet::Packet;
-use envelopes::{AckRef, Authenticator, ClosedSegment, EnvelopeRef, Segment};
+use authenticator::LogVersion;
+use envelopes::{AckRef, Authenticator, EnvelopeRef};
+use secure_log::{ClosedVersioned, MAX_ENTRIES, VersionedSegment};
 use std::alloc::AllocError;
 use xdr::{Writer, all_or_nothing};
 
@@ -72,7 +73,7 @@ fn add_challenge(envelope: &EnvelopeRef<'_>, out: &mut Vec<u8>) -> Result<(), Al
 }
 
 /// Appends the packet by which an audit is answered. Where memory was refused the bytes are as they were.
-pub fn write_answer(segment: &ClosedSegment, out: &mut Vec<u8>) -> Result<(), AllocError>
+pub fn write_answer(segment: &ClosedVersioned, out: &mut Vec<u8>) -> Result<(), AllocError>
     ensures says { let d = Answer segment.now.segment in OnOk result (Says (packet_text d) d) }
     ensures text { Appends (packet_text (Answer segment.now.segment)) out.old.items result out.new.items }
 {
@@ -81,16 +82,25 @@ pub fn write_answer(segment: &ClosedSegment, out: &mut Vec<u8>) -> Result<(), Al
     all_or_nothing(out, start, written)
 }
 
-fn add_answer(segment: &Segment, out: &mut Vec<u8>) -> Result<(), AllocError>
-    ensures fits { OnOk result (Fits segment_item (segment_value segment.now)) }
-    ensures text { Adds (packet_text (Answer segment.now)) out.old.items result out.new.items }
+fn add_answer(segment: &VersionedSegment<MAX_ENTRIES>, out: &mut Vec<u8>) -> Result<(), AllocError>
+    ensures { Adds (packet_text (Answer segment.now)) out.old.items result out.new.items }
 {
-    out.put_u32(3)?;
+    out.put_u32(answer_number(segment.log_version()))?;
     segment.write(out)
 }
 
-/// Appends the packet by which an audit is answered with a segment's text, as a node gives it. Where memory
-/// was refused the bytes are as they were.
+/// The number of a packet with a segment of a log of this version.
+fn answer_number(version: LogVersion) -> u32
+    ensures { result ≡ answer_number version }
+{
+    match version {
+        LogVersion::One => 3,
+        LogVersion::Two => 5,
+    }
+}
+
+/// Appends the packet by which an audit is answered with the text of a segment of a log of version 1, as a
+/// node gives it. Where memory was refused the bytes are as they were.
 pub fn write_answer_text(text: &[u8], out: &mut Vec<u8>) -> Result<(), AllocError>
     ensures { Appends (number_spelling 4 3 ++ text.now) out.old.items result out.new.items }
 {

@@ -1,16 +1,21 @@
 -- Places of entries with how many numbers are skipped before each.
--- Serves: run, replay_entries.
-use Rattle.std.proofs.Common.{◌≡◌, ℕ, ◌+◌, ◌<◌, ◌^◌, Bool, true, false, List, [], ◌∷◌, length, drop, get_or}
+-- Serves: run, replay_entries, replay_versioned; replay_finding (challenge), replayed (replay_jobs).
+use Rattle.std.proofs.Common.{◌≡◌, ℕ, ◌+◌, ◌-◌, ◌<◌, ◌^◌, Bool, true, false, List, [], ◌∷◌, length, drop, get_or}
 use Rattle.std.proofs.Common.{refl, sym, ap, ap₂, subst, ◌∙◌, arith}
 use Rattle.std.specs.Prelude.{nat_lt}
 use Rattle.std.specs.List.{AllByRecursion}
 use Rattle.std.proofs.lemmas.Bool.{ltb-true, ltb-false}
 use Rattle.std.proofs.lemmas.List.{drop_all, drop_more, get_or_past}
+use Rattle.authenticator.specs.declared.member.LogVersion.{LogVersion}
 use Rattle.authenticator.specs.Numbers.{word_of}
-use Rattle.secure_log.specs.LogEntries.Chain.{Logged, chain_text, hash_after, link_of, logged_link}
-use Rattle.secure_log.specs.LogEntries.Words.{logged}
+use Rattle.secure_log.specs.LogEntries.Chain.{Logged, chain_text, hash_after, last_number, link_of, logged_link}
+use Rattle.secure_log.specs.LogEntries.Chain.{logged_links}
+use Rattle.secure_log.specs.LogEntries.Words.{MaySkip, logged}
+use Rattle.secure_log.specs.Versioned.{EndsIn, FitsVersion, VersionedParts}
+use Rattle.secure_log.proofs.Gaps.{low_here, word_low}
+use Rattle.secure_log.proofs.VersionedTexts.{last_low}
 use Rattle.secure_log.specs.declared.log_entries.entry.Entry.{Entry}
-use Rattle.replay_spec.specs.Placed.{HasWord, place, placed, places_from}
+use Rattle.replay_spec.specs.Placed.{HasWord, place, placed, places_from, places_in}
 
 -- ---- entries from a place on
 
@@ -83,3 +88,25 @@ pub plain_has_words : (first : ℕ) (opening : List ℕ) (es : List Entry) → f
     → AllByRecursion HasWord (places_from first opening (logged [] es))
 plain_has_words first opening es low =
     subst (AllByRecursion HasWord) (sym (places_plain first opening es)) (plain_words first opening es low)
+
+-- ---- entries of a segment
+
+-- where the last number is below the greatest, each entry that may be skipped to has a word
+words_from : (v : LogVersion) (before first : ℕ) (opening : List ℕ) (log : List Logged) → before + 1 ≡ first
+    → AllByRecursion (MaySkip v) (logged_links before log)
+    → last_number before (logged_links before log) < 2 ^ 64 - 1
+    → AllByRecursion HasWord (places_from first opening log)
+words_from v before first opening [] e may low = tt
+words_from v before first opening (l ∷ ls) e may low = (
+  word_low v l.skipped (first + l.skipped) (logged_link (before + 1 + l.skipped) l) refl (omega (arith, e))
+      may.0 (omega (arith, e, low_here before l ls (2 ^ 64 - 1) low)),
+  words_from v (before + 1 + l.skipped) (first + l.skipped + 1)
+      (hash_after opening (logged_link (first + l.skipped) l)) ls (omega (arith, e)) may.1 low,
+)
+
+-- so has each entry of a segment that ends in its closing
+pub segment_words : (most : ℕ) (s : VersionedParts) → EndsIn s → FitsVersion most s
+    → AllByRecursion HasWord (places_in s)
+segment_words most s ends fits =
+    words_from s.log_version (s.first - 1) s.first s.opening s.entries (omega (arith, ends.first)) ends.skips
+    (last_low most s fits ends.last)

@@ -4,7 +4,8 @@ use Rattle.std.specs.FinMap.{len}
 use Rattle.std.specs.Arc.{arc_value}
 use Rattle.state_machine.specs.declared.states.received.TheConstants.{MAX_RECEIVED}
 use Rattle.state_machine.specs.declared.states.sends.TheConstants.{MAX_SENDS}
-use Rattle.replay.specs.replay_spec.Replay.{segment_verdict}
+use Rattle.replay.specs.replay_spec.Placed.{places_in}
+use Rattle.replay.specs.replay_spec.Replay.{verdict_of}
 use Rattle.replay.specs.replay_spec.Replay as spec
 use Rattle.replay.specs.Faults.{fault_in}
 use Rattle.witness_spec.specs.Events.{JobParts, DoneParts}
@@ -18,7 +19,7 @@ verdict_told (Fault fault number) = spec.Fault (fault_in fault) number
 
 -- the verdict that is due for a job: the replay of its own state and segment
 abbrev pub job_verdict : JobParts → spec.Verdict
-job_verdict j = segment_verdict j.segment.roster j.state j.segment.segment
+job_verdict j = verdict_of j.segment.roster j.state (places_in j.segment.segment)
 
 -- what a job is once it was done
 abbrev pub done_parts : JobParts → DoneParts

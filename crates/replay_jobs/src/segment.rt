@@ -3,24 +3,24 @@
 ghost use Rattle.std.specs.Prelude.{◌≡◌, ◌↔◌, IfErr, IfOk, IsTrue};
 ghost use Rattle.witness_spec.specs.Events.{IsClosedUnder};
 
-use secure_log::ClosedSegment;
+use secure_log::ClosedVersioned;
 use std::alloc::{AllocError, AllocFailed, Global};
 use std::marker::Model;
 use std::sync::Arc;
 
-/// A closed segment which several own, with its roster: it takes the memory of its entries and their hashes
+/// A closed segment which several own, with its roster: it takes the memory of its entries and their places
 /// once, however many own it.
 #[derive(Drop)]
 pub struct SharedSegment {
-    closed: Arc<ClosedSegment>,
+    closed: Arc<ClosedVersioned>,
 }
 
 impl Model for SharedSegment {
     ghost use Rattle.std.specs.Arc.{arc_value};
-    ghost use Rattle.secure_log.specs.Segment.{ClosedParts};
+    ghost use Rattle.secure_log.specs.Versioned.{ClosedVersionedParts};
     ghost use Rattle.witness_spec.specs.Events.{IsClosedUnder};
 
-    ghost Value = { ClosedParts };
+    ghost Value = { ClosedVersionedParts };
 
     ghost view = { λ s. arc_value s.closed };
 
@@ -32,8 +32,8 @@ impl SharedSegment {
     /// comes back.
     pub fn new(
         alloc: Global,
-        closed: ClosedSegment,
-    ) -> Result<SharedSegment, AllocFailed<ClosedSegment>>
+        closed: ClosedVersioned,
+    ) -> Result<SharedSegment, AllocFailed<ClosedVersioned>>
         ensures shared { IfOk result (λ s. s ≡ closed) }
         ensures back { IfErr result (λ e. e.value ≡ closed) }
     {
@@ -61,7 +61,7 @@ impl SharedSegment {
     }
 
     /// The segment, which has a text and is closed under its roster.
-    pub fn closed(&self) -> &ClosedSegment
+    pub fn closed(&self) -> &ClosedVersioned
         ensures segment { result.now ≡ self.now }
         ensures closed { IsClosedUnder self.now }
     {

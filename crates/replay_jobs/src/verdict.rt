@@ -7,7 +7,7 @@ ghost use Rattle.replay_jobs.specs.Jobs.{HasRoom, job_verdict, verdict_told};
 
 use crate::plain::PlainJob;
 use authenticator::{Authenticator, Number};
-use replay::{ReplayFault, SharedState, Verdict, replay_entries};
+use replay::{ReplayFault, SharedState, Verdict, replay_logged};
 use std::alloc::{AllocError, Global};
 use std::sync::Arc;
 
@@ -48,14 +48,13 @@ pub(crate) fn replayed(alloc: Global, job: &PlainJob) -> Result<JobVerdict, Allo
     let closed = job.segment().closed();
     let roster = closed.roster();
     let segment = closed.segment();
-    // The last entry's word, which is below the greatest of 64 bits.
-    let _last = segment.closing().word.get();
-    let verdict = replay_entries(
+    let verdict = replay_logged(
         alloc,
         roster,
         state,
         segment.first(),
         &segment.opening(),
+        segment.skips(),
         segment.entries(),
     )?;
     shared(alloc, verdict)

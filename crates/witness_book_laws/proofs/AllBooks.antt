@@ -1,10 +1,10 @@
 -- The books of all members go on where one of them does.
 -- Serves: kept_books_step, look_ups_tell.
 use Rattle.std.proofs.Common.{◌≡◌, ℕ, Bool, true, false, cond, ◌==◌, List, [], ◌∷◌, map, Option, Some, Ok}
-use Rattle.std.proofs.Common.{refl, sym, ap, subst, ◌∙◌, eqb-true}
+use Rattle.std.proofs.Common.{refl, sym, ap, subst, ◌∙◌}
 use Rattle.std.proofs.lemmas.Option.{same_Some}
 use Rattle.std.specs.Prelude.{option_map}
-use Rattle.authenticator.specs.Roster.{IsRoster}
+use Rattle.authenticator.specs.Roster.{IsRoster, member_of}
 use Rattle.authenticator.specs.declared.member.Member.{Member}
 use Rattle.witness_laws.specs.witness_spec.Events.{Event, IsEvent}
 use Rattle.witness_laws.specs.witness_spec.Replies.{Reply}
@@ -19,7 +19,7 @@ use Rattle.witness_laws.proofs.OfBooks.Runs.{books_after}
 use Rattle.witness_book_laws.specs.Books.{Book, book_opening, parts_of}
 use Rattle.witness_book_laws.specs.Replying.{BookOwes}
 use Rattle.witness_book_laws.specs.Going.{book_after}
-use Rattle.witness_book_laws.specs.Fitting.{FitsTogether, IsBookOf}
+use Rattle.witness_book_laws.specs.Fitting.{FitsTogether, IsOfMember, IsBookOf}
 use Rattle.witness_book_laws.specs.Laws.{GoesOn}
 use Rattle.witness_book_laws.specs.LookUps.{HasOneHash}
 use Rattle.witness_book_laws.specs.Together.{book_at, with_book_at, FitEach, AreKept}
@@ -56,36 +56,39 @@ with_same (m ∷ ms) node new (b ∷ books) = by (m.node == node) (with_same ms 
     by true rest = refl
     by false rest = ap (λ l. parts_of b ∷ l) rest
 
--- the book of a number is of it, and fits together
-pub fit_at : (ms : List Member) (books : List Book) (node : ℕ) (b : Book) → FitEach ms books
-    → book_at ms books node ≡ Some b → (b.node ≡ node) × FitsTogether b
-fit_at [] books node b fit h = absurd (cc)
-fit_at (m ∷ ms) [] node b fit h = absurd fit
-fit_at (m ∷ ms) (c ∷ books) node b fit h = by (m.node == node) refl h (λ k. fit_at ms books node b fit.2 k)
+-- the book of a number is that of the member with the number, and fits together
+pub fit_at : (ms : List Member) (books : List Book) (node : ℕ) (n : Member) (b : Book) → FitEach ms books
+    → member_of ms node ≡ Some n → book_at ms books node ≡ Some b → IsOfMember n b × FitsTogether b
+fit_at [] books node n b fit is h = absurd (cc)
+fit_at (m ∷ ms) [] node n b fit is h = absurd fit
+fit_at (m ∷ ms) (c ∷ books) node n b fit is h =
+    by (m.node == node) is h (λ j k. fit_at ms books node n b fit.2 j k)
   where
-    by : (x : Bool) → (m.node == node) ≡ x
+    by : (x : Bool) → ◌≡◌ {A = Option Member} (cond x (Some m) (member_of ms node)) (Some n)
         → ◌≡◌ {A = Option Book} (cond x (Some c) (book_at ms books node)) (Some b)
-        → (book_at ms books node ≡ Some b → (b.node ≡ node) × FitsTogether b)
-        → (b.node ≡ node) × FitsTogether b
-    by true e k rest =
+        → (member_of ms node ≡ Some n → book_at ms books node ≡ Some b → IsOfMember n b × FitsTogether b)
+        → IsOfMember n b × FitsTogether b
+    by true j k rest =
         let same : c ≡ b = same_Some _ _ k in (
-          sym (ap (λ (d : Book). d.node) same) ∙ (fit.0 ∙ eqb-true m.node node e),
+          subst (λ p. IsOfMember p b) (same_Some _ _ j) (subst (IsOfMember m) same fit.0),
           subst FitsTogether same fit.1,
         )
-    by false e k rest = rest k
+    by false j k rest = rest j k
 
--- with another of that number that fits, all fit
-fit_with : (ms : List Member) (node : ℕ) (new : Book) (books : List Book) → FitEach ms books
-    → new.node ≡ node → FitsTogether new → FitEach ms (with_book_at ms node new books)
-fit_with [] node new books fit same fits = fit
-fit_with (m ∷ ms) node new [] fit same fits = absurd fit
-fit_with (m ∷ ms) node new (b ∷ books) fit same fits =
-    by (m.node == node) refl (fit_with ms node new books fit.2 same fits)
+-- with another of that member that fits, all fit
+fit_with : (ms : List Member) (node : ℕ) (n : Member) (new : Book) (books : List Book) → FitEach ms books
+    → member_of ms node ≡ Some n → IsOfMember n new → FitsTogether new
+    → FitEach ms (with_book_at ms node new books)
+fit_with [] node n new books fit is same fits = fit
+fit_with (m ∷ ms) node n new [] fit is same fits = absurd fit
+fit_with (m ∷ ms) node n new (b ∷ books) fit is same fits =
+    by (m.node == node) is (λ j. fit_with ms node n new books fit.2 j same fits)
   where
-    by : (x : Bool) → (m.node == node) ≡ x → FitEach ms (with_book_at ms node new books)
+    by : (x : Bool) → ◌≡◌ {A = Option Member} (cond x (Some m) (member_of ms node)) (Some n)
+        → (member_of ms node ≡ Some n → FitEach ms (with_book_at ms node new books))
         → FitEach (m ∷ ms) (cond x (new ∷ books) (b ∷ with_book_at ms node new books))
-    by true e rest = (same ∙ sym (eqb-true m.node node e), fits, fit.2)
-    by false e rest = (fit.0, fit.1, rest)
+    by true j rest = (subst (λ p. IsOfMember p new) (sym (same_Some _ _ j)) same, fits, fit.2)
+    by false j rest = (fit.0, fit.1, rest j)
 
 -- ---- all of them
 
@@ -98,17 +101,17 @@ module _ (w : Watched) (books : List Book) (b : Book) (event : Event) (step : St
   pub is : IsInRoster w
   is = of_member w.roster event (record { member = w.member; step = step }) told
 
-  -- the member's book is of its number, and fits together
-  pub its : (b.node ≡ w.member.node) × FitsTogether b
-  its = fit_at w.roster books w.member.node b kept.fit there
+  -- the member's book is of it, and fits together
+  pub its : IsOfMember w.member b × FitsTogether b
+  its = fit_at w.roster books w.member.node w.member b kept.fit is there
 
   its_parts : book_in w.roster (map parts_of books) w.member.node ≡ Some (parts_of b)
   its_parts = in_same w.roster books w.member.node ∙ ap (option_map parts_of) there
 
   one_steps : BookStepsTo w (parts_of b) step reply (parts_of (book_after b step reply))
   one_steps history h stands =
-      any_stands w history b is h its.1 (record { node = its.0; stands = stands }) event step reply e told
-      owes
+      any_stands w history b is h its.1 (record { of_member = its.0; stands = stands }) event step reply e
+      told owes
 
   -- the step is one of all books
   pub all_step : StepsTo w.roster (map parts_of books) event reply
@@ -122,7 +125,7 @@ module _ (w : Watched) (books : List Book) (b : Book) (event : Event) (step : St
   -- the member's book is that of its own steps
   pub its_book : IsBookOf w (own_of w kept.are.history) b
   its_book = record {
-    node = its.0;
+    of_member = its.0;
     stands = found_stands w kept.are.history (map parts_of books) (parts_of b) is kept.are.stands
         its_parts;
   }
@@ -134,7 +137,8 @@ module _ (w : Watched) (books : List Book) (b : Book) (event : Event) (step : St
   pub all_kept : AreKept w.roster (with_book_at w.roster w.member.node (book_after b step reply) books)
   all_kept = record {
     fit =
-        fit_with w.roster w.member.node (book_after b step reply) books kept.fit goes_on.of.node goes_on.fits;
+        fit_with w.roster w.member.node w.member (book_after b step reply) books kept.fit is
+        goes_on.of.of_member goes_on.fits;
     are = books_after w.roster (map parts_of books)
         (map parts_of
         (with_book_at w.roster w.member.node (book_after b step reply) books)) event reply kept.are all_step;
@@ -144,7 +148,8 @@ module _ (w : Watched) (books : List Book) (b : Book) (event : Event) (step : St
 
 fit_first : (ms : List Member) → FitEach ms (map book_opening ms)
 fit_first [] = tt
-fit_first (m ∷ ms) = (refl, (at_first (watched [] m)).fits, fit_first ms)
+fit_first (m ∷ ms) =
+    (record { node = refl; version = refl }, (at_first (watched [] m)).fits, fit_first ms)
 
 stand_first : (ms members : List Member) → StandEach ms [] members (map parts_of (map book_opening members))
 stand_first ms [] = tt
@@ -164,12 +169,12 @@ pub kept_one_hash : (w : Watched) (books : List Book) (b : Book) → AreKept w.r
     → IsInRoster w → book_at w.roster books w.member.node ≡ Some b → HasOneHash b
 kept_one_hash w books b kept is there =
     let history = kept.are.history in
-    let its = fit_at w.roster books w.member.node b kept.fit there in
+    let its = fit_at w.roster books w.member.node w.member b kept.fit is there in
     let parts : book_in w.roster (map parts_of books) w.member.node ≡ Some (parts_of b) =
     in_same w.roster books w.member.node ∙ ap (option_map parts_of) there in
     one_hash w (own_of w history) b
     (record {
-      node = its.0;
+      of_member = its.0;
       stands = found_stands w history (map parts_of books) (parts_of b) is kept.are.stands parts;
     })
     (exposed_or_not w history is kept.are.is)

@@ -2,7 +2,7 @@
 -- Serves: books_go_on.
 use Rattle.std.proofs.Common.{◌≡◌, ◌↔◌, inl, List, ◌∷◌, filter, flat_map, Ok}
 use Rattle.std.proofs.Common.{sym, ap₂, subst, ◌∙◌}
-use Rattle.secure_log.specs.Segment.{SegmentParts}
+use Rattle.secure_log.specs.Versioned.{VersionedParts}
 use Rattle.witness_laws.specs.witness_spec.Events.{Event, IsEvent}
 use Rattle.witness_laws.specs.witness_spec.Replies.{Reply}
 use Rattle.witness_laws.specs.witness_spec.Watched.{Watched, IsInRoster}
@@ -30,7 +30,7 @@ same_audited : (b c : Book) → FitsTogether b → FitsTogether c → HoldSame b
 same_audited b c f g same end =
     let t = tiled b f.tiles in
     let u = tiled c g.tiles in
-    ap₂ (λ (e : End) (ss : List SegmentParts). flat_map (λ (s : SegmentParts). s.entries)
+    ap₂ (λ (e : End) (ss : List VersionedParts). flat_map (λ (s : VersionedParts). s.entries)
     (filter (λ s. is_audited e.number s) ss)) end
     (tiles_same 1 b.segments c.segments t.next u.next t.tile u.tile same)
 
@@ -88,7 +88,7 @@ module _ (w : Watched) (history : History) (b : Book) (is : IsInRoster w)
 
       next : Known w ((step, reply) ∷ own_of w history) (book_after b step reply)
       next =
-          known_on w (own_of w history) b any_known step reply owed
+          known_on w (own_of w history) b any_known step reply is owed
           (checked_event w.roster (record { member = w.member; step = step }) event told e)
           (done_event (record { member = w.member; step = step }) w.roster event told e)
           (subst (Exposure w) steps (exposed_or_not w ((event, reply) ∷ history) is longer))

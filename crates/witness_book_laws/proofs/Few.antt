@@ -8,14 +8,16 @@ use Rattle.authenticator.specs.declared.authenticator.Authenticator.{Authenticat
 use Rattle.authenticator.specs.declared.member.Kind.{Kind}
 use Rattle.authenticator.specs.declared.member.Kind.TheVariants as kinds
 use Rattle.authenticator.specs.declared.member.Member.{Member}
-use Rattle.secure_log.specs.Segment.{SegmentParts}
-use Rattle.secure_log.specs.LogEntries.Chain.{IsAmong}
+use Rattle.authenticator.specs.Numbers.{word_of}
+use Rattle.secure_log.specs.Versioned.{VersionedParts}
+use Rattle.secure_log.specs.LogEntries.Chain.{IsAmong, span}
 use Rattle.witness_laws.specs.state_spec.State.{State, received_cmp, SentMessage}
 use Rattle.replay_spec.specs.Opening.{opening_by}
-use Rattle.replay_spec.specs.Placed.{placed_in}
+use Rattle.replay_spec.specs.Placed.{Placed, place, places_in}
+use Rattle.replay_spec.specs.Steps.{Takes}
 use Rattle.replay_spec.specs.Stepping.{is_send}
 use Rattle.replay_spec.specs.LogLaws.LoggedMessages.{is_recv}
-use Rattle.replay_spec.specs.Replay.{Verdict, Sound, Fault, segment_verdict}
+use Rattle.replay_spec.specs.Replay.{Honest, last_state, Verdict, Sound, Fault, verdict_of}
 use Rattle.replay_spec.proofs.Runs.{is_sound}
 use Rattle.replay_spec.proofs.OfLogLaws.Counts.{counted_on}
 use Rattle.witness_laws.specs.witness_spec.Refusals.{NoJob, WrongJob}
@@ -25,6 +27,7 @@ use Rattle.witness_laws.specs.witness_spec.Replies.{Returned, Forwarded, FileRef
 use Rattle.witness_laws.specs.witness_spec.Steps.{Step, Learn, SendChallenge, Answer, AckIn, Audit, Begin}
 use Rattle.witness_laws.specs.witness_spec.Steps.{File, PutBack}
 use Rattle.witness_laws.specs.witness_spec.Steps.{Forward, Ask}
+use Rattle.witness_laws.specs.witness_spec.Pairs.{last_of}
 use Rattle.witness_laws.specs.witness_spec.Standing.{End}
 use Rattle.witness_book_laws.specs.Books.{Book, book_opening, exposed, job_out}
 use Rattle.witness_book_laws.specs.Replying.{BookOwes}
@@ -32,6 +35,8 @@ use Rattle.witness_book_laws.specs.Going.{book_after, having_filed}
 use Rattle.witness_book_laws.specs.Fitting.{FitsTogether, IsOne, IsMore}
 use Rattle.witness_book_laws.specs.Ready.{KnowsFew}
 use Rattle.witness_laws.proofs.OfEvidence.Before.{on_right}
+use Rattle.witness_laws.proofs.OfEvidence.Marks.{few_spans}
+use Rattle.witness_book_laws.proofs.Limits.{as_many_placed}
 use Rattle.witness_book_laws.proofs.Steps.{IsDoneStep, IsOutOf, out_of, returned_is}
 
 -- ---- what a replay takes in
@@ -49,29 +54,48 @@ count_most p (x ∷ xs) =
     let rest = count_most p xs in
     omega (arith, sum, one, rest)
 
--- at most one message of either kind for each entry
-record TakesIn (s : State) (g : SegmentParts) (t : State) : Type 0 where
+-- at most so many messages of either kind are more after others
+record TakesIn (s : State) (count : ℕ) (t : State) : Type 0 where
   -- messages received
-  received : finite.len t.received ≤ finite.len s.received + length g.entries
+  received : finite.len t.received ≤ finite.len s.received + count
   -- messages sent
-  sends : finite.len t.sends ≤ finite.len s.sends + length g.entries
+  sends : finite.len t.sends ≤ finite.len s.sends + count
 
--- a replay that is sound takes in so many
-takes_in : (ms : List Member) (s : State) (g : SegmentParts) (t : State) (shown : List Authenticator)
-    → segment_verdict ms s g ≡ Sound t shown → TakesIn s g t
-takes_in ms s g t shown is =
-    let r = is_sound ms s (placed_in g) t shown is in
-    let counts = counted_on ms s g.first g.opening g.entries r.states r.honest in
+-- an entry brings one at most, whatever its place
+takes_one : (ms : List Member) (s t : State) (p : Placed) → Takes ms s p t → TakesIn s 1 t
+takes_one ms s t p takes =
+    let own = word_of p.skipped p.number in
+    let here : Takes ms s (place own p.before p.entry) t =
+    record { stands = takes.stands; after = takes.after } in
+    let counts = counted_on ms s own p.before (p.entry ∷ []) (t ∷ []) (here, tt) in
     let received = counts.received in
     let sends = counts.sends in
-    let recvs = count_most is_recv g.entries in
-    let sent = count_most is_send g.entries in
+    let recvs = count_most is_recv (p.entry ∷ []) in
+    let sent = count_most is_send (p.entry ∷ []) in
+    record { received = omega (arith, received, recvs); sends = omega (arith, sends, sent) }
+
+-- honest entries bring one each at most
+takes_each : (ms : List Member) (s : State) (ps : List Placed) (ts : List State) → Honest ms s ps ts
+    → TakesIn s (length ps) (last_state s ts)
+takes_each ms s [] [] h = record { received = omega arith; sends = omega arith }
+takes_each ms s [] (t ∷ ts) h = absurd h
+takes_each ms s (p ∷ ps) [] h = absurd h
+takes_each ms s (p ∷ ps) (t ∷ ts) h =
+    let one = takes_one ms s t p h.0 in
+    let rest = takes_each ms t ps ts h.1 in
     record {
-      received = subst (λ (u : State). finite.len u.received ≤ finite.len s.received + length g.entries)
-          r.last (omega (arith, received, recvs));
-      sends = subst (λ (u : State). finite.len u.sends ≤ finite.len s.sends + length g.entries)
-          r.last (omega (arith, sends, sent));
+      received = omega (arith, one.received, rest.received);
+      sends = omega (arith, one.sends, rest.sends);
     }
+
+-- a replay that is sound takes in one for each entry at most
+takes_in : (ms : List Member) (s : State) (g : VersionedParts) (t : State) (shown : List Authenticator)
+    → verdict_of ms s (places_in g) ≡ Sound t shown → TakesIn s (length g.entries) t
+takes_in ms s g t shown is =
+    let r = is_sound ms s (places_in g) t shown is in
+    let each = takes_each ms s (places_in g) r.states r.honest in
+    subst (λ n. TakesIn s n t) (as_many_placed g.first g.opening g.entries)
+    (subst (TakesIn s (length (places_in g))) r.last each)
 
 -- ---- each step
 
@@ -83,26 +107,27 @@ module _ (b : Book) (few : KnowsFew b) where
     sends = subst (λ (e : End). finite.len e.state.sends ≤ e.number) (sym same) few.sends;
   }
 
-  -- the end's number is greater by the entries of the segment that was filed
-  filed_few : (ms : List Member) (s : State) (g : SegmentParts) (v : Verdict) → s ≡ b.end.state
-      → segment_verdict ms s g ≡ v → g.closing.word ≡ b.end.number + length g.entries
+  -- the end's number is greater by the numbers that the entries of the segment that was filed take up
+  filed_few : (ms : List Member) (s : State) (g : VersionedParts) (v : Verdict) → s ≡ b.end.state
+      → verdict_of ms s (places_in g) ≡ v → last_of g ≡ b.end.number + span g.entries
       → KnowsFew (having_filed b g v)
   filed_few ms s g (Fault fault number) state is last = same_end (having_filed b g (Fault fault number)) refl
   filed_few ms s g (Sound t shown) state is last =
-      let more : TakesIn b.end.state g t =
-      subst (λ u. TakesIn u g t) state (takes_in ms s g t shown is) in
+      let more : TakesIn b.end.state (length g.entries) t =
+      subst (λ u. TakesIn u (length g.entries) t) state (takes_in ms s g t shown is) in
       let received = more.received in
       let sends = more.sends in
       let before = few.received in
       let sent = few.sends in
+      let count = few_spans g.entries in
       record {
-        received = omega (arith, received, before, last);
-        sends = omega (arith, sends, sent, last);
+        received = omega (arith, received, before, last, count);
+        sends = omega (arith, sends, sent, last, count);
       }
 
-  -- the segment that is out ends so many entries above the end
+  -- the segment that is out ends so many numbers above the end
   last_out : (j : JobParts) → FitsTogether b → IsOutOf b j
-      → j.segment.segment.closing.word ≡ b.end.number + length j.segment.segment.entries
+      → last_of j.segment.segment ≡ b.end.number + span j.segment.segment.entries
   last_out j fits out =
       let one : IsOne b.end.number j.segment.segment fits.tiles.more =
       subst (λ s. IsMore b.end.number (exposed b) s fits.tiles.more) out.at fits.tiles.rest in

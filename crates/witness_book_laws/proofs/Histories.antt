@@ -9,13 +9,13 @@ use Rattle.std.proofs.lemmas.Bool.{and_parts, ltb-true, lt-ltb, true≢false}
 use Rattle.authenticator.specs.Roster.{member_of, member_values, rises_above}
 use Rattle.authenticator.specs.declared.member.Kind.{Kind}
 use Rattle.authenticator.specs.declared.member.Kind.TheVariants as kinds
+use Rattle.authenticator.specs.declared.member.LogVersion.{LogVersion}
 use Rattle.authenticator.specs.declared.member.Member.{Member}
 use Rattle.authenticator.specs.declared.refusal.Refusal as checks
 use Rattle.witness_laws.specs.packets.Packet.{Delivery}
 use Rattle.witness_laws.specs.packets.Packet as packets
 use Rattle.witness_laws.specs.packets.Judging.{judged}
 use Rattle.replay_spec.specs.Opening.{opening_by}
-use Rattle.replay_spec.specs.LogLaws.Laws.{SendsLieBelow}
 use Rattle.secure_log.specs.LogEntries.Chain.{IsAmong}
 use Rattle.witness_laws.specs.witness_spec.Refusals.{Refusal, BadSignature}
 use Rattle.witness_laws.specs.witness_spec.Events.{PublicKey, Event, IsEvent}
@@ -30,11 +30,12 @@ use Rattle.witness_laws.specs.witness_spec.Whose.{step_of, is_key_of, same_roste
 use Rattle.witness_laws.specs.witness_spec.Whose.{closed_step}
 use Rattle.witness_laws.specs.witness_spec.Whose.{delivered_step, judged_step, whose}
 use Rattle.witness_laws.specs.witness_spec.Histories.{History, own_step, own, IsHistory, AreOwed, own_of}
-use Rattle.witness_laws.proofs.OwnSteps.{of_learned, own_owed}
+use Rattle.witness_laws.proofs.OwnSteps.{own_owed}
 use Rattle.witness_laws.proofs.Checked.{AreChecked, own_checked}
 use Rattle.witness_laws.proofs.OfEvidence.Told.{Told, Without, With, told}
 use Rattle.witness_book_laws.specs.Books.{book_opening}
 use Rattle.witness_book_laws.specs.Going.{book_after_steps}
+use Rattle.witness_book_laws.specs.Fitting.{SendsLieBelowIn}
 use Rattle.witness_book_laws.proofs.Quiet.{Exposure, Hidden, Open}
 use Rattle.witness_book_laws.proofs.Known.{Known}
 use Rattle.witness_book_laws.proofs.Steps.{IsDoneStep, known_on}
@@ -82,7 +83,7 @@ module _ (o : OwnStep) where
 
   by_delivery : (ms : List Member) (d : Delivery) → delivered_step ms d ≡ Ok o → IsDoneStep o.step
   by_delivery ms (packets.Learn a) h =
-      by_step (member_of ms a.node) (Learn a) tt (of_learned (member_of ms a.node) _ o h)
+      by_step (member_of ms a.node) (Learn a) tt h
   by_delivery ms (packets.SendChallenge e) h = by_step (member_of ms e.to) (SendChallenge e) tt h
   by_delivery ms (packets.Answer s) h =
       by_step (member_of ms s.closing.node) (Answer (record { segment = s; roster = ms })) tt h
@@ -97,7 +98,7 @@ module _ (o : OwnStep) where
   pub done_event : (ms : List Member) (e : Event) → whose ms e ≡ Ok o → IsEvent e → IsDoneStep o.step
   done_event ms (events.Deliver bytes) h is = by_judged ms (judged ms bytes) h
   done_event ms (events.Learn a key) h is =
-      by_signed (member_of ms a.node) key (Learn a) tt (of_learned (member_of ms a.node) _ o h)
+      by_signed (member_of ms a.node) key (Learn a) tt h
   done_event ms (events.SendChallenge e key) h is =
       by_sent (member_of ms e.from) (member_of ms e.to) key (SendChallenge e) tt h
   done_event ms (events.Answer c) h is =
@@ -135,15 +136,15 @@ exposure_of : (w : Watched) (past : Past) → Told w past → Exposure w past
 exposure_of w past (Without none is audited) = Hidden none is
 exposure_of w past (With g some is good) = Open (record { node = w.member.node; charge = g }) some is
 
-no_sends : (kind : Kind) (node : ℕ) → SendsLieBelow (opening_by kind node) 1
-no_sends kinds.Server node = λ k h. absurd (true≢false (sym h ∙ ap is_some (finite.get-empty nat_cmp k)))
-no_sends kinds.Client node = λ k h. absurd (true≢false (sym h ∙ ap is_some (finite.get-empty nat_cmp k)))
+no_sends : (v : LogVersion) (kind : Kind) (node : ℕ) → SendsLieBelowIn v (opening_by kind node) 1
+no_sends v kinds.Server node = λ k h. absurd (true≢false (sym h ∙ ap is_some (finite.get-empty nat_cmp k)))
+no_sends v kinds.Client node = λ k h. absurd (true≢false (sym h ∙ ap is_some (finite.get-empty nat_cmp k)))
 
 -- at first the member's opening book is known
 pub at_first : (w : Watched) → Known w [] (book_opening w.member)
 at_first w = record {
   of = record {
-    node = refl;
+    of_member = record { node = refl; version = refl };
     stands = record {
       end = refl;
       stage = refl;
@@ -160,9 +161,10 @@ at_first w = record {
     above = λ a i. absurd i;
     differ = tt;
     whole = λ s i. absurd i;
+    version = λ s i. absurd i;
     tiles = record { audited = []; more = []; are = refl; tile = refl; rest = inl refl };
     agrees = tt;
-    sends = no_sends w.member.kind w.member.node;
+    sends = no_sends w.member.log_version w.member.kind w.member.node;
   };
   kept_differ = tt;
   exposure = Hidden refl refl;
@@ -176,8 +178,8 @@ pub known : (w : Watched) (past : Past) → IsInRoster w → AreOwed w past
     → AreChecked w past → AreDone past → Known w past (book_after_steps w.member past)
 known w [] is owed checked done = at_first w
 known w (p ∷ past) is owed checked done =
-    known_on w past (book_after_steps w.member past) (known w past is owed.1 checked.1 done.1) p.0 p.1 owed.0
-    checked.0 done.0 (exposure_of w (p ∷ past) (told w (p ∷ past) is owed checked))
+    known_on w past (book_after_steps w.member past) (known w past is owed.1 checked.1 done.1) p.0 p.1 is
+    owed.0 checked.0 done.0 (exposure_of w (p ∷ past) (told w (p ∷ past) is owed checked))
 
 -- whether a member is exposed after a history
 pub exposed_or_not : (w : Watched) (history : History) → IsInRoster w

@@ -1,13 +1,12 @@
 -- A book that is known to be that of a member's own steps: its forks are those that are owed.
 -- Serves: all laws here.
 use Rattle.std.proofs.Common.{◌↔◌, ◌≡◌, ℕ, ◌≤◌, true, cond, ◌==◌, ◌&&◌, nat_le, List, []}
-use Rattle.std.proofs.Common.{◌∷◌, find, length, Option, Some, None, refl, sym, ap, ap₂, ◌∙◌, eqb-true}
+use Rattle.std.proofs.Common.{◌∷◌, find, length, Option, Some, None, refl, sym, ap, ap₂, subst, ◌∙◌, eqb-true}
 use Rattle.std.specs.Prelude.{is_some, option_map, option_and_then}
 use Rattle.std.proofs.lemmas.Bool.{and_parts, leb-true}
-use Rattle.authenticator.specs.declared.authenticator.Authenticator.{Authenticator}
 use Rattle.authenticator.specs.declared.member.Member.{Member}
-use Rattle.authenticator.specs.declared.member.LogVersion.TheVariants.{One}
-use Rattle.secure_log.specs.Segment.{SegmentParts}
+use Rattle.authenticator.specs.declared.member.LogVersion.{LogVersion}
+use Rattle.secure_log.specs.Versioned.{VersionedParts}
 use Rattle.witness_laws.specs.evidence_spec.Showing.{ShowingParts}
 use Rattle.witness_laws.specs.evidence_spec.Evidence.{Charge, Fork, EvidenceParts}
 use Rattle.witness_laws.specs.witness_spec.Replies.{Reply}
@@ -16,7 +15,7 @@ use Rattle.witness_laws.specs.witness_spec.Steps.{Step, Past}
 use Rattle.witness_laws.specs.witness_spec.Owing.{Owes}
 use Rattle.witness_book_laws.specs.Replying.{BookOwes}
 use Rattle.witness_book_laws.proofs.Replies.{owes_same}
-use Rattle.witness_laws.specs.witness_spec.Pairs.{Pair, differ, first_fork}
+use Rattle.witness_laws.specs.witness_spec.Pairs.{Pair, number_of, differ, first_fork, last_of}
 use Rattle.witness_laws.specs.witness_spec.Standing.{shown, is_exposed, kept, all_accepted, Stage, NoAudit}
 use Rattle.witness_laws.specs.witness_spec.Standing.{Wanted, Given}
 use Rattle.witness_laws.specs.witness_spec.Standing.{Out}
@@ -45,7 +44,7 @@ pub record Known (w : Watched) (past : Past) (b : Book) : Type 0 where
   -- its parts fit together
   pub fits : FitsTogether b
   -- the numbers of what the steps keep differ
-  pub kept_differ : NumbersDiffer (kept w past)
+  pub kept_differ : NumbersDiffer w.member.log_version (kept w past)
   -- the node is exposed where there is evidence
   pub exposure : Exposure w past
   -- its audited segments have the audited entries
@@ -82,34 +81,47 @@ module _ (w : Watched) (past : Past) (b : Book) where
   first_forks (p ∷ new) xs ys same =
       ap₂ (λ x r. cond x (Some p.0) r) (any_same (λ q. differ p q) xs ys same) (first_forks new xs ys same)
 
+  -- the numbers of what is learned differ, by the member's version too
+  differ_as_member : IsBookOf w past b → FitsTogether b → NumbersDiffer w.member.log_version b.learned
+  differ_as_member of fits = subst (λ v. NumbersDiffer v b.learned) of.of_member.version fits.differ
+
   found_learned : IsBookOf w past b → FitsTogether b → (n : ℕ)
-      → find (λ (a : Authenticator). a.word == n) b.learned ≡ find (λ a. a.word == n) (kept w past)
+      → find (λ a. number_of w.member.log_version a == n) b.learned
+      ≡ find (λ a. number_of w.member.log_version a == n) (kept w past)
   found_learned of fits n =
-      find_same (λ (a : Authenticator). a.word == n) b.learned (kept w past) of.stands.learned
-      (λ x y i j e f. differ_one b.learned x y fits.differ i j
-      (eqb-true x.word n e ∙ sym (eqb-true y.word n f)))
+      find_same (λ a. number_of w.member.log_version a == n) b.learned (kept w past) of.stands.learned
+      (λ x y i j e f. differ_one w.member.log_version b.learned x y (differ_as_member of fits) i j
+      (eqb-true (number_of w.member.log_version x) n e
+      ∙ sym (eqb-true (number_of w.member.log_version y) n f)))
 
   found_segment : IsBookOf w past b → FitsTogether b → (n : ℕ)
       → segment_holding n b.segments ≡ segment_holding n (all_accepted past)
   found_segment of fits n =
       let t = tiled b fits.tiles in
-      find_same (λ (s : SegmentParts). nat_le s.first n && nat_le n s.closing.word) b.segments
+      find_same (λ (s : VersionedParts). nat_le s.first n && nat_le n (last_of s)) b.segments
       (all_accepted past)
       of.stands.segments
       (λ x y i j e f. tile_one 1 b.segments t.next n t.tile x y i j (bounds x e) (bounds y f))
     where
-      bounds : (s : SegmentParts) → (nat_le s.first n && nat_le n s.closing.word) ≡ true
-          → (s.first ≤ n) × (n ≤ s.closing.word)
+      bounds : (s : VersionedParts) → (nat_le s.first n && nat_le n (last_of s)) ≡ true
+          → (s.first ≤ n) × (n ≤ last_of s)
       bounds s e =
-          let both = and_parts (nat_le s.first n) (nat_le n s.closing.word) e in
-          (leb-true s.first n both.0, leb-true n s.closing.word both.1)
+          let both = and_parts (nat_le s.first n) (nat_le n (last_of s)) e in
+          (leb-true s.first n both.0, leb-true n (last_of s) both.1)
+
+  -- the fork of a new showing with an old one, if there is one, at a number
+  abbrev made : LogVersion → ShowingParts → ℕ → Option ShowingParts → Option Charge
+  made v new n old =
+      cond (n == 0) (Some (Fork (record { log_version = v; at = 0; a = new; b = None })))
+      (option_map (λ o. Fork (record { log_version = v; at = n; a = o; b = Some new })) old)
 
   forks_same : IsBookOf w past b → FitsTogether b → (new : ShowingParts) (n : ℕ)
-      → fork_of b.learned b.segments new n ≡ fork_of (kept w past) (all_accepted past) new n
+      → fork_of b.log_version b.learned b.segments new n
+      ≡ fork_of w.member.log_version (kept w past) (all_accepted past) new n
   forks_same of fits new n =
-      ap (λ o. cond (n == 0) (Some (Fork (record { log_version = One; at = 0; a = new; b = None })))
-      (option_map (λ old. Fork (record { log_version = One; at = n; a = old; b = Some new })) o))
-      (ap₂ (λ a s. or_segment a s) (found_learned of fits n) (found_segment of fits n))
+      ap (λ v. fork_of v b.learned b.segments new n) of.of_member.version
+      ∙ ap (made w.member.log_version new n)
+      (ap₂ (λ a s. or_segment w.member.log_version a s) (found_learned of fits n) (found_segment of fits n))
 
   then_same : (f g : ℕ → Option Charge) → ((n : ℕ) → f n ≡ g n) → (o : Option ℕ)
       → option_and_then f o ≡ option_and_then g o
@@ -122,11 +134,13 @@ module _ (w : Watched) (past : Past) (b : Book) where
       ≡ option_map (λ g. record { node = w.member.node; charge = g }) (new_fork w past new ps)
   fork_same of fits new ps =
       ap (λ n. option_map (λ (g : Charge). charged n g)
-      (option_and_then (fork_of b.learned b.segments new) (first_fork ps (book_shown b)))) of.node
+      (option_and_then (fork_of b.log_version b.learned b.segments new) (first_fork ps (book_shown b))))
+      of.of_member.node
       ∙ ap (option_map (λ (g : Charge). charged w.member.node g))
-      (ap (option_and_then (fork_of b.learned b.segments new))
+      (ap (option_and_then (fork_of b.log_version b.learned b.segments new))
       (first_forks ps (book_shown b) (shown w past) of.stands.pairs)
-      ∙ then_same (fork_of b.learned b.segments new) (fork_of (kept w past) (all_accepted past) new)
+      ∙ then_same (fork_of b.log_version b.learned b.segments new)
+      (fork_of w.member.log_version (kept w past) (all_accepted past) new)
       (forks_same of fits new) (first_fork ps (shown w past)))
 
 -- What is known of a book tells what it owes: what is owed after the steps.
@@ -134,4 +148,5 @@ pub owes_known : (w : Watched) (past : Past) (b : Book) → Known w past b → (
     (reply : Reply) → Owes w past step reply ↔ BookOwes b step reply
 owes_known w past b k step reply =
     owes_same w past b k.of (exposed_same w past b k.of k.exposure)
-    (as_many b.learned (kept w past) k.fits.differ k.kept_differ k.of.stands.learned) step reply
+    (as_many w.member.log_version b.learned (kept w past) (differ_as_member w past b k.of k.fits)
+    k.kept_differ k.of.stands.learned) step reply

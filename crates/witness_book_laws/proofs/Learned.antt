@@ -4,25 +4,25 @@ use Rattle.std.proofs.Common.{◌==◌, eq-eqb, ◌≡◌, ◌≢◌, ◌⊎◌,
 use Rattle.std.proofs.Common.{cond, nat_lt}
 use Rattle.std.proofs.Common.{List, [], ◌∷◌, ◌++◌, filter, length, append-nil, Option, Some, None, refl, sym}
 use Rattle.std.proofs.Common.{ap, ap₂, subst, ◌∙◌, arith}
-use Rattle.std.specs.Prelude.{is_some}
+use Rattle.std.specs.Prelude.{is_some, option_map}
 use Rattle.std.proofs.lemmas.Bool.{and_from, true≢false, ltb-true, ltb-false, lt-ltb}
 use Rattle.authenticator.specs.declared.authenticator.Authenticator.{Authenticator}
-use Rattle.authenticator.specs.declared.member.LogVersion.TheVariants.{One}
+use Rattle.authenticator.specs.declared.member.LogVersion.{LogVersion}
 use Rattle.authenticator.specs.Signing.{is_same}
 use Rattle.authenticator.proofs.Signed.{list_same}
-use Rattle.secure_log.specs.Segment.{segment_pairs}
 use Rattle.secure_log.specs.LogEntries.Chain.{IsAmong}
-use Rattle.witness_laws.specs.evidence_spec.Showing.{authenticator_showing}
+use Rattle.witness_laws.specs.evidence_spec.Showing.{ShowingParts, authenticator_showing}
 use Rattle.witness_laws.specs.evidence_spec.Evidence.{EvidenceParts}
 use Rattle.witness_laws.specs.witness_spec.Replies.{Noted}
 use Rattle.witness_laws.specs.witness_spec.Watched.{Watched}
 use Rattle.witness_laws.specs.witness_spec.Steps.{Learn, Past}
-use Rattle.witness_laws.specs.witness_spec.Pairs.{pair_of, first_pair, same_pair, is_shown}
+use Rattle.witness_laws.specs.witness_spec.Pairs.{Pair, number_of, pair_of, first_pair, same_pair, is_shown}
+use Rattle.witness_laws.specs.witness_spec.Pairs.{last_of, marks_of}
 use Rattle.witness_laws.specs.witness_spec.Standing.{End, end_of, pairs_noted, shown, is_exposed}
 use Rattle.witness_laws.specs.witness_spec.Standing.{unless_exposed}
 use Rattle.witness_laws.specs.witness_spec.Standing.{noted_before, kept}
 use Rattle.witness_laws.specs.witness_spec.Standing.{Stage, NoAudit, Wanted, Given, Out, audited, forwards}
-use Rattle.witness_laws.specs.witness_spec.Exposing.{evidence}
+use Rattle.witness_laws.specs.witness_spec.Exposing.{new_fork, evidence}
 use Rattle.witness_laws.specs.witness_spec.Histories.{HoldSame}
 use Rattle.witness_book_laws.specs.Books.{Book, exposed, book_shown}
 use Rattle.witness_book_laws.specs.Going.{first_evidence, learned_unless, fork_evidence, evidence_noted}
@@ -36,7 +36,7 @@ use Rattle.witness_book_laws.proofs.Kept.{all_by}
 use Rattle.witness_book_laws.proofs.Kept.{differ_more, showing_of, Learned, Segment}
 use Rattle.witness_book_laws.proofs.Kept.{shows, fork_shows, same_after, same_through, add_learned}
 use Rattle.witness_book_laws.proofs.Kept.{add_exposing}
-use Rattle.witness_book_laws.proofs.Segments.{hash_at, held, more_exposed}
+use Rattle.witness_book_laws.proofs.Segments.{mark_at, held, more_exposed}
 use Rattle.witness_book_laws.proofs.Quiet.{Exposure, Hidden, Open, unsent, found_stays}
 use Rattle.witness_book_laws.proofs.Known.{Known, first_same, fork_same}
 
@@ -45,41 +45,47 @@ use Rattle.witness_book_laws.proofs.Known.{Known, first_same, fork_same}
 -- it wasn't shown, and no other hash was at its number
 pub record IsNew (b : Book) (a : Authenticator) : Type 0 where
   -- it wasn't shown
-  pub new : IsAmong (pair_of a) (book_shown b) → ⊥
+  pub new : IsAmong (pair_of b.log_version a) (book_shown b) → ⊥
   -- a hash that was shown at its number is its own
-  pub one : (x : List ℕ) → IsAmong (a.word, x) (book_shown b) → x ≡ a.hash
+  pub one : (x : List ℕ) → IsAmong (number_of b.log_version a, x) (book_shown b) → x ≡ a.hash
 
 module _ (b : Book) (a : Authenticator) (fits : FitsTogether b) (is : IsNew b a) where
+  -- its number
+  abbrev number : ℕ
+  number = number_of b.log_version a
+
   -- no pair was shown at its number
-  none_there : (x : List ℕ) → IsAmong (a.word, x) (book_shown b) → ⊥
+  none_there : (x : List ℕ) → IsAmong (number, x) (book_shown b) → ⊥
   none_there x i =
-      is.new (subst (λ y. IsAmong (a.word, y) (book_shown b)) (is.one x i) i)
+      is.new (subst (λ y. IsAmong (number, y) (book_shown b)) (is.one x i) i)
 
   -- so it lies above the end
-  pub new_above : b.end.number < a.word
-  new_above = by (nat_lt b.end.number a.word) refl (nat_lt 0 a.word) refl
+  pub new_above : b.end.number < number
+  new_above = by (nat_lt b.end.number number) refl (nat_lt 0 number) refl
     where
-      at_zero : a.word ≡ 0 → ⊥
+      at_zero : number ≡ 0 → ⊥
       at_zero e =
           none_there first_pair.1 (inl (ap (λ (n : ℕ). (n, first_pair.1)) e))
 
-      low : a.word ≤ b.end.number → 0 < a.word → ⊥
+      low : number ≤ b.end.number → 0 < number → ⊥
       low le some =
-          let h = held b a.word fits.tiles (omega (arith, some)) le in
+          let h = held b number fits.tiles (omega (arith, some)) le in
           let w = fits.whole h.segment h.among in
-          let p = hash_at h.segment a.word w (omega (arith, h.from)) h.to in
-          none_there p.hash
-          (shows b.evidence b.learned b.segments (a.word, p.hash) (Segment h.segment h.among p.there))
+          let p = mark_at h.segment number w (omega (arith, h.from)) h.to in
+          none_there p.mark
+          (shows b.log_version b.evidence b.learned b.segments (number, p.mark)
+          (Segment h.segment h.among p.there))
 
-      by : (x : Bool) → nat_lt b.end.number a.word ≡ x → (y : Bool) → nat_lt 0 a.word ≡ y
-          → b.end.number < a.word
-      by true e y f = ltb-true b.end.number a.word e
+      by : (x : Bool) → nat_lt b.end.number number ≡ x → (y : Bool) → nat_lt 0 number ≡ y
+          → b.end.number < number
+      by true e y f = ltb-true b.end.number number e
       by false e true f =
-          absurd (low (omega (arith, ltb-false b.end.number a.word e)) (ltb-true 0 a.word f))
-      by false e false f = absurd (at_zero (omega (arith, ltb-false 0 a.word f)))
+          absurd (low (omega (arith, ltb-false b.end.number number e)) (ltb-true 0 number f))
+      by false e false f = absurd (at_zero (omega (arith, ltb-false 0 number f)))
 
   -- it agrees with the segment that is out
-  new_agrees : (s : Stage) → s ≡ b.stage → AgreesAt s b.learned → AgreesAt s (b.learned ++ a ∷ [])
+  new_agrees : (s : Stage) → s ≡ b.stage → AgreesAt b.log_version s b.learned
+      → AgreesAt b.log_version s (b.learned ++ a ∷ [])
   new_agrees NoAudit e old = tt
   new_agrees (Wanted first last) e old = tt
   new_agrees (Given c) e old = tt
@@ -98,17 +104,19 @@ module _ (b : Book) (a : Authenticator) (fits : FitsTogether b) (is : IsNew b a)
             r.follows.first,
           )
 
-      by : (x : Authenticator) → x.word ≤ c.segment.closing.word
-          → IsAmong x b.learned ⊎ IsAmong x (a ∷ []) → IsAmong (pair_of x) (segment_pairs c.segment)
+      by : (x : Authenticator) → number_of b.log_version x ≤ last_of c.segment
+          → IsAmong x b.learned ⊎ IsAmong x (a ∷ [])
+          → IsAmong (pair_of b.log_version x) (marks_of c.segment)
       by x le (inl i) = old x i le
       by x le (inr (inr i)) = absurd i
       by x le (inr (inl same)) =
-          let number : x.word ≡ a.word = ap (λ (y : Authenticator). y.word) same in
-          let low : a.word ≤ c.segment.closing.word = omega (arith, le, number) in
-          let p = hash_at c.segment a.word (fits.whole c.segment there.0)
+          let is_number : number_of b.log_version x ≡ number = ap (number_of b.log_version) same in
+          let low : number ≤ last_of c.segment = omega (arith, le, is_number) in
+          let p = mark_at c.segment number (fits.whole c.segment there.0)
           (omega (arith, there.1, new_above)) low in
-          absurd (none_there p.hash
-          (shows b.evidence b.learned b.segments (a.word, p.hash) (Segment c.segment there.0 p.there)))
+          absurd (none_there p.mark
+          (shows b.log_version b.evidence b.learned b.segments (number, p.mark)
+          (Segment c.segment there.0 p.there)))
 
 -- ---- the parts after it
 
@@ -118,8 +126,9 @@ module _ (b : Book) (a : Authenticator) (fits : FitsTogether b) where
       → (exposed b ≡ true → is_some e ≡ true) → FitsTogether (record b { learned = l; evidence = e })
   fits_exposed l e same then = record {
     above = λ x i. fits.above x (subst (IsAmong x) same i);
-    differ = subst NumbersDiffer (sym same) fits.differ;
+    differ = subst (NumbersDiffer b.log_version) (sym same) fits.differ;
     whole = fits.whole;
+    version = fits.version;
     tiles = record {
       audited = fits.tiles.audited;
       more = fits.tiles.more;
@@ -127,7 +136,7 @@ module _ (b : Book) (a : Authenticator) (fits : FitsTogether b) where
       tile = fits.tiles.tile;
       rest = more_exposed b.end.number (exposed b) (is_some e) b.stage fits.tiles.more then fits.tiles.rest;
     };
-    agrees = subst (AgreesAt b.stage) (sym same) fits.agrees;
+    agrees = subst (AgreesAt b.log_version b.stage) (sym same) fits.agrees;
     sends = fits.sends;
   }
 
@@ -136,8 +145,10 @@ module _ (b : Book) (a : Authenticator) (fits : FitsTogether b) where
       → e ≡ b.evidence → IsNew b a → FitsTogether (record b { learned = l; evidence = e })
   fits_learned l e same none is = record {
     above = λ x i. above x (split x b.learned (a ∷ []) (subst (IsAmong x) same i));
-    differ = subst NumbersDiffer (sym same) (differ_more b.learned a fits.differ other);
+    differ = subst (NumbersDiffer b.log_version) (sym same)
+        (differ_more b.log_version b.learned a fits.differ other);
     whole = fits.whole;
+    version = fits.version;
     tiles = record {
       audited = fits.tiles.audited;
       more = fits.tiles.more;
@@ -145,32 +156,49 @@ module _ (b : Book) (a : Authenticator) (fits : FitsTogether b) where
       tile = fits.tiles.tile;
       rest = subst (λ o. IsMore b.end.number (is_some o) b.stage fits.tiles.more) (sym none) fits.tiles.rest;
     };
-    agrees = subst (AgreesAt b.stage) (sym same) (new_agrees b a fits is b.stage refl fits.agrees);
+    agrees = subst (AgreesAt b.log_version b.stage) (sym same)
+        (new_agrees b a fits is b.stage refl fits.agrees);
     sends = fits.sends;
   }
     where
-      above : (x : Authenticator) → IsAmong x b.learned ⊎ IsAmong x (a ∷ []) → b.end.number < x.word
+      above : (x : Authenticator) → IsAmong x b.learned ⊎ IsAmong x (a ∷ [])
+          → b.end.number < number_of b.log_version x
       above x (inl i) = fits.above x i
       above x (inr (inl e)) =
-          subst (λ (y : Authenticator). b.end.number < y.word) (sym e) (new_above b a fits is)
+          subst (λ y. b.end.number < number_of b.log_version y) (sym e) (new_above b a fits is)
       above x (inr (inr i)) = absurd i
 
-      other : (c : Authenticator) → IsAmong c b.learned → c.word ≢ a.word
+      other : (c : Authenticator) → IsAmong c b.learned
+          → number_of b.log_version c ≢ number_of b.log_version a
       other c i same =
           none_there b a fits is c.hash
           (subst (λ n. IsAmong (n, c.hash) (book_shown b)) same
-          (shows b.evidence b.learned b.segments (pair_of c) (Learned c i refl)))
+          (shows b.log_version b.evidence b.learned b.segments (pair_of b.log_version c) (Learned c i refl)))
 
 -- ---- what is known after it
 
 module _ (w : Watched) (past : Past) (b : Book) (a : Authenticator)
     (k : Known w past b) where
+  -- its pair
+  abbrev pair : Pair
+  pair = pair_of b.log_version a
+
+  -- what shows it
+  abbrev showing_it : ShowingParts
+  showing_it = authenticator_showing b.log_version a
+
+  -- the evidence that a fork of an authenticator of a log of a version is
+  abbrev fork_in : LogVersion → Option EvidenceParts
+  fork_in v =
+      option_map (λ g. record { node = w.member.node; charge = g })
+      (new_fork w past (authenticator_showing v a) (pair_of v a ∷ []))
+
   -- the evidence after it
   noted_evidence : evidence_noted b a ≡ evidence w ((Learn a, Noted) ∷ past)
   noted_evidence =
       first_same w past b k.of k.exposure
-      (fork_evidence b (authenticator_showing One a) (pair_of a ∷ []))
-      _ (fork_same w past b k.of k.fits (authenticator_showing One a) (pair_of a ∷ []))
+      (fork_evidence b showing_it (pair ∷ []))
+      _ (fork_same w past b k.of k.fits showing_it (pair ∷ []) ∙ ap fork_in k.of.of_member.version)
 
   abbrev l : List Authenticator
   l = learned_unless (evidence_noted b a) b.learned a
@@ -179,13 +207,13 @@ module _ (w : Watched) (past : Past) (b : Book) (a : Authenticator)
   after = record b { learned = l; evidence = evidence_noted b a }
 
   known_by : HoldSame l (kept w ((Learn a, Noted) ∷ past))
-      → NumbersDiffer (kept w ((Learn a, Noted) ∷ past))
+      → NumbersDiffer w.member.log_version (kept w ((Learn a, Noted) ∷ past))
       → HoldSame (book_shown after) (shown w ((Learn a, Noted) ∷ past))
       → FitsTogether after → Exposure w ((Learn a, Noted) ∷ past)
       → Known w ((Learn a, Noted) ∷ past) after
   known_by keeps differ showing fits x = record {
     of = record {
-      node = k.of.node;
+      of_member = record { node = k.of.of_member.node; version = k.of.of_member.version };
       stands = record {
         end = k.of.stands.end;
         stage = k.of.stands.stage;
@@ -210,17 +238,18 @@ module _ (w : Watched) (past : Past) (b : Book) (a : Authenticator)
   kept_exposed : is_exposed w ((Learn a, Noted) ∷ past) ≡ true
       → kept w ((Learn a, Noted) ∷ past) ≡ kept w past
   kept_exposed is =
-      ap (λ x. filter (λ (c : Authenticator). nat_lt (end_of w past).number c.word)
+      ap (λ x. filter (λ c. nat_lt (end_of w past).number (number_of w.member.log_version c))
       (unless_exposed x (Some a) ++ noted_before w past)) is
 
   -- where the node isn't exposed after it, it is kept
-  kept_hidden : is_exposed w ((Learn a, Noted) ∷ past) ≡ false → (end_of w past).number < a.word
+  kept_hidden : is_exposed w ((Learn a, Noted) ∷ past) ≡ false
+      → (end_of w past).number < number_of w.member.log_version a
       → kept w ((Learn a, Noted) ∷ past) ≡ a ∷ kept w past
   kept_hidden is above =
-      ap (λ x. filter (λ (c : Authenticator). nat_lt (end_of w past).number c.word)
+      ap (λ x. filter (λ c. nat_lt (end_of w past).number (number_of w.member.log_version c))
       (unless_exposed x (Some a) ++ noted_before w past)) is
       ∙ ap (λ x. cond x (a ∷ kept w past) (kept w past))
-      (lt-ltb (end_of w past).number a.word above)
+      (lt-ltb (end_of w past).number (number_of w.member.log_version a) above)
 
   keeps_old : l ≡ b.learned → is_exposed w ((Learn a, Noted) ∷ past) ≡ true
       → HoldSame l (kept w ((Learn a, Noted) ∷ past))
@@ -229,21 +258,24 @@ module _ (w : Watched) (past : Past) (b : Book) (a : Authenticator)
       (subst (HoldSame b.learned) (sym (kept_exposed is)) k.of.stands.learned)
 
   shown_by : (x : Bool) → is_exposed w past ≡ x
-      → shown w ((Learn a, Noted) ∷ past) ≡ pairs_noted x (Some a) ++ shown w past
-  shown_by x is = ap (λ x. pairs_noted x (Some a) ++ shown w past) is
+      → shown w ((Learn a, Noted) ∷ past) ≡ pairs_noted b.log_version x (Some a) ++ shown w past
+  shown_by x is =
+      ap (λ y. pairs_noted w.member.log_version y (Some a) ++ shown w past) is
+      ∙ ap (λ v. pairs_noted v x (Some a) ++ shown w past) (sym k.of.of_member.version)
 
   -- it was exposed before
   was_exposed : (e : EvidenceParts) → b.evidence ≡ Some e → is_exposed w past ≡ true
       → Exposure w ((Learn a, Noted) ∷ past) → Known w ((Learn a, Noted) ∷ past) after
   was_exposed e some is x =
-      known_by (keeps_old same (still x)) (subst NumbersDiffer (sym (kept_exposed (still x))) k.kept_differ)
+      known_by (keeps_old same (still x))
+      (subst (NumbersDiffer w.member.log_version) (sym (kept_exposed (still x))) k.kept_differ)
       (subst (HoldSame (book_shown after)) (sym (shown_by true is))
       (subst (λ ps. HoldSame ps (shown w past))
-      (sym (ap₂ (λ o xs. showing_of o xs b.segments) (now ∙ sym some) same)) k.of.stands.pairs))
+      (sym (ap₂ (λ o xs. showing_of b.log_version o xs b.segments) (now ∙ sym some) same)) k.of.stands.pairs))
       (fits_exposed b a k.fits l (evidence_noted b a) same (λ h. ap (λ o. is_some o) now)) x
     where
       now : evidence_noted b a ≡ Some e
-      now = ap (λ o. first_evidence o (fork_evidence b (authenticator_showing One a) (pair_of a ∷ []))) some
+      now = ap (λ o. first_evidence o (fork_evidence b showing_it (pair ∷ []))) some
 
       same : l ≡ b.learned
       same = ap (λ o. learned_unless o b.learned a) now
@@ -259,16 +291,18 @@ module _ (w : Watched) (past : Past) (b : Book) (a : Authenticator)
       → evidence w ((Learn a, Noted) ∷ past) ≡ Some e → is_exposed w ((Learn a, Noted) ∷ past) ≡ true
       → Known w ((Learn a, Noted) ∷ past) after
   exposes e none is some now =
-      known_by (keeps_old same now) (subst NumbersDiffer (sym (kept_exposed now)) k.kept_differ)
+      known_by (keeps_old same now)
+      (subst (NumbersDiffer w.member.log_version) (sym (kept_exposed now)) k.kept_differ)
       (subst (HoldSame (book_shown after)) (sym (shown_by false is))
-      (subst (λ ps. HoldSame ps (pair_of a ∷ shown w past))
-      (sym (ap₂ (λ o xs. showing_of o xs b.segments) there same))
-      (same_through (showing_of (Some e) b.learned b.segments)
-      (pair_of a ∷ showing_of None b.learned b.segments) (pair_of a ∷ shown w past)
-      (add_exposing e (pair_of a) b.learned b.segments
-      (fork_shows b (authenticator_showing One a) (pair_of a ∷ []) e fork))
-      (same_after (pair_of a) (showing_of None b.learned b.segments) (shown w past)
-      (subst (λ o. HoldSame (showing_of o b.learned b.segments) (shown w past)) none k.of.stands.pairs)))))
+      (subst (λ ps. HoldSame ps (pair ∷ shown w past))
+      (sym (ap₂ (λ o xs. showing_of b.log_version o xs b.segments) there same))
+      (same_through (showing_of b.log_version (Some e) b.learned b.segments)
+      (pair ∷ showing_of b.log_version None b.learned b.segments) (pair ∷ shown w past)
+      (add_exposing b.log_version e pair b.learned b.segments
+      (fork_shows b showing_it (pair ∷ []) e fork))
+      (same_after pair (showing_of b.log_version None b.learned b.segments) (shown w past)
+      (subst (λ o. HoldSame (showing_of b.log_version o b.learned b.segments) (shown w past)) none
+      k.of.stands.pairs)))))
       (fits_exposed b a k.fits l (evidence_noted b a) same (λ h. ap (λ o. is_some o) there))
       (Open e some now)
     where
@@ -278,29 +312,33 @@ module _ (w : Watched) (past : Past) (b : Book) (a : Authenticator)
       same : l ≡ b.learned
       same = ap (λ o. learned_unless o b.learned a) there
 
-      fork : fork_evidence b (authenticator_showing One a) (pair_of a ∷ []) ≡ Some e
+      fork : fork_evidence b showing_it (pair ∷ []) ≡ Some e
       fork =
-          sym (ap (λ o. first_evidence o (fork_evidence b (authenticator_showing One a) (pair_of a ∷ []))) none)
+          sym (ap (λ o. first_evidence o (fork_evidence b showing_it (pair ∷ []))) none)
           ∙ there
 
   -- it is kept
   stays_hidden : b.evidence ≡ None → is_exposed w past ≡ false
       → evidence w ((Learn a, Noted) ∷ past) ≡ None → is_exposed w ((Learn a, Noted) ∷ past) ≡ false
-      → is_shown (pair_of a) (shown w past) ≡ false → Known w ((Learn a, Noted) ∷ past) after
+      → is_shown (pair_of w.member.log_version a) (shown w past) ≡ false
+      → Known w ((Learn a, Noted) ∷ past) after
   stays_hidden none is some now unshown =
       known_by
       (subst (λ xs. HoldSame xs (kept w ((Learn a, Noted) ∷ past))) (sym same)
       (subst (HoldSame (b.learned ++ a ∷ [])) (sym its_kept)
       (same_more a b.learned (kept w past) k.of.stands.learned)))
-      (subst NumbersDiffer (sym its_kept)
-      (all_by (λ c. a.word ≢ c.word) (kept w past) (λ c i. other c i), k.kept_differ))
+      (subst (NumbersDiffer w.member.log_version) (sym its_kept) (
+        all_by (λ c. number_of w.member.log_version a ≢ number_of w.member.log_version c) (kept w past)
+            (λ c i. other c i),
+        k.kept_differ,
+      ))
       (subst (HoldSame (book_shown after)) (sym (shown_by false is))
-      (subst (λ ps. HoldSame ps (pair_of a ∷ shown w past))
-      (sym (ap₂ (λ o xs. showing_of o xs b.segments) (there ∙ sym none) same))
-      (same_through (showing_of b.evidence (b.learned ++ a ∷ []) b.segments) (pair_of a ∷ book_shown b)
-      (pair_of a ∷ shown w past)
-      (add_learned b.evidence b.learned b.segments a)
-      (same_after (pair_of a) (book_shown b) (shown w past) k.of.stands.pairs))))
+      (subst (λ ps. HoldSame ps (pair ∷ shown w past))
+      (sym (ap₂ (λ o xs. showing_of b.log_version o xs b.segments) (there ∙ sym none) same))
+      (same_through (showing_of b.log_version b.evidence (b.learned ++ a ∷ []) b.segments)
+      (pair ∷ book_shown b) (pair ∷ shown w past)
+      (add_learned b.log_version b.evidence b.learned b.segments a)
+      (same_after pair (book_shown b) (shown w past) k.of.stands.pairs))))
       (fits_learned b a k.fits l (evidence_noted b a) same (there ∙ sym none) fresh)
       (Hidden some now)
     where
@@ -310,39 +348,45 @@ module _ (w : Watched) (past : Past) (b : Book) (a : Authenticator)
       same : l ≡ b.learned ++ a ∷ []
       same = ap (λ o. learned_unless o b.learned a) there
 
-      later : (x : List ℕ) → IsAmong (a.word, x) (shown w past)
-          → IsAmong (a.word, x) (shown w ((Learn a, Noted) ∷ past))
-      later x i = subst (IsAmong (a.word, x)) (sym (shown_by false is)) (inr i)
+      later : (x : List ℕ) → IsAmong (number_of b.log_version a, x) (shown w past)
+          → IsAmong (number_of b.log_version a, x) (shown w ((Learn a, Noted) ∷ past))
+      later x i = subst (IsAmong (number_of b.log_version a, x)) (sym (shown_by false is)) (inr i)
 
-      its : IsAmong (pair_of a) (shown w ((Learn a, Noted) ∷ past))
-      its = subst (IsAmong (pair_of a)) (sym (shown_by false is)) (inl refl)
+      its : IsAmong pair (shown w ((Learn a, Noted) ∷ past))
+      its = subst (IsAmong pair) (sym (shown_by false is)) (inl refl)
 
       fresh : IsNew b a
       fresh = record {
         new = λ i.
-            true≢false (sym (passed (λ q. same_pair (pair_of a) q) (shown w past) (pair_of a)
-            ((k.of.stands.pairs (pair_of a)).0 i)
-            (and_from (a.word == a.word) (is_same a.hash a.hash) (eq-eqb a.word a.word refl)
-            (list_same a.hash a.hash refl))) ∙ unshown);
+            true≢false (sym (passed (λ q. same_pair pair q) (shown w past) pair
+            ((k.of.stands.pairs pair).0 i)
+            (and_from (number_of b.log_version a == number_of b.log_version a) (is_same a.hash a.hash)
+            (eq-eqb (number_of b.log_version a) (number_of b.log_version a) refl)
+            (list_same a.hash a.hash refl)))
+            ∙ (ap (λ v. is_shown (pair_of v a) (shown w past)) k.of.of_member.version ∙ unshown));
         one = λ x i.
-            one_shown w ((Learn a, Noted) ∷ past) now a.word x a.hash
-            (later x ((k.of.stands.pairs (a.word, x)).0 i)) its;
+            one_shown w ((Learn a, Noted) ∷ past) now (number_of b.log_version a) x a.hash
+            (later x ((k.of.stands.pairs (number_of b.log_version a, x)).0 i)) its;
       }
 
       its_kept : kept w ((Learn a, Noted) ∷ past) ≡ a ∷ kept w past
       its_kept =
-          kept_hidden now (subst (λ (e : End). e.number < a.word) k.of.stands.end
-          (new_above b a k.fits fresh))
+          kept_hidden now (subst (λ v. (end_of w past).number < number_of v a) k.of.of_member.version
+          (subst (λ (e : End). e.number < number_of b.log_version a) k.of.stands.end
+          (new_above b a k.fits fresh)))
 
-      other : (c : Authenticator) → IsAmong c (kept w past) → a.word ≢ c.word
+      other : (c : Authenticator) → IsAmong c (kept w past)
+          → number_of w.member.log_version a ≢ number_of w.member.log_version c
       other c i same =
           none_there b a k.fits fresh c.hash
-          (subst (λ n. IsAmong (n, c.hash) (book_shown b)) (sym same)
-          (shows b.evidence b.learned b.segments (pair_of c)
+          (subst (λ n. IsAmong (n, c.hash) (book_shown b))
+          (sym (subst (λ v. number_of v a ≡ number_of v c) (sym k.of.of_member.version) same))
+          (shows b.log_version b.evidence b.learned b.segments (pair_of b.log_version c)
           (Learned c ((k.of.stands.learned c).1 i) refl)))
 
   -- What is known after an authenticator that was noted.
-  pub noted_known : (is_exposed w past ≡ false → is_shown (pair_of a) (shown w past) ≡ false)
+  pub noted_known : (is_exposed w past ≡ false
+      → is_shown (pair_of w.member.log_version a) (shown w past) ≡ false)
       → Exposure w ((Learn a, Noted) ∷ past) → Known w ((Learn a, Noted) ∷ past) (after_learn b a Noted)
   noted_known unshown x = by k.exposure x
     where

@@ -2,6 +2,7 @@ pub mod Lists
 pub mod Replies
 pub mod Quiet
 pub mod Segments
+pub mod Sends
 pub mod Kept
 pub mod Known
 pub mod Learned

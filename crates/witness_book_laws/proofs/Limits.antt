@@ -8,18 +8,16 @@ use Rattle.std.proofs.lemmas.Bool.{and_parts, true≢false, leb-false, lt-ltb}
 use Rattle.std.proofs.lemmas.List.Sums.{sum_by_from, sum_by-append}
 use Rattle.authenticator.specs.declared.authenticator.Authenticator.{Authenticator}
 use Rattle.authenticator.specs.declared.member.Member.{Member}
-use Rattle.authenticator.specs.declared.member.LogVersion.TheVariants.{One}
 use Rattle.authenticator.specs.Signing.{is_same}
 use Rattle.authenticator.proofs.Signed.{list_same}
-use Rattle.secure_log.specs.declared.log_entries.entry.Entry.{Entry}
-use Rattle.secure_log.specs.LogEntries.Chain.{hash_after, link_of}
-use Rattle.secure_log.specs.Segment.{SegmentParts}
+use Rattle.secure_log.specs.LogEntries.Chain.{Logged, hash_after, logged_link, span}
+use Rattle.secure_log.specs.Versioned.{VersionedParts}
 use Rattle.envelopes.specs.Envelope.{envelope_message}
 use Rattle.envelopes.specs.Acknowledgement.{acked_message}
 use Rattle.witness_laws.specs.state_spec.State.{State}
-use Rattle.replay_spec.specs.Placed.{Placed, placed, placed_in}
+use Rattle.replay_spec.specs.Placed.{Placed, places_from, places_in}
 use Rattle.replay_spec.specs.Stepping.{shown_by}
-use Rattle.replay_spec.specs.Replay.{found, with_shown, Verdict, Sound, Fault, segment_verdict}
+use Rattle.replay_spec.specs.Replay.{found, with_shown, Verdict, Sound, Fault, verdict_of}
 use Rattle.replay_spec.proofs.Runs.{is_sound}
 use Rattle.secure_log.specs.LogEntries.Chain.{IsAmong}
 use Rattle.witness_laws.specs.evidence_spec.Showing.{authenticator_showing}
@@ -42,7 +40,8 @@ use Rattle.witness_laws.specs.witness_spec.Steps.{Step, Learn, SendChallenge, An
 use Rattle.witness_laws.specs.witness_spec.Steps.{File, PutBack}
 use Rattle.witness_laws.specs.witness_spec.Steps.{Forward, Ask, Past}
 use Rattle.witness_laws.specs.witness_spec.Limits.{MAX_LEARNED, MAX_CHALLENGES, MAX_AUDITED, MAX_OUTBOX}
-use Rattle.witness_laws.specs.witness_spec.Pairs.{Pair, pair_of, differ, is_shown, is_fork}
+use Rattle.witness_laws.specs.witness_spec.Pairs.{Pair, number_of, last_of, pair_of, differ, is_shown}
+use Rattle.witness_laws.specs.witness_spec.Pairs.{is_fork}
 use Rattle.witness_laws.specs.witness_spec.Standing.{Stage, Given, Out, Wanted, is_answered, is_send_of}
 use Rattle.witness_laws.specs.witness_spec.Standing.{sound_found}
 use Rattle.witness_laws.specs.witness_spec.Owing.{is_send, is_open, back_reply}
@@ -59,6 +58,7 @@ use Rattle.witness_book_laws.specs.LookUps.{HasOneHash}
 use Rattle.witness_book_laws.specs.Keeping.{audit_last, KeepsLimits}
 use Rattle.witness_book_laws.proofs.Lists.{passer}
 use Rattle.witness_laws.proofs.OfEvidence.Before.{on_right}
+use Rattle.witness_laws.proofs.OfEvidence.Marks.{few_spans}
 use Rattle.witness_book_laws.proofs.Kept.{showing_of, add_learned}
 use Rattle.witness_book_laws.proofs.Steps.{IsDoneStep, asks, begins, out_of, was_wanted, returned_is}
 
@@ -101,20 +101,23 @@ found_few s (p ∷ ps) [] = omega arith
 found_few s (p ∷ ps) (t ∷ ts) =
     omega (arith, one_more (shown_by s p.entry) (found t ps ts), found_few t ps ts)
 
-as_many_placed : (first : ℕ) (before : List ℕ) (es : List Entry) → length (placed first before es) ≡ length es
-as_many_placed first before [] = refl
-as_many_placed first before (e ∷ es) =
-    omega (arith, as_many_placed (first + 1) (hash_after before (link_of first e)) es)
+-- entries have one place each
+pub as_many_placed : (first : ℕ) (opening : List ℕ) (ls : List Logged)
+    → length (places_from first opening ls) ≡ length ls
+as_many_placed first opening [] = refl
+as_many_placed first opening (l ∷ ls) =
+    let number = first + l.skipped in
+    omega (arith, as_many_placed (number + 1) (hash_after opening (logged_link number l)) ls)
 
 -- it finds one authenticator for each entry at most
-pub found_bound : (ms : List Member) (s : State) (g : SegmentParts) (v : Verdict) → segment_verdict ms s g ≡ v
-    → length (sound_found v) ≤ length g.entries
+pub found_bound : (ms : List Member) (s : State) (g : VersionedParts) (v : Verdict)
+    → verdict_of ms s (places_in g) ≡ v → length (sound_found v) ≤ length g.entries
 found_bound ms s g (Fault fault number) is = omega arith
 found_bound ms s g (Sound t shown) is =
-    let r = is_sound ms s (placed_in g) t shown is in
+    let r = is_sound ms s (places_in g) t shown is in
     omega (
       arith,
-      found_few s (placed_in g) r.states,
+      found_few s (places_in g) r.states,
       ap length r.all,
       as_many_placed g.first g.opening g.entries,
     )
@@ -142,33 +145,45 @@ module _ (b : Book) (lim : KeepsLimits b) where
 
   module _ (a : Authenticator) (fits : FitsTogether (book_after b (Learn a) Noted))
       (one : HasOneHash (book_after b (Learn a) Noted))
-      (told : Noted ≡ cond (exposed b) Noted (cond (is_shown (pair_of a) (book_shown b)) Already
+      (told : Noted ≡ cond (exposed b) Noted (cond (is_shown (pair_of b.log_version a) (book_shown b)) Already
       (cond (has_no_room b a) (Refused LearnedFull) Noted))) where
     abbrev now : Option EvidenceParts
     now = evidence_noted b a
 
-    no_fork : now ≡ None → is_fork (pair_of a) (book_shown b) ≡ false
-    no_fork none = by (is_fork (pair_of a) (book_shown b)) refl
+    -- its number, and its pair
+    abbrev number : ℕ
+    number = number_of b.log_version a
+
+    abbrev pair : Pair
+    pair = pair_of b.log_version a
+
+    -- the fork that it makes
+    abbrev its_fork : Option EvidenceParts
+    its_fork = fork_evidence b (authenticator_showing b.log_version a) (pair ∷ [])
+
+    no_fork : now ≡ None → is_fork pair (book_shown b) ≡ false
+    no_fork none = by (is_fork pair (book_shown b)) refl
       where
         was : b.evidence ≡ None
-        was = hidden_of b.evidence (fork_evidence b (authenticator_showing One a) (pair_of a ∷ [])) none
+        was = hidden_of b.evidence its_fork none
 
-        there : (q : Pair) → IsAmong q (pair_of a ∷ book_shown b)
+        there : (q : Pair) → IsAmong q (pair ∷ book_shown b)
             → IsAmong q (book_shown (book_after b (Learn a) Noted))
         there q i =
-            subst (λ e. IsAmong q (showing_of e (learned_unless e b.learned a) b.segments)) (sym none)
-            (subst (λ e. IsAmong q (showing_of e (b.learned ++ a ∷ []) b.segments)) was
-            ((add_learned b.evidence b.learned b.segments a q).1 i))
+            subst (λ e. IsAmong q (showing_of b.log_version e (learned_unless e b.learned a) b.segments))
+            (sym none)
+            (subst (λ e. IsAmong q (showing_of b.log_version e (b.learned ++ a ∷ []) b.segments)) was
+            ((add_learned b.log_version b.evidence b.learned b.segments a q).1 i))
 
-        by : (x : Bool) → is_fork (pair_of a) (book_shown b) ≡ x → x ≡ false
+        by : (x : Bool) → is_fork pair (book_shown b) ≡ x → x ≡ false
         by false e = refl
         by true e =
-            let r = passer (λ q. differ (pair_of a) q) (book_shown b) e in
-            let both = and_parts (a.word == r.one.0) (not (is_same a.hash r.one.1)) r.passes in
+            let r = passer (λ q. differ pair q) (book_shown b) e in
+            let both = and_parts (number == r.one.0) (not (is_same a.hash r.one.1)) r.passes in
             let same : a.hash ≡ r.one.1 =
-            one (ap (λ o. is_some o) none) a.word a.hash r.one.1 (there (pair_of a) (inl refl))
+            one (ap (λ o. is_some o) none) number a.hash r.one.1 (there pair (inl refl))
             (subst (λ n. IsAmong (n, r.one.1) (book_shown (book_after b (Learn a) Noted)))
-            (sym (eqb-true a.word r.one.0 both.0)) (there r.one (inr r.among))) in
+            (sym (eqb-true number r.one.0 both.0)) (there r.one (inr r.among))) in
             absurd (true≢false (sym both.1 ∙ ap not (list_same a.hash r.one.1 same)))
 
     learned_few : (o : Option EvidenceParts) → now ≡ o → length (learned_unless now b.learned a) ≤ MAX_LEARNED
@@ -176,13 +191,13 @@ module _ (b : Book) (lim : KeepsLimits b) where
         omega (arith, lim.learned, ap (λ o. length (learned_unless o b.learned a)) is)
     learned_few None is =
         let was : b.evidence ≡ None =
-        hidden_of b.evidence (fork_evidence b (authenticator_showing One a) (pair_of a ∷ [])) is in
-        let room = room_of (exposed b) (is_shown (pair_of a) (book_shown b)) (has_no_room b a)
+        hidden_of b.evidence its_fork is in
+        let room = room_of (exposed b) (is_shown pair (book_shown b)) (has_no_room b a)
         (ap (λ o. is_some o) was) told in
         let above = fits.above a (subst (λ o. IsAmong a (learned_unless o b.learned a)) (sym is)
         (on_right a b.learned (a ∷ []) (inl refl))) in
-        let few = few_of (is_fork (pair_of a) (book_shown b)) (nat_lt b.end.number a.word)
-        (nat_le MAX_LEARNED (length b.learned)) (no_fork is) (lt-ltb b.end.number a.word above) room in
+        let few = few_of (is_fork pair (book_shown b)) (nat_lt b.end.number number)
+        (nat_le MAX_LEARNED (length b.learned)) (no_fork is) (lt-ltb b.end.number number above) room in
         omega (
           arith,
           ap (λ o. length (learned_unless o b.learned a)) is,
@@ -222,10 +237,10 @@ module _ (b : Book) (lim : KeepsLimits b) where
       )
 
   -- what is filed leaves room
-  filed_limits : (s : SegmentParts) (v : Verdict)
-      → (length b.outbox + (s.closing.word - b.end.number) ≤ MAX_OUTBOX)
-      → s.closing.word ≤ MAX_AUDITED → s.first ≡ b.end.number + 1
-      → s.closing.word + 1 ≡ s.first + length s.entries → length (sound_found v) ≤ length s.entries
+  filed_limits : (s : VersionedParts) (v : Verdict)
+      → (length b.outbox + (last_of s - b.end.number) ≤ MAX_OUTBOX)
+      → last_of s ≤ MAX_AUDITED → s.first ≡ b.end.number + 1
+      → last_of s + 1 ≡ s.first + span s.entries → length (sound_found v) ≤ length s.entries
       → KeepsLimits (having_filed b s v)
   filed_limits s v room last first count few = by v few
     where
@@ -234,12 +249,12 @@ module _ (b : Book) (lim : KeepsLimits b) where
         learned = omega (
           arith,
           lim.learned,
-          fewer (λ (a : Authenticator). nat_lt s.closing.word a.word) b.learned,
+          fewer (λ a. nat_lt (last_of s) (number_of b.log_version a)) b.learned,
         );
         challenges = lim.challenges;
         end = last;
         last = last;
-        outbox = omega (arith, room, first, count, few, length-append b.outbox shown);
+        outbox = omega (arith, room, first, count, few, few_spans s.entries, length-append b.outbox shown);
       }
       by (Fault fault number) few = record {
         learned = lim.learned;
@@ -284,7 +299,7 @@ module _ (b : Book) (lim : KeepsLimits b) where
   limits_on (SendChallenge e) r fits o few next one = lim
   limits_on (Answer c) Accepted fits o few next one =
       let w = was_wanted b.stage c o.told in
-      let at = at_stage (Wanted c.segment.first c.segment.closing.word) (Given c) w refl in
+      let at = at_stage (Wanted c.segment.first (last_of c.segment)) (Given c) w refl in
       record {
         learned = lim.learned;
         challenges = omega (

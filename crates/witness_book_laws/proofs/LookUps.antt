@@ -1,7 +1,7 @@
 -- What a book looks up tells whether a pair was shown, and whether another hash is at its number.
 -- Serves: look_ups_tell.
-use Rattle.std.proofs.Common.{◌≡◌, inl, inr, ℕ, ◌+◌, ◌-◌, ◌≤◌, Bool, true, false, cond, not, ◌==◌, ◌&&◌}
-use Rattle.std.proofs.Common.{nat_le, List, [], ◌∷◌, find, length, Option, Some, None, refl, sym, ap, ap₂}
+use Rattle.std.proofs.Common.{◌≡◌, inl, ℕ, ◌≤◌, Bool, true, false, cond, not, ◌==◌, ◌&&◌}
+use Rattle.std.proofs.Common.{nat_le, List, find, Option, Some, None, refl, sym, ap, ap₂}
 use Rattle.std.proofs.Common.{subst, ◌∙◌, arith, eqb-true, eq-eqb}
 use Rattle.std.specs.Prelude.{is_some, option_map}
 use Rattle.std.proofs.lemmas.Bool.{and_parts, and_from, true≢false, le-leb, leb-true, leb-false}
@@ -9,52 +9,32 @@ use Rattle.std.proofs.lemmas.Option.{same_Some}
 use Rattle.authenticator.specs.declared.authenticator.Authenticator.{Authenticator}
 use Rattle.authenticator.specs.Signing.{is_same}
 use Rattle.authenticator.proofs.Signed.{same_list, list_same}
-use Rattle.secure_log.specs.declared.log_entries.entry.Entry.{Entry}
-use Rattle.secure_log.specs.LogEntries.Chain.{zeros, pairs, hash_after, link_of, links_from}
-use Rattle.secure_log.specs.Segment.{SegmentParts, segment_pairs}
+use Rattle.secure_log.specs.LogEntries.Chain.{zeros}
+use Rattle.secure_log.specs.Versioned.{VersionedParts}
+use Rattle.secure_log.specs.Marks.{mark_among}
 use Rattle.secure_log.specs.LogEntries.Chain.{IsAmong}
 use Rattle.witness_laws.specs.evidence_spec.Evidence.{EvidenceParts}
 use Rattle.witness_laws.specs.witness_spec.Watched.{Watched}
 use Rattle.witness_laws.specs.witness_spec.Steps.{Past}
-use Rattle.witness_laws.specs.witness_spec.Pairs.{Pair, same_pair, differ, is_shown, is_fork}
+use Rattle.witness_laws.specs.witness_spec.Pairs.{Pair, number_of, last_of, marks_of, same_pair, differ}
+use Rattle.witness_laws.specs.witness_spec.Pairs.{is_shown, is_fork}
 use Rattle.witness_laws.specs.witness_spec.Exposing.{segment_holding}
 use Rattle.witness_laws.proofs.OfEvidence.Before.{one_shown}
 use Rattle.witness_book_laws.specs.Books.{Book, exposed, exposing_pairs, book_shown}
-use Rattle.witness_book_laws.specs.Fitting.{IsWhole, FitsTogether, IsBookOf}
-use Rattle.witness_book_laws.specs.LookUps.{hash_among, hash_held, hash_shown, is_hash, is_other_hash}
+use Rattle.witness_book_laws.specs.Fitting.{FitsTogether, IsBookOf}
+use Rattle.witness_book_laws.specs.LookUps.{hash_held, hash_shown, is_hash, is_other_hash}
 use Rattle.witness_book_laws.specs.LookUps.{HasOneHash}
 use Rattle.witness_book_laws.proofs.Lists.{same_truth, passer, passed}
 use Rattle.witness_laws.proofs.OfEvidence.Before.{found, not_found}
 use Rattle.witness_book_laws.proofs.Kept.{Shower, AtFirst, Exposing, Learned, Segment, shower, shows}
-use Rattle.witness_book_laws.proofs.Segments.{hash_at, IsHeldIn, tile_holds, tile_between, tiled}
+use Rattle.witness_book_laws.proofs.Segments.{mark_at, marked, IsHeldIn, tile_holds, tile_between, tiled}
 use Rattle.witness_book_laws.proofs.Quiet.{Exposure}
 use Rattle.witness_book_laws.proofs.Known.{exposed_same}
 
--- ---- pairs of a segment
+-- ---- marks of a segment
 
-up_to : (before : ℕ) (opening : List ℕ) (es : List Entry) (n : ℕ) (x : List ℕ)
-    → IsAmong (n, x) (pairs before opening (links_from (before + 1) es)) → n ≤ before + length es
-up_to before opening [] n x (inl e) = omega (arith, ap (λ (p : Pair). p.0) e)
-up_to before opening [] n x (inr i) = absurd i
-up_to before opening (e ∷ es) n x (inl same) = omega (arith, ap (λ (p : Pair). p.0) same)
-up_to before opening (e ∷ es) n x (inr i) =
-    omega (arith, up_to (before + 1) (hash_after opening (link_of (before + 1) e)) es n x i)
-
--- none has a number past its closing's
-not_past : (s : SegmentParts) (n : ℕ) (x : List ℕ) → IsWhole s → IsAmong (n, x) (segment_pairs s)
-    → n ≤ s.closing.word
-not_past s n x w i =
-    let back : s.first ≡ s.first - 1 + 1 = omega (arith, w.some) in
-    omega (
-      arith,
-      up_to (s.first - 1) s.opening s.entries n x
-          (subst (λ k. IsAmong (n, x) (pairs (s.first - 1) s.opening (links_from k s.entries))) back i),
-      w.some,
-      w.count,
-    )
-
--- what is found among pairs is one of them
-among_there : (n : ℕ) (ps : List Pair) (y : List ℕ) → hash_among n ps ≡ Some y → IsAmong (n, y) ps
+-- what is found among these is one of them
+pub among_there : (n : ℕ) (ps : List Pair) (y : List ℕ) → mark_among n ps ≡ Some y → IsAmong (n, y) ps
 among_there n ps y h = by (find (λ (p : Pair). p.0 == n) ps) refl h
   where
     by : (o : Option Pair) → find (λ (p : Pair). p.0 == n) ps ≡ o
@@ -67,7 +47,7 @@ among_there n ps y h = by (find (λ (p : Pair). p.0 == n) ps) refl h
         (ap₂ (λ (a : ℕ) (b : List ℕ). (a, b)) (eqb-true p.0 n f.1) hash) f.0
 
 -- where one has the number, one is found
-among_some : (n : ℕ) (ps : List Pair) (x : List ℕ) → IsAmong (n, x) ps → hash_among n ps ≡ None → ⊥
+pub among_some : (n : ℕ) (ps : List Pair) (x : List ℕ) → IsAmong (n, x) ps → mark_among n ps ≡ None → ⊥
 among_some n ps x i h = by (find (λ (p : Pair). p.0 == n) ps) refl h
   where
     by : (o : Option Pair) → find (λ (p : Pair). p.0 == n) ps ≡ o
@@ -77,28 +57,33 @@ among_some n ps x i h = by (find (λ (p : Pair). p.0 == n) ps) refl h
     by (Some p) e k = absurd (cc)
 
 module _ (b : Book) (fits : FitsTogether b) (n : ℕ) where
-  abbrev holds : SegmentParts → Bool
-  holds s = nat_le s.first n && nat_le n s.closing.word
+  abbrev holds : VersionedParts → Bool
+  holds s = nat_le s.first n && nat_le n (last_of s)
+
+  -- an authenticator is at the number
+  abbrev is_at : Authenticator → Bool
+  is_at a = number_of b.log_version a == n
 
   -- ---- what is looked up was shown
 
-  held_there : (o : Option SegmentParts) (y : List ℕ) → segment_holding n b.segments ≡ o
+  held_there : (o : Option VersionedParts) (y : List ℕ) → segment_holding n b.segments ≡ o
       → hash_held o b n ≡ Some y
       → IsAmong (n, y) (book_shown b)
   held_there (Some s) y e h =
-      shows b.evidence b.learned b.segments (n, y)
-      (Segment s (found holds b.segments s e).0 (among_there n (segment_pairs s) y h))
-  held_there None y e h = by (find (λ (a : Authenticator). a.word == n) b.learned) refl h
+      shows b.log_version b.evidence b.learned b.segments (n, y)
+      (Segment s (found holds b.segments s e).0 (among_there n (marks_of s) y h))
+  held_there None y e h = by (find (λ a. is_at a) b.learned) refl h
     where
-      by : (o : Option Authenticator) → find (λ (a : Authenticator). a.word == n) b.learned ≡ o
+      by : (o : Option Authenticator) → find (λ a. is_at a) b.learned ≡ o
           → ◌≡◌ {A = Option (List ℕ)} (option_map (λ (a : Authenticator). a.hash) o) (Some y)
           → IsAmong (n, y) (book_shown b)
       by None f k = absurd (cc)
       by (Some a) f k =
-          let r = found (λ (c : Authenticator). c.word == n) b.learned a f in
+          let r = found (λ c. is_at c) b.learned a f in
           let hash : y ≡ a.hash = sym (same_Some _ _ k) in
-          shows b.evidence b.learned b.segments (n, y)
-          (Learned a r.0 (ap₂ (λ (m : ℕ) (x : List ℕ). (m, x)) (sym (eqb-true a.word n r.1)) hash))
+          shows b.log_version b.evidence b.learned b.segments (n, y)
+          (Learned a r.0 (ap₂ (λ (m : ℕ) (x : List ℕ). (m, x))
+          (sym (eqb-true (number_of b.log_version a) n r.1)) hash))
 
   looked : (y : List ℕ) → hash_shown b n ≡ Some y → IsAmong (n, y) (book_shown b)
   looked y h = by (n == 0) refl h
@@ -114,57 +99,57 @@ module _ (b : Book) (fits : FitsTogether b) (n : ℕ) where
   not_held : (x : List ℕ) → IsHeldIn b.segments n → hash_held (segment_holding n b.segments) b n ≡ None → ⊥
   not_held x h k = by (segment_holding n b.segments) refl k
     where
-      by : (o : Option SegmentParts) → segment_holding n b.segments ≡ o → hash_held o b n ≡ None → ⊥
+      by : (o : Option VersionedParts) → segment_holding n b.segments ≡ o → hash_held o b n ≡ None → ⊥
       by None e k =
-          true≢false (sym (and_from (nat_le h.segment.first n) (nat_le n h.segment.closing.word)
-          (le-leb h.segment.first n h.from) (le-leb n h.segment.closing.word h.to))
+          true≢false (sym (and_from (nat_le h.segment.first n) (nat_le n (last_of h.segment))
+          (le-leb h.segment.first n h.from) (le-leb n (last_of h.segment) h.to))
           ∙ not_found holds b.segments h.segment e h.among)
       by (Some s) e k =
           let f = found holds b.segments s e in
-          let both = and_parts (nat_le s.first n) (nat_le n s.closing.word) f.1 in
-          let p = hash_at s n (fits.whole s f.0) (omega (arith, leb-true s.first n both.0))
-          (leb-true n s.closing.word both.1) in
-          among_some n (segment_pairs s) p.hash p.there k
+          let both = and_parts (nat_le s.first n) (nat_le n (last_of s)) f.1 in
+          let p = mark_at s n (fits.whole s f.0) (omega (arith, leb-true s.first n both.0))
+          (leb-true n (last_of s) both.1) in
+          among_some n (marks_of s) p.mark p.there k
 
   unfound : (x : List ℕ) → exposed b ≡ false → (n == 0) ≡ false → IsAmong (n, x) (book_shown b)
       → hash_held (segment_holding n b.segments) b n ≡ None → ⊥
-  unfound x hidden some i k = by (shower b.evidence b.learned b.segments (n, x) i)
+  unfound x hidden some i k = by (shower b.log_version b.evidence b.learned b.segments (n, x) i)
     where
       no_evidence : (o : Option EvidenceParts) → is_some o ≡ false → IsAmong (n, x) (exposing_pairs o) → ⊥
       no_evidence None e i = i
       no_evidence (Some f) e i = true≢false e
 
-      no_learned : (a : Authenticator) → IsAmong a b.learned → n ≡ a.word
-          → (o : Option SegmentParts) → segment_holding n b.segments ≡ o → hash_held o b n ≡ None → ⊥
+      no_learned : (a : Authenticator) → IsAmong a b.learned → n ≡ number_of b.log_version a
+          → (o : Option VersionedParts) → segment_holding n b.segments ≡ o → hash_held o b n ≡ None → ⊥
       no_learned a i same (Some s) e k = not_held x (found_held s e) (ap (λ o. hash_held o b n) e ∙ k)
         where
-          found_held : (s : SegmentParts) → segment_holding n b.segments ≡ Some s → IsHeldIn b.segments n
+          found_held : (s : VersionedParts) → segment_holding n b.segments ≡ Some s → IsHeldIn b.segments n
           found_held s e =
               let f = found holds b.segments s e in
-              let both = and_parts (nat_le s.first n) (nat_le n s.closing.word) f.1 in
+              let both = and_parts (nat_le s.first n) (nat_le n (last_of s)) f.1 in
               record {
                 segment = s;
                 among = f.0;
                 from = leb-true s.first n both.0;
-                to = leb-true n s.closing.word both.1;
+                to = leb-true n (last_of s) both.1;
               }
-      no_learned a i same None e k = by_found (find (λ (c : Authenticator). c.word == n) b.learned) refl k
+      no_learned a i same None e k = by_found (find (λ c. is_at c) b.learned) refl k
         where
-          by_found : (o : Option Authenticator) → find (λ (c : Authenticator). c.word == n) b.learned ≡ o
+          by_found : (o : Option Authenticator) → find (λ c. is_at c) b.learned ≡ o
               → ◌≡◌ {A = Option (List ℕ)} (option_map (λ (c : Authenticator). c.hash) o) None → ⊥
           by_found (Some c) f h = absurd (cc)
           by_found None f h =
-              true≢false (sym (eq-eqb a.word n (sym same))
-              ∙ not_found (λ (c : Authenticator). c.word == n) b.learned a f i)
+              true≢false (sym (eq-eqb (number_of b.log_version a) n (sym same))
+              ∙ not_found (λ c. is_at c) b.learned a f i)
 
-      in_segment : (s : SegmentParts) → IsAmong s b.segments → IsAmong (n, x) (segment_pairs s)
+      in_segment : (s : VersionedParts) → IsAmong s b.segments → IsAmong (n, x) (marks_of s)
           → IsHeldIn b.segments n
       in_segment s j there =
           let t = tiled b fits.tiles in
           tile_holds 1 b.segments t.next n t.tile (at_least n some)
           (omega (
             arith,
-            not_past s n x (fits.whole s j) there,
+            (marked s n x (fits.whole s j) there).1,
             (tile_between 1 b.segments t.next s t.tile j).1,
           ))
         where
@@ -176,7 +161,7 @@ module _ (b : Book) (fits : FitsTogether b) (n : ℕ) where
               by_zero false f =
                   absurd (true≢false (sym (eq-eqb m 0 (omega (arith, leb-false 1 m f))) ∙ e))
 
-      by : Shower b.evidence b.learned b.segments (n, x) → ⊥
+      by : Shower b.log_version b.evidence b.learned b.segments (n, x) → ⊥
       by (AtFirst same) = true≢false (sym (eq-eqb n 0 (ap (λ (p : Pair). p.0) same)) ∙ some)
       by (Exposing j) = no_evidence b.evidence hidden j
       by (Learned a j same) =

@@ -14,6 +14,7 @@ use Rattle.witness_laws.specs.witness_spec.Replies.{Reply, Opened, Closed, Asked
 use Rattle.witness_laws.specs.witness_spec.Watched.{Watched}
 use Rattle.witness_laws.specs.witness_spec.Steps.{Step, SendChallenge, AckIn, Audit, Begin, PutBack, Forward}
 use Rattle.witness_laws.specs.witness_spec.Steps.{Ask, Past}
+use Rattle.witness_laws.specs.witness_spec.Pairs.{number_of}
 use Rattle.witness_laws.specs.witness_spec.Done.{noted, accepted, begun, filed, forwarded}
 use Rattle.witness_laws.specs.witness_spec.Histories.{HoldSame}
 use Rattle.witness_laws.specs.witness_spec.Standing.{End, end_of, end_after, pairs_noted, pairs_accepted}
@@ -84,7 +85,8 @@ module _ (w : Watched) (past : Past) where
   pub kept_stays : (p : Step × Reply) → noted p.0 p.1 ≡ None → filed p.0 p.1 ≡ None
       → kept w (p ∷ past) ≡ kept w past
   kept_stays p n f =
-      ap₂ (λ (e : End) (xs : List Authenticator). filter (λ a. nat_lt e.number a.word) xs)
+      ap₂ (λ (e : End) (xs : List Authenticator).
+      filter (λ a. nat_lt e.number (number_of w.member.log_version a)) xs)
       (ap (end_after w.roster (end_of w past)) f)
       (ap (λ o. unless_exposed (is_exposed w (p ∷ past)) o ++ noted_before w past) n)
 
@@ -99,8 +101,8 @@ module _ (w : Watched) (past : Past) where
       let all : all_accepted (p ∷ past) ≡ all_accepted past =
       ap (λ o. segment_of o ++ all_accepted past) did.accepts in
       let showing : shown w (p ∷ past) ≡ shown w past =
-      ap₂ (λ n a. pairs_noted (is_exposed w past) n ++ (pairs_accepted a ++ shown w past)) did.notes
-      did.accepts in
+      ap₂ (λ n a. pairs_noted w.member.log_version (is_exposed w past) n
+      ++ (pairs_accepted a ++ shown w past)) did.notes did.accepts in
       let count : begins (p ∷ past) ≡ begins past =
       ap (λ o. fold (λ n (q : Step × Reply). n + cond (is_some (begun q.0 q.1)) 1 0)
       (0 + cond (is_some o) 1 0) past) did.begins in
@@ -108,7 +110,7 @@ module _ (w : Watched) (past : Past) where
       ap (λ o. fold (λ n (q : Step × Reply). n + cond (is_some (forwarded q.0 q.1)) 1 0)
       (0 + cond (is_some o) 1 0) past) did.forwards in
       record {
-        node = of.node;
+        of_member = of.of_member;
         stands = record {
           end = of.stands.end ∙ sym end;
           stage = of.stands.stage ∙ sym did.stage;
@@ -135,7 +137,7 @@ module _ (w : Watched) (past : Past) where
   pub having_challenged : (e : Envelope) (r : Reply) (b : Book) → Exposure w past → IsBookOf w past b
       → IsBookOf w ((SendChallenge e, r) ∷ past) (after_send_challenge b e r)
   having_challenged e Opened b x of = record {
-    node = of.node;
+    of_member = record { node = of.of_member.node; version = of.of_member.version };
     stands = record {
       end = of.stands.end;
       stage = of.stands.stage;
@@ -163,7 +165,7 @@ module _ (w : Watched) (past : Past) where
   pub having_acked : (a : Ack) (r : Reply) (b : Book) → Exposure w past → IsBookOf w past b
       → IsBookOf w ((AckIn a, r) ∷ past) (after_ack b a r)
   having_acked a Closed b x of = record {
-    node = of.node;
+    of_member = record { node = of.of_member.node; version = of.of_member.version };
     stands = record {
       end = of.stands.end;
       stage = of.stands.stage;
@@ -193,7 +195,7 @@ module _ (w : Watched) (past : Past) where
   pub having_asked : (r : Reply) (b : Book) → Exposure w past → IsBookOf w past b
       → IsBookOf w ((Audit, r) ∷ past) (after_audit b r)
   having_asked (Asked first last) b x of = record {
-    node = of.node;
+    of_member = record { node = of.of_member.node; version = of.of_member.version };
     stands = record {
       end = of.stands.end;
       stage = refl;
@@ -221,7 +223,7 @@ module _ (w : Watched) (past : Past) where
   pub having_begun : (r : Reply) (b : Book) → Exposure w past → IsBookOf w past b
       → IsBookOf w ((Begin, r) ∷ past) (after_begin b r)
   having_begun (Job j) b x of = record {
-    node = of.node;
+    of_member = record { node = of.of_member.node; version = of.of_member.version };
     stands = record {
       end = of.stands.end;
       stage = refl;
@@ -250,7 +252,7 @@ module _ (w : Watched) (past : Past) where
   pub having_put_back : (j : JobParts) (r : Reply) (b : Book) → Exposure w past → IsBookOf w past b
       → IsBookOf w ((PutBack j, r) ∷ past) (after_put_back b j r)
   having_put_back j Returned b x of = record {
-    node = of.node;
+    of_member = record { node = of.of_member.node; version = of.of_member.version };
     stands = record {
       end = of.stands.end;
       stage = refl;
@@ -280,7 +282,7 @@ module _ (w : Watched) (past : Past) where
   pub having_forwarded : (r : Reply) (b : Book) → Exposure w past → IsBookOf w past b
       → IsBookOf w ((Forward, r) ∷ past) (after_forward b r)
   having_forwarded (Forwarded a) b x of = record {
-    node = of.node;
+    of_member = record { node = of.of_member.node; version = of.of_member.version };
     stands = record {
       end = of.stands.end;
       stage = of.stands.stage;

@@ -9,14 +9,18 @@ use Rattle.authenticator.specs.declared.member.Member.{Member}
 use Rattle.witness_laws.specs.witness_spec.Events.{Event, IsEvent}
 use Rattle.witness_laws.specs.witness_spec.Replies.{Reply}
 use Rattle.witness_laws.specs.witness_spec.Watched.{Watched, IsInRoster}
-use Rattle.witness_laws.specs.witness_spec.Steps.{Step}
+use Rattle.witness_laws.specs.witness_spec.Steps.{Step, Answer}
 use Rattle.witness_laws.specs.witness_spec.Whose.{whose}
 use Rattle.witness_book_laws.specs.Books.{Book, book_opening}
 use Rattle.witness_book_laws.specs.Replying.{BookOwes}
 use Rattle.witness_book_laws.specs.Going.{book_after}
+use Rattle.witness_book_laws.specs.Fitting.{IsOfMember}
 use Rattle.witness_book_laws.specs.Keeping.{KeepsLimits}
 use Rattle.witness_book_laws.specs.Together.{book_at, with_book_at}
-use Rattle.witness_book_laws.specs.Ready.{KnowsFew, IsReady, AreReady}
+use Rattle.witness_book_laws.specs.Ready.{KnowsFew, IsReady, AreReady, IsOfLog}
+use Rattle.witness_laws.proofs.Checked.{IsCheckedStep, checked_event}
+use Rattle.witness_laws.proofs.OwnSteps.{of_member}
+use Rattle.witness_book_laws.proofs.Accepted.{given_version}
 use Rattle.witness_book_laws.proofs.Histories.{done_event}
 use Rattle.witness_book_laws.proofs.AllBooks.{fit_at, is, its, its_book, all_kept, first_kept, kept_one_hash}
 use Rattle.witness_book_laws.proofs.Limits.{first_limits, any_limits}
@@ -87,12 +91,28 @@ ready_on w books b event step reply roster ready e told there owes =
           (few_on b few step reply fits owes done);
     }
 
--- the book of each member can make a step
+-- the book of each member is the member's, and can make a step
 pub ready_at : (w : Watched) (books : List Book) (b : Book) → AreReady w.roster books
-    → IsInRoster w → book_at w.roster books w.member.node ≡ Some b → IsReady b
-ready_at w books b ready is there = record {
-  fits = (fit_at w.roster books w.member.node b ready.kept.fit there).1;
-  one = kept_one_hash w books b ready.kept is there;
-  limits = all_at KeepsLimits w.roster books w.member.node b ready.limits there;
-  few = all_at KnowsFew w.roster books w.member.node b ready.few there;
-}
+    → IsInRoster w → book_at w.roster books w.member.node ≡ Some b → IsReady b × IsOfMember w.member b
+ready_at w books b ready is there =
+    let its = fit_at w.roster books w.member.node w.member b ready.kept.fit is there in (
+      record {
+        fits = its.1;
+        one = kept_one_hash w books b ready.kept is there;
+        limits = all_at KeepsLimits w.roster books w.member.node b ready.limits there;
+        few = all_at KnowsFew w.roster books w.member.node b ready.few there;
+      },
+      its.0,
+    )
+
+-- a step gives a segment of a log of the member's version
+pub of_log : (w : Watched) (event : Event) (step : Step) → IsEvent event
+    → whose w.roster event ≡ Ok (record { member = w.member; step = step })
+    → IsOfLog w.member.log_version step
+of_log w event step e told =
+    by step (checked_event w.roster (record { member = w.member; step = step }) event told e)
+  where
+    by : (step : Step) → IsCheckedStep w step → IsOfLog w.member.log_version step
+    by (Answer c) given =
+        given_version w c (of_member w.roster event (record { member = w.member; step = step }) told) given
+    by other h = tt

@@ -4,7 +4,8 @@ use Rattle.std.proofs.Common.{◌≡◌, ◌↔◌, ℕ, ◌+◌, Bool, true, fa
 use Rattle.std.proofs.Common.{◌∷◌, map, filter, length, Some, refl, sym, ap, inl}
 use Rattle.std.proofs.Common.{◌∙◌}
 use Rattle.authenticator.specs.declared.authenticator.Authenticator.{Authenticator}
-use Rattle.secure_log.specs.Segment.{ClosedParts}
+use Rattle.authenticator.specs.declared.member.LogVersion.{LogVersion}
+use Rattle.secure_log.specs.Versioned.{ClosedVersionedParts}
 use Rattle.envelopes.specs.Acknowledgement.{acked_message}
 use Rattle.witness_laws.specs.witness_spec.Refusals.{LearnedFull, NothingToAudit, NoJob, WrongJob}
 use Rattle.witness_laws.specs.witness_spec.Events.{JobParts, Question, ItsIndication, ItsChallenges}
@@ -18,7 +19,7 @@ use Rattle.witness_laws.specs.witness_spec.Steps.{Step, Learn, SendChallenge, An
 use Rattle.witness_laws.specs.witness_spec.Steps.{File, PutBack}
 use Rattle.witness_laws.specs.witness_spec.Steps.{Forward, Ask, Past}
 use Rattle.witness_laws.specs.witness_spec.Limits.{MAX_LEARNED, MAX_ASKED}
-use Rattle.witness_laws.specs.witness_spec.Pairs.{pair_of, same_pair, differ, is_shown, is_fork}
+use Rattle.witness_laws.specs.witness_spec.Pairs.{number_of, pair_of, same_pair, differ, is_shown, is_fork}
 use Rattle.witness_laws.specs.witness_spec.Standing.{End, Stage, NoAudit, Wanted, Given, Out, end_of, shown}
 use Rattle.witness_laws.specs.witness_spec.Standing.{is_exposed}
 use Rattle.witness_laws.specs.witness_spec.Standing.{kept}
@@ -37,60 +38,71 @@ use Rattle.witness_book_laws.proofs.Lists.{any_same, same_map, same_filter, max_
 
 -- ---- an audit asks for the same, in whatever order the learned stand
 
-reach_same : (end : ℕ) (xs ys : List Authenticator) → HoldSame xs ys
-    → last_in_reach end xs ≡ last_in_reach end ys
-reach_same end xs ys same =
-    max_same (filter (λ n. nat_le n (end + MAX_ASKED)) (map (λ a. a.word) xs))
-    (filter (λ n. nat_le n (end + MAX_ASKED)) (map (λ a. a.word) ys))
-    (same_filter (λ n. nat_le n (end + MAX_ASKED)) (map (λ (a : Authenticator). a.word) xs)
-    (map (λ a. a.word) ys) (same_map (λ (a : Authenticator). a.word) xs ys same))
+reach_same : (v : LogVersion) (end : ℕ) (xs ys : List Authenticator) → HoldSame xs ys
+    → last_in_reach v end xs ≡ last_in_reach v end ys
+reach_same v end xs ys same =
+    max_same (filter (λ n. nat_le n (end + MAX_ASKED)) (map (λ a. number_of v a) xs))
+    (filter (λ n. nat_le n (end + MAX_ASKED)) (map (λ a. number_of v a) ys))
+    (same_filter (λ n. nat_le n (end + MAX_ASKED)) (map (λ a. number_of v a) xs)
+    (map (λ a. number_of v a) ys) (same_map (λ a. number_of v a) xs ys same))
 
-ask_same : (is : Bool) (end waiting : ℕ) (xs ys : List Authenticator) → HoldSame xs ys
-    → ask_reply is end waiting xs ≡ ask_reply is end waiting ys
-ask_same true end waiting xs ys same = refl
-ask_same false end waiting [] [] same = refl
-ask_same false end waiting [] (y ∷ ys) same = absurd ((same y).1 (inl refl))
-ask_same false end waiting (x ∷ xs) [] same = absurd ((same x).0 (inl refl))
-ask_same false end waiting (x ∷ xs) (y ∷ ys) same =
-    ap (ask_up_to end waiting) (reach_same end (x ∷ xs) (y ∷ ys) same)
+ask_same : (v : LogVersion) (is : Bool) (end waiting : ℕ) (xs ys : List Authenticator) → HoldSame xs ys
+    → ask_reply v is end waiting xs ≡ ask_reply v is end waiting ys
+ask_same v true end waiting xs ys same = refl
+ask_same v false end waiting [] [] same = refl
+ask_same v false end waiting [] (y ∷ ys) same = absurd ((same y).1 (inl refl))
+ask_same v false end waiting (x ∷ xs) [] same = absurd ((same x).0 (inl refl))
+ask_same v false end waiting (x ∷ xs) (y ∷ ys) same =
+    ap (ask_up_to end waiting) (reach_same v end (x ∷ xs) (y ∷ ys) same)
 
-make : ℕ → ℕ → End → ClosedParts → JobParts
+make : ℕ → ℕ → End → ClosedVersionedParts → JobParts
 make node number end c = record { node = node; number = number; state = end.state; segment = c }
 
 module _ (w : Watched) (past : Past) (b : Book) (of : IsBookOf w past b)
     (is : exposed b ≡ is_exposed w past) (count : length b.learned ≡ length (kept w past)) where
   -- ---- each event
 
+  -- what the book replies to an authenticator of a log of a version
+  abbrev learn_in : LogVersion → Authenticator → Reply
+  learn_in v a =
+      cond (exposed b) Noted (cond (is_shown (pair_of v a) (book_shown b)) Already
+      (cond (not (is_fork (pair_of v a) (book_shown b)) && (nat_lt b.end.number (number_of v a)
+      && nat_le MAX_LEARNED (length b.learned))) (Refused LearnedFull) Noted))
+
   learns : (a : Authenticator) → owing.learn_reply w past a ≡ book_reply false b (Learn a)
   learns a =
-      let there = any_same (λ q. same_pair (pair_of a) q) (book_shown b) (shown w past) of.stands.pairs in
-      let fork = any_same (λ q. differ (pair_of a) q) (book_shown b) (shown w past) of.stands.pairs in
-      let room : owing.has_no_room w past a ≡ not (is_fork (pair_of a) (book_shown b))
-      && (nat_lt b.end.number a.word && nat_le MAX_LEARNED (length b.learned)) =
-      ap (λ x. not x && (nat_lt (end_of w past).number a.word
+      let v = w.member.log_version in
+      let there = any_same (λ q. same_pair (pair_of v a) q) (book_shown b) (shown w past) of.stands.pairs in
+      let fork = any_same (λ q. differ (pair_of v a) q) (book_shown b) (shown w past) of.stands.pairs in
+      let room : owing.has_no_room w past a ≡ not (is_fork (pair_of v a) (book_shown b))
+      && (nat_lt b.end.number (number_of v a) && nat_le MAX_LEARNED (length b.learned)) =
+      ap (λ x. not x && (nat_lt (end_of w past).number (number_of v a)
       && nat_le MAX_LEARNED (length (kept w past)))) (sym fork)
-      ∙ (ap (λ (e : End). not (is_fork (pair_of a) (book_shown b)) && (nat_lt e.number a.word
+      ∙ (ap (λ (e : End). not (is_fork (pair_of v a) (book_shown b)) && (nat_lt e.number (number_of v a)
       && nat_le MAX_LEARNED (length (kept w past)))) (sym of.stands.end)
-      ∙ ap (λ n. not (is_fork (pair_of a) (book_shown b)) && (nat_lt b.end.number a.word
+      ∙ ap (λ n. not (is_fork (pair_of v a) (book_shown b)) && (nat_lt b.end.number (number_of v a)
       && nat_le MAX_LEARNED n)) (sym count)) in
-      ap (λ x. cond x Noted (cond (is_shown (pair_of a) (shown w past)) Already
+      ap (λ x. cond x Noted (cond (is_shown (pair_of v a) (shown w past)) Already
       (cond (owing.has_no_room w past a) (Refused LearnedFull) Noted))) (sym is)
       ∙ (ap (λ x. cond (exposed b) Noted (cond x Already
       (cond (owing.has_no_room w past a) (Refused LearnedFull) Noted))) (sym there)
-      ∙ ap (λ x. cond (exposed b) Noted (cond (is_shown (pair_of a) (book_shown b)) Already
-      (cond x (Refused LearnedFull) Noted))) room)
+      ∙ (ap (λ x. cond (exposed b) Noted (cond (is_shown (pair_of v a) (book_shown b)) Already
+      (cond x (Refused LearnedFull) Noted))) room
+      ∙ ap (λ u. learn_in u a) (sym of.of_member.version)))
 
-  asks : ask_reply (is_exposed w past) (end_of w past).number (length (outbox w past))
+  asks : ask_reply w.member.log_version (is_exposed w past) (end_of w past).number (length (outbox w past))
       (kept w past)
-      ≡ ask_reply (exposed b) b.end.number (length b.outbox) b.learned
+      ≡ ask_reply b.log_version (exposed b) b.end.number (length b.outbox) b.learned
   asks =
-      sym (ask_same (exposed b) b.end.number (length b.outbox) b.learned (kept w past) of.stands.learned
-      ∙ (ap (λ x. ask_reply x b.end.number (length b.outbox) (kept w past)) is
-      ∙ (ap (λ (e : End). ask_reply (is_exposed w past) e.number (length b.outbox)
+      let v = w.member.log_version in
+      sym (ap (λ u. ask_reply u (exposed b) b.end.number (length b.outbox) b.learned) of.of_member.version
+      ∙ (ask_same v (exposed b) b.end.number (length b.outbox) b.learned (kept w past) of.stands.learned
+      ∙ (ap (λ x. ask_reply v x b.end.number (length b.outbox) (kept w past)) is
+      ∙ (ap (λ (e : End). ask_reply v (is_exposed w past) e.number (length b.outbox)
       (kept w past)) of.stands.end
-      ∙ ap (λ (xs : List Authenticator). ask_reply (is_exposed w past) (end_of w past).number
+      ∙ ap (λ (xs : List Authenticator). ask_reply v (is_exposed w past) (end_of w past).number
       (length xs)
-      (kept w past)) of.stands.outbox)))
+      (kept w past)) of.stands.outbox))))
 
   audits : (s : Stage) → owing.audit_reply w past s ≡ reply_to_audit b s
   audits NoAudit = asks
@@ -99,13 +111,13 @@ module _ (w : Watched) (past : Past) (b : Book) (of : IsBookOf w past b)
   audits (Out c) = refl
 
   -- the job of a segment with a number
-  same_job : (n k : ℕ) (c : ClosedParts) → n ≡ k
+  same_job : (n k : ℕ) (c : ClosedVersionedParts) → n ≡ k
       → make b.node n b.end c ≡ make w.member.node k (end_of w past) c
   same_job n k c e =
-      ap (λ x. make x n b.end c) of.node
+      ap (λ x. make x n b.end c) of.of_member.node
       ∙ (ap (λ x. make w.member.node x b.end c) e ∙ ap (λ x. make w.member.node k x c) of.stands.end)
 
-  begun_job : (c : ClosedParts) → owing.next_job w past c ≡ books.job_of b (b.begun + 1) c
+  begun_job : (c : ClosedVersionedParts) → owing.next_job w past c ≡ books.job_of b (b.begun + 1) c
   unfolding make
   begun_job c = sym (same_job (b.begun + 1) (begins past + 1) c (ap (λ n. n + 1) of.stands.begun))
 

@@ -1,140 +1,138 @@
--- Places in segments, and segments that follow on one another.
+-- Marks of segments, and segments that follow on one another.
 -- Serves: all laws here.
 use Rattle.std.proofs.Common.{◌≡◌, ◌⊎◌, inl, inr, ℕ, ◌+◌, ◌-◌, ◌<◌, ◌≤◌, Bool, true, false, cond, nat_lt}
-use Rattle.std.proofs.Common.{nat_le}
-use Rattle.std.proofs.Common.{List, [], ◌∷◌, ◌++◌, length, filter, flat_map, refl, sym, ap, ap₂, subst, ◌∙◌}
-use Rattle.std.proofs.Common.{arith}
-use Rattle.std.proofs.Common.{append-nil}
+use Rattle.std.proofs.Common.{nat_le, List, [], ◌∷◌, ◌++◌, filter, flat_map, refl, sym, ap, ap₂, subst, ◌∙◌}
+use Rattle.std.proofs.Common.{arith, append-nil}
 use Rattle.std.proofs.lemmas.Bool.{ltb-true, ltb-false, le-leb, leb-true}
 use Rattle.std.proofs.lemmas.List.Elements.{filter-append}
-use Rattle.secure_log.specs.declared.log_entries.entry.Entry.{Entry}
-use Rattle.secure_log.specs.LogEntries.Chain.{pairs, hash_after, last_hash, link_of, links_from}
-use Rattle.secure_log.specs.Segment.{SegmentParts, segment_pairs}
-use Rattle.secure_log.specs.LogEntries.Chain.{IsAmong}
-use Rattle.witness_laws.specs.witness_spec.Pairs.{pair_of}
+use Rattle.secure_log.specs.Versioned.{VersionedParts, versioned_links, EndsIn}
+use Rattle.secure_log.specs.LogEntries.Chain.{IsAmong, last_number}
+use Rattle.secure_log.proofs.Gaps.{closing_number}
+use Rattle.witness_laws.specs.witness_spec.Pairs.{last_of, marks_of}
 use Rattle.witness_laws.specs.witness_spec.Standing.{Stage, NoAudit, Wanted, Given, Out}
 use Rattle.witness_laws.specs.witness_spec.Histories.{HoldSame}
 use Rattle.witness_book_laws.specs.Books.{Book, exposed, is_audited, book_audited}
 use Rattle.witness_book_laws.specs.Fitting.{IsWhole, Tile, Follows, IsOne, IsMore, AreTiles}
-use Rattle.witness_laws.proofs.evidence_spec.Places.{AreNumbered, entries_numbered, length-links}
-use Rattle.witness_laws.proofs.OfEvidence.Before.{HasHash, has_hash, on_left}
+use Rattle.witness_laws.proofs.OfEvidence.Audits.{are_numbered}
+use Rattle.witness_laws.proofs.OfEvidence.Before.{on_left}
+use Rattle.witness_laws.proofs.OfEvidence.Marks.{HasMark, has_mark, mark_within, last_there, last_spans}
 
--- ---- places
+-- ---- marks
 
-last_place : (before : ℕ) (opening : List ℕ) (es : List Entry)
-    → IsAmong (before + length es, last_hash opening (links_from (before + 1) es))
-    (pairs before opening (links_from (before + 1) es))
-last_place before opening [] =
-    let same : before + 0 ≡ before = omega arith in inl (ap (λ (k : ℕ). (k, opening)) same)
-last_place before opening (e ∷ es) =
-    let rest = last_place (before + 1) (hash_after opening (link_of (before + 1) e)) es in
-    let same : before + 1 + length es ≡ before + length (e ∷ es) = omega arith in
-    inr (subst (λ k. IsAmong (k, last_hash opening (links_from (before + 1) (e ∷ es)))
-    (pairs (before + 1) (hash_after opening (link_of (before + 1) e)) (links_from (before + 1 + 1) es))) same
-    rest)
+-- the last number of a whole segment is that of the last of its links
+pub last_number_is : (s : VersionedParts) → IsWhole s
+    → last_number (s.first - 1) (versioned_links s) ≡ last_of s
+last_number_is s w = omega (arith, last_spans (s.first - 1) s.entries, w.count, w.some)
 
--- each number of a segment, and the one before it, has a hash there
-pub hash_at : (s : SegmentParts) (n : ℕ) → IsWhole s → s.first ≤ n + 1 → n ≤ s.closing.word
-    → HasHash (segment_pairs s) n
-hash_at s n w low high =
-    let back : s.first ≡ s.first - 1 + 1 = omega (arith, w.some) in
-    has_hash (s.first - 1) s.opening (links_from s.first s.entries) n
-    (subst (λ k. AreNumbered k (links_from s.first s.entries)) back (entries_numbered s.first s.entries))
-    (omega (arith, low)) (omega (arith, high, w.count, w.some, length-links s.first s.entries))
+-- each number of a segment, and the one before it, has a mark there
+pub mark_at : (s : VersionedParts) (n : ℕ) → IsWhole s → s.first ≤ n + 1 → n ≤ last_of s
+    → HasMark (marks_of s) n
+mark_at s n w low high =
+    has_mark (s.first - 1) s.opening (versioned_links s) n (are_numbered s) (omega (arith, low))
+    (omega (arith, high, last_number_is s w))
 
--- a segment that ends in its closing shows the closing's pair
-pub closes : (s : SegmentParts) → 0 < s.first → s.closing.word + 1 ≡ s.first + length s.entries
-    → s.closing.hash ≡ last_hash s.opening (links_from s.first s.entries)
-    → IsAmong (pair_of s.closing) (segment_pairs s)
-closes s some count hash =
-    let back : s.first - 1 + 1 ≡ s.first = omega (arith, some) in
-    let number : s.first - 1 + length s.entries ≡ s.closing.word = omega (arith, some, count) in
-    subst (λ p. IsAmong p (segment_pairs s))
-    (ap₂ (λ (n : ℕ) (x : List ℕ). (n, x)) number (sym hash))
-    (subst (λ k. IsAmong (s.first - 1 + length s.entries, last_hash s.opening (links_from k s.entries))
-    (pairs (s.first - 1) s.opening (links_from k s.entries))) back
-    (last_place (s.first - 1) s.opening s.entries))
+-- no other number has one
+pub marked : (s : VersionedParts) (n : ℕ) (x : List ℕ) → IsWhole s → IsAmong (n, x) (marks_of s)
+    → (s.first ≤ n + 1) × (n ≤ last_of s)
+marked s n x w i =
+    let r = mark_within (s.first - 1) s.opening (versioned_links s) n x (are_numbered s) i in
+    (omega (arith, r.0), omega (arith, r.1, last_number_is s w))
+
+-- a segment that ends in its closing is whole
+pub ends_whole : (s : VersionedParts) → EndsIn s → IsWhole s
+ends_whole s e =
+    let links = versioned_links s in
+    let number : last_of s ≡ last_number (s.first - 1) links =
+    closing_number s.log_version (s.first - 1) links s.closing.word e.skips e.last in
+    record {
+      some = e.first;
+      count = omega (arith, number, last_spans (s.first - 1) s.entries, e.first);
+      skips = e.skips;
+      closes = subst (λ p. IsAmong p (marks_of s))
+          (ap₂ (λ (n : ℕ) (x : List ℕ). (n, x)) (sym number) (sym e.hash))
+          (last_there (s.first - 1) s.opening links);
+    }
 
 -- ---- tiles
 
 -- a segment of these holds a number
-pub record IsHeldIn (segments : List SegmentParts) (n : ℕ) : Type 0 where
+pub record IsHeldIn (segments : List VersionedParts) (n : ℕ) : Type 0 where
   -- the segment
-  pub segment : SegmentParts
+  pub segment : VersionedParts
   -- it is there
   pub among : IsAmong segment segments
   -- the number isn't before its first
   pub from : segment.first ≤ n
   -- nor after its last
-  pub to : n ≤ segment.closing.word
+  pub to : n ≤ last_of segment
 
 -- one segment more
-pub tile_more : (first : ℕ) (ss : List SegmentParts) (end : ℕ) (s : SegmentParts) → Tile first ss (end + 1)
-    → Follows end s → Tile first (ss ++ s ∷ []) (s.closing.word + 1)
+pub tile_more : (first : ℕ) (ss : List VersionedParts) (end : ℕ) (s : VersionedParts)
+    → Tile first ss (end + 1) → Follows end s → Tile first (ss ++ s ∷ []) (last_of s + 1)
 tile_more first [] end s t f = (f.first ∙ sym t, omega (arith, f.some, t), refl)
-tile_more first (x ∷ ss) end s t f = (t.0, t.1, tile_more (x.closing.word + 1) ss end s t.2 f)
+tile_more first (x ∷ ss) end s t f = (t.0, t.1, tile_more (last_of x + 1) ss end s t.2 f)
 
 -- they go up
-pub tile_up : (first : ℕ) (ss : List SegmentParts) (next : ℕ) → Tile first ss next → first ≤ next
+pub tile_up : (first : ℕ) (ss : List VersionedParts) (next : ℕ) → Tile first ss next → first ≤ next
 tile_up first [] next t = omega (arith, t)
-tile_up first (x ∷ ss) next t = omega (arith, t.1, tile_up (x.closing.word + 1) ss next t.2)
+tile_up first (x ∷ ss) next t = omega (arith, t.1, tile_up (last_of x + 1) ss next t.2)
 
 -- each lies between the first number and the next
-pub tile_between : (first : ℕ) (ss : List SegmentParts) (next : ℕ) (s : SegmentParts) → Tile first ss next
-    → IsAmong s ss → (first ≤ s.first) × (s.closing.word < next)
+pub tile_between : (first : ℕ) (ss : List VersionedParts) (next : ℕ) (s : VersionedParts) → Tile first ss next
+    → IsAmong s ss → (first ≤ s.first) × (last_of s < next)
 tile_between first [] next s t i = absurd i
 tile_between first (x ∷ ss) next s t (inl e) =
-    let a : s.first ≡ x.first = ap (λ (y : SegmentParts). y.first) e in
-    let b : s.closing.word ≡ x.closing.word = ap (λ (y : SegmentParts). y.closing.word) e in
-    (omega (arith, a, t.0), omega (arith, b, tile_up (x.closing.word + 1) ss next t.2))
+    let a : s.first ≡ x.first = ap (λ (y : VersionedParts). y.first) e in
+    let b : last_of s ≡ last_of x = ap last_of e in
+    (omega (arith, a, t.0), omega (arith, b, tile_up (last_of x + 1) ss next t.2))
 tile_between first (x ∷ ss) next s t (inr i) =
-    let r = tile_between (x.closing.word + 1) ss next s t.2 i in (omega (arith, r.0, t.1), r.1)
+    let r = tile_between (last_of x + 1) ss next s t.2 i in (omega (arith, r.0, t.1), r.1)
 
 -- each number between lies in one
-pub tile_holds : (first : ℕ) (ss : List SegmentParts) (next n : ℕ) → Tile first ss next → first ≤ n → n < next
-    → IsHeldIn ss n
+pub tile_holds : (first : ℕ) (ss : List VersionedParts) (next n : ℕ) → Tile first ss next → first ≤ n
+    → n < next → IsHeldIn ss n
 tile_holds first [] next n t low high = absurd (omega (arith, t, low, high))
 tile_holds first (x ∷ ss) next n t low high =
-    by (nat_lt x.closing.word n) refl (λ more. tile_holds (x.closing.word + 1) ss next n t.2 more high)
+    by (nat_lt (last_of x) n) refl (λ more. tile_holds (last_of x + 1) ss next n t.2 more high)
   where
-    by : (b : Bool) → nat_lt x.closing.word n ≡ b → (x.closing.word + 1 ≤ n → IsHeldIn ss n)
+    by : (b : Bool) → nat_lt (last_of x) n ≡ b → (last_of x + 1 ≤ n → IsHeldIn ss n)
         → IsHeldIn (x ∷ ss) n
     by true e rest =
-        let r = rest (omega (arith, ltb-true x.closing.word n e)) in
+        let r = rest (omega (arith, ltb-true (last_of x) n e)) in
         record { segment = r.segment; among = inr r.among; from = r.from; to = r.to }
     by false e rest = record {
       segment = x;
       among = inl refl;
       from = omega (arith, t.0, low);
-      to = omega (arith, ltb-false x.closing.word n e);
+      to = omega (arith, ltb-false (last_of x) n e);
     }
 
 -- one alone holds a number
-pub tile_one : (first : ℕ) (ss : List SegmentParts) (next n : ℕ) → Tile first ss next → (x y : SegmentParts)
-    → IsAmong x ss → IsAmong y ss → (x.first ≤ n) × (n ≤ x.closing.word)
-    → (y.first ≤ n) × (n ≤ y.closing.word) → x ≡ y
+pub tile_one : (first : ℕ) (ss : List VersionedParts) (next n : ℕ) → Tile first ss next
+    → (x y : VersionedParts) → IsAmong x ss → IsAmong y ss → (x.first ≤ n) × (n ≤ last_of x)
+    → (y.first ≤ n) × (n ≤ last_of y) → x ≡ y
 tile_one first [] next n t x y i j f g = absurd i
 tile_one first (z ∷ ss) next n t x y (inl d) (inl e) f g = d ∙ sym e
 tile_one first (z ∷ ss) next n t x y (inl d) (inr j) f g =
-    let a : x.closing.word ≡ z.closing.word = ap (λ (s : SegmentParts). s.closing.word) d in
-    absurd (omega (arith, a, f.1, g.0, (tile_between (z.closing.word + 1) ss next y t.2 j).0))
+    let a : last_of x ≡ last_of z = ap last_of d in
+    absurd (omega (arith, a, f.1, g.0, (tile_between (last_of z + 1) ss next y t.2 j).0))
 tile_one first (z ∷ ss) next n t x y (inr i) (inl e) f g =
-    let a : y.closing.word ≡ z.closing.word = ap (λ (s : SegmentParts). s.closing.word) e in
-    absurd (omega (arith, a, g.1, f.0, (tile_between (z.closing.word + 1) ss next x t.2 i).0))
+    let a : last_of y ≡ last_of z = ap last_of e in
+    absurd (omega (arith, a, g.1, f.0, (tile_between (last_of z + 1) ss next x t.2 i).0))
 tile_one first (z ∷ ss) next n t x y (inr i) (inr j) f g =
-    tile_one (z.closing.word + 1) ss next n t.2 x y i j f g
+    tile_one (last_of z + 1) ss next n t.2 x y i j f g
 
 -- ---- the segments of a book
 
 -- all of them follow on one another
-pub record IsTiled (segments : List SegmentParts) : Type 0 where
+pub record IsTiled (segments : List VersionedParts) : Type 0 where
   -- the number after the last
   pub next : ℕ
   -- they follow on one another up to it
   pub tile : Tile 1 segments next
 
-all_tiled : (end : ℕ) (is_exposed : Bool) (s : Stage) (done more : List SegmentParts) → Tile 1 done (end + 1)
-    → IsMore end is_exposed s more → IsTiled (done ++ more)
+all_tiled : (end : ℕ) (is_exposed : Bool) (s : Stage) (done more : List VersionedParts)
+    → Tile 1 done (end + 1) → IsMore end is_exposed s more → IsTiled (done ++ more)
 all_tiled end x s done more t rest = by s rest
   where
     none : more ≡ [] → IsTiled (done ++ more)
@@ -144,10 +142,10 @@ all_tiled end x s done more t rest = by s rest
           tile = subst (λ l. Tile 1 l (end + 1)) (sym (ap (λ l. done ++ l) e ∙ append-nil done)) t;
         }
 
-    one : (c : SegmentParts) → IsOne end c more → IsTiled (done ++ more)
+    one : (c : VersionedParts) → IsOne end c more → IsTiled (done ++ more)
     one c o = record {
-      next = c.closing.word + 1;
-      tile = subst (λ l. Tile 1 (done ++ l) (c.closing.word + 1)) (sym o.is)
+      next = last_of c + 1;
+      tile = subst (λ l. Tile 1 (done ++ l) (last_of c + 1)) (sym o.is)
           (tile_more 1 done end c t o.follows);
     }
 
@@ -177,16 +175,16 @@ held b n t low high =
 
 -- ---- audited entries
 
-within_end : (first end : ℕ) (ss : List SegmentParts) → Tile first ss (end + 1)
+within_end : (first end : ℕ) (ss : List VersionedParts) → Tile first ss (end + 1)
     → filter (λ s. is_audited end s) ss ≡ ss
 within_end first end [] t = refl
 within_end first end (x ∷ ss) t =
-    let low : x.closing.word ≤ end = omega (arith, tile_up (x.closing.word + 1) ss (end + 1) t.2) in
+    let low : last_of x ≤ end = omega (arith, tile_up (last_of x + 1) ss (end + 1) t.2) in
     ap (λ c. cond c (x ∷ filter (λ s. is_audited end s) ss) (filter (λ s. is_audited end s) ss))
-    (le-leb x.closing.word end low)
-    ∙ ap (λ l. x ∷ l) (within_end (x.closing.word + 1) end ss t.2)
+    (le-leb (last_of x) end low)
+    ∙ ap (λ l. x ∷ l) (within_end (last_of x + 1) end ss t.2)
 
-past_end : (end : ℕ) (x : Bool) (s : Stage) (more : List SegmentParts) → IsMore end x s more
+past_end : (end : ℕ) (x : Bool) (s : Stage) (more : List VersionedParts) → IsMore end x s more
     → filter (λ s. is_audited end s) more ≡ []
 past_end end x s more rest = by s rest
   where
@@ -197,11 +195,11 @@ past_end end x s more rest = by s rest
     not_le n false e h = refl
     not_le n true e h = absurd (omega (arith, h, leb-true n end e))
 
-    one : (c : SegmentParts) → IsOne end c more → filter (λ s. is_audited end s) more ≡ []
+    one : (c : VersionedParts) → IsOne end c more → filter (λ s. is_audited end s) more ≡ []
     one c o =
         ap (λ l. filter (λ s. is_audited end s) l) o.is
         ∙ ap (λ b. cond b (c ∷ []) [])
-        (not_le c.closing.word (nat_le c.closing.word end) refl o.follows.some)
+        (not_le (last_of c) (nat_le (last_of c) end) refl o.follows.some)
 
     by : (s : Stage) → IsMore end x s more → filter (λ s. is_audited end s) more ≡ []
     by NoAudit (inl e) = none e
@@ -212,18 +210,18 @@ past_end end x s more rest = by s rest
 
 -- a book's audited entries are those of its audited segments
 pub audited_are : (b : Book) (t : AreTiles b)
-    → book_audited b ≡ flat_map (λ (s : SegmentParts). s.entries) t.audited
+    → book_audited b ≡ flat_map (λ (s : VersionedParts). s.entries) t.audited
 audited_are b t =
-    let test = λ (s : SegmentParts). is_audited b.end.number s in
-    ap (λ l. flat_map (λ (s : SegmentParts). s.entries) (filter test l)) t.are
-    ∙ ap (λ l. flat_map (λ (s : SegmentParts). s.entries) l)
+    let test = λ (s : VersionedParts). is_audited b.end.number s in
+    ap (λ l. flat_map (λ (s : VersionedParts). s.entries) (filter test l)) t.are
+    ∙ ap (λ l. flat_map (λ (s : VersionedParts). s.entries) l)
     (filter-append test t.audited t.more
-    ∙ (ap₂ (λ (k l : List SegmentParts). k ++ l) (within_end 1 b.end.number t.audited t.tile)
+    ∙ (ap₂ (λ (k l : List VersionedParts). k ++ l) (within_end 1 b.end.number t.audited t.tile)
     (past_end b.end.number (exposed b) b.stage t.more t.rest)
     ∙ append-nil t.audited))
 
 -- what was accepted and isn't audited is the audit's, also where the node is exposed
-pub more_exposed : (end : ℕ) (x y : Bool) (s : Stage) (more : List SegmentParts) → (x ≡ true → y ≡ true)
+pub more_exposed : (end : ℕ) (x y : Bool) (s : Stage) (more : List VersionedParts) → (x ≡ true → y ≡ true)
     → IsMore end x s more → IsMore end y s more
 more_exposed end x y NoAudit more then (inl e) = inl e
 more_exposed end x y NoAudit more then (inr f) =
@@ -234,23 +232,23 @@ more_exposed end x y (Out c) more then r = r
 
 -- ---- one row of tiles
 
-head_first : (first : ℕ) (x : SegmentParts) (ss : List SegmentParts) (next : ℕ) → Tile first (x ∷ ss) next
-    → (x.first ≤ first) × (first ≤ x.closing.word)
+head_first : (first : ℕ) (x : VersionedParts) (ss : List VersionedParts) (next : ℕ) → Tile first (x ∷ ss) next
+    → (x.first ≤ first) × (first ≤ last_of x)
 head_first first x ss next t = (omega (arith, t.0), t.1)
 
-rest_within : (first : ℕ) (x : SegmentParts) (xs ys : List SegmentParts) (n : ℕ) → Tile first (x ∷ xs) n
-    → ((s : SegmentParts) → IsAmong s (x ∷ xs) → IsAmong s (x ∷ ys))
-    → (s : SegmentParts) → IsAmong s xs → IsAmong s ys
+rest_within : (first : ℕ) (x : VersionedParts) (xs ys : List VersionedParts) (n : ℕ) → Tile first (x ∷ xs) n
+    → ((s : VersionedParts) → IsAmong s (x ∷ xs) → IsAmong s (x ∷ ys))
+    → (s : VersionedParts) → IsAmong s xs → IsAmong s ys
 rest_within first x xs ys n t within s i = by (within s (inr i))
   where
     by : (s ≡ x) ⊎ IsAmong s ys → IsAmong s ys
     by (inr j) = j
     by (inl e) =
-        let a : s.first ≡ x.first = ap (λ (y : SegmentParts). y.first) e in
-        absurd (omega (arith, a, t.0, t.1, (tile_between (x.closing.word + 1) xs n s t.2 i).0))
+        let a : s.first ≡ x.first = ap (λ (y : VersionedParts). y.first) e in
+        absurd (omega (arith, a, t.0, t.1, (tile_between (last_of x + 1) xs n s t.2 i).0))
 
 -- segments that hold the same, and both follow on one another from one number on, are the same
-pub tiles_same : (first : ℕ) (xs ys : List SegmentParts) (n k : ℕ) → Tile first xs n → Tile first ys k
+pub tiles_same : (first : ℕ) (xs ys : List VersionedParts) (n k : ℕ) → Tile first xs n → Tile first ys k
     → HoldSame xs ys → xs ≡ ys
 tiles_same first [] [] n k t u same = refl
 tiles_same first [] (y ∷ ys) n k t u same = absurd ((same y).1 (inl refl))
@@ -260,8 +258,8 @@ tiles_same first (x ∷ xs) (y ∷ ys) n k t u same =
     (head_first first y ys k u) (head_first first x xs n t) in
     let v : Tile first (x ∷ ys) k = subst (λ z. Tile first (z ∷ ys) k) is u in
     let both : HoldSame (x ∷ xs) (x ∷ ys) = subst (λ z. HoldSame (x ∷ xs) (z ∷ ys)) is same in
-    ap₂ (λ (z : SegmentParts) (zs : List SegmentParts). z ∷ zs) (sym is)
-    (tiles_same (x.closing.word + 1) xs ys n k t.2 v.2
+    ap₂ (λ (z : VersionedParts) (zs : List VersionedParts). z ∷ zs) (sym is)
+    (tiles_same (last_of x + 1) xs ys n k t.2 v.2
     (λ s. (
       rest_within first x xs ys n t (λ z. (both z).0) s,
       rest_within first x ys xs k v (λ z. (both z).1) s,

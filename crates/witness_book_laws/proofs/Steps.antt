@@ -11,12 +11,14 @@ use Rattle.std.proofs.lemmas.Bool.{and_parts, true≢false, ltb-false}
 use Rattle.std.proofs.lemmas.List.Sums.{sum_by_from}
 use Rattle.std.proofs.lemmas.Option.{same_Some}
 use Rattle.authenticator.specs.declared.authenticator.Authenticator.{Authenticator}
+use Rattle.authenticator.specs.declared.member.LogVersion.{LogVersion}
 use Rattle.authenticator.specs.declared.member.Member.{Member}
-use Rattle.secure_log.specs.Segment.{ClosedParts, segment_pairs}
+use Rattle.secure_log.specs.Versioned.{ClosedVersionedParts}
 use Rattle.envelopes.specs.declared.envelope.Envelope.{Envelope}
 use Rattle.envelopes.specs.declared.acknowledgement.Ack.{Ack}
 use Rattle.witness_laws.specs.state_spec.State.{State}
-use Rattle.replay_spec.specs.Replay.{segment_verdict}
+use Rattle.replay_spec.specs.Placed.{places_in}
+use Rattle.replay_spec.specs.Replay.{verdict_of}
 use Rattle.secure_log.specs.LogEntries.Chain.{IsAmong}
 use Rattle.witness_laws.specs.witness_spec.Refusals.{NotAsked, TooFar, BookFull, OutboxFull, LearnedFull}
 use Rattle.witness_laws.specs.witness_spec.Refusals.{NothingToAudit}
@@ -25,12 +27,12 @@ use Rattle.witness_laws.specs.witness_spec.Replies.{Reply, Noted, Already, Opene
 use Rattle.witness_laws.specs.witness_spec.Replies.{Job, Filed}
 use Rattle.witness_laws.specs.witness_spec.Replies.{Returned}
 use Rattle.witness_laws.specs.witness_spec.Replies.{Forwarded, Refused, Challenge}
-use Rattle.witness_laws.specs.witness_spec.Watched.{Watched}
+use Rattle.witness_laws.specs.witness_spec.Watched.{Watched, IsInRoster}
 use Rattle.witness_laws.specs.witness_spec.Steps.{Step, Learn, SendChallenge, Answer, AckIn, Audit, Begin}
 use Rattle.witness_laws.specs.witness_spec.Steps.{File, PutBack}
 use Rattle.witness_laws.specs.witness_spec.Steps.{Forward, Ask, Past}
 use Rattle.witness_laws.specs.witness_spec.Limits.{MAX_AUDITED, MAX_OUTBOX}
-use Rattle.witness_laws.specs.witness_spec.Pairs.{pair_of, is_shown}
+use Rattle.witness_laws.specs.witness_spec.Pairs.{number_of, pair_of, is_shown, last_of, marks_of}
 use Rattle.witness_laws.specs.witness_spec.Done as did
 use Rattle.witness_laws.specs.witness_spec.Done.{forwarded}
 use Rattle.witness_laws.specs.witness_spec.Standing.{End, end_of, entries_filed, audited, shown, is_exposed}
@@ -52,7 +54,7 @@ use Rattle.witness_laws.proofs.Reach.{in_reach}
 use Rattle.witness_laws.proofs.OfEvidence.Before.{one_shown}
 use Rattle.witness_laws.proofs.OfEvidence.Before.{on_right}
 use Rattle.witness_book_laws.proofs.Kept.{shows, Learned, Segment}
-use Rattle.witness_book_laws.proofs.Segments.{hash_at}
+use Rattle.witness_book_laws.proofs.Segments.{mark_at}
 use Rattle.witness_book_laws.proofs.Quiet.{Exposure, DoesNothing, quiet, found_stays, having_challenged}
 use Rattle.witness_book_laws.proofs.Quiet.{kept_stays}
 use Rattle.witness_book_laws.proofs.Quiet.{having_acked, having_asked, having_begun, having_put_back}
@@ -65,7 +67,7 @@ use Rattle.witness_book_laws.proofs.Filed.{filed_known}
 -- a done value's verdict is the replay of its own state and segment, under the roster that its segment keeps
 abbrev pub IsDoneStep : Step → Type 0
 IsDoneStep (File d) =
-    d.verdict ≡ segment_verdict d.job.segment.roster d.job.state d.job.segment.segment
+    d.verdict ≡ verdict_of d.job.segment.roster d.job.state (places_in d.job.segment.segment)
 IsDoneStep _ = Unit {0}
 
 -- ---- the parts of a book whose challenges and outbox change
@@ -76,6 +78,7 @@ fits_with b c o f = record {
   above = f.above;
   differ = f.differ;
   whole = f.whole;
+  version = f.version;
   tiles = record {
     audited = f.tiles.audited;
     more = f.tiles.more;
@@ -89,12 +92,13 @@ fits_with b c o f = record {
 
 -- those of a book whose audit changes
 fits_at : (b : Book) (s : Stage) (n : ℕ) (c : List Challenge) → (f : FitsTogether b)
-    → IsMore b.end.number (exposed b) s f.tiles.more → AgreesAt s b.learned
+    → IsMore b.end.number (exposed b) s f.tiles.more → AgreesAt b.log_version s b.learned
     → FitsTogether (record b { stage = s; begun = n; challenges = c })
 fits_at b s n c f rest agrees = record {
   above = f.above;
   differ = f.differ;
   whole = f.whole;
+  version = f.version;
   tiles = record {
     audited = f.tiles.audited;
     more = f.tiles.more;
@@ -126,54 +130,60 @@ pub record Asks (b : Book) (first last : ℕ) : Type 0 where
 asked_same : (f l k n : ℕ) → Asked f l ≡ Asked k n → (f ≡ k) × (l ≡ n)
 asked_same f l k n h = (cc, cc)
 
-all_by : (end : ℕ) (xs : List Authenticator) → ((a : Authenticator) → IsAmong a xs → end < a.word)
-    → AllByRecursion (λ (a : Authenticator). end < a.word) xs
-all_by end [] each = tt
-all_by end (x ∷ xs) each = (each x (inl refl), all_by end xs (λ a i. each a (inr i)))
+all_by : (v : LogVersion) (end : ℕ) (xs : List Authenticator)
+    → ((a : Authenticator) → IsAmong a xs → end < number_of v a)
+    → AllByRecursion (λ a. end < number_of v a) xs
+all_by v end [] each = tt
+all_by v end (x ∷ xs) each = (each x (inl refl), all_by v end xs (λ a i. each a (inr i)))
+
+-- the last number that an audit of a book can ask for; 0 if there is none
+abbrev reach : Book → ℕ
+reach b = last_in_reach b.log_version b.end.number b.learned
 
 -- what a reply that asks tells of the book
 pub asks : (b : Book) (first last : ℕ) → FitsTogether b → Asked first last ≡ reply_to_audit b b.stage
     → Asks b first last
 asks b first last fits told = by b.stage refl (told)
   where
-    upto : (x y z : Bool) → (last_in_reach b.end.number b.learned == 0) ≡ x
-        → nat_lt MAX_AUDITED (last_in_reach b.end.number b.learned) ≡ y
-        → nat_lt MAX_OUTBOX (length b.outbox + (last_in_reach b.end.number b.learned - b.end.number)) ≡ z
+    upto : (x y z : Bool) → (reach b == 0) ≡ x
+        → nat_lt MAX_AUDITED (reach b) ≡ y
+        → nat_lt MAX_OUTBOX (length b.outbox + (reach b - b.end.number)) ≡ z
         → b.stage ≡ NoAudit → exposed b ≡ false
         → Asked first last ≡ cond x (Refused TooFar) (cond y (Refused BookFull) (cond z (Refused OutboxFull)
-        (Asked (b.end.number + 1) (last_in_reach b.end.number b.learned))))
+        (Asked (b.end.number + 1) (reach b))))
         → Asks b first last
     upto true y z e f g none hidden h = absurd (cc)
     upto false true z e f g none hidden h = absurd (cc)
     upto false false true e f g none hidden h = absurd (cc)
     upto false false false e f g none hidden h =
-        let same = asked_same first last (b.end.number + 1) (last_in_reach b.end.number b.learned) h in
-        let reach = in_reach b.learned b.end.number b.learned (λ a i. i)
-        (all_by b.end.number b.learned fits.above) e in
+        let same = asked_same first last (b.end.number + 1) (reach b) h in
+        let reached = in_reach b.log_version b.learned b.end.number b.learned (λ a i. i)
+        (all_by b.log_version b.end.number b.learned fits.above) e in
         record {
           none = none;
           hidden = hidden;
           first_is = same.0;
-          order = omega (arith, same.0, same.1, reach.0.order);
-          few = omega (arith, same.1, ltb-false MAX_AUDITED (last_in_reach b.end.number b.learned) f);
+          order = omega (arith, same.0, same.1, reached.0.order);
+          few = omega (arith, same.1, ltb-false MAX_AUDITED (reach b) f);
           room = omega (
             arith,
             same.1,
             ltb-false MAX_OUTBOX
-                (length b.outbox + (last_in_reach b.end.number b.learned - b.end.number)) g,
+                (length b.outbox + (reach b - b.end.number)) g,
           );
         }
 
     by_learned : (x : Bool) (l : List Authenticator) → b.learned ≡ l → exposed b ≡ x → b.stage ≡ NoAudit
-        → Asked first last ≡ ask_reply x b.end.number (length b.outbox) l → Asks b first last
+        → Asked first last ≡ ask_reply b.log_version x b.end.number (length b.outbox) l → Asks b first last
     by_learned true l e is none h = absurd (cc)
     by_learned false [] e is none h = absurd (cc)
     by_learned false (a ∷ l) e is none h =
-        upto (last_in_reach b.end.number b.learned == 0)
-        (nat_lt MAX_AUDITED (last_in_reach b.end.number b.learned))
+        upto (reach b == 0)
+        (nat_lt MAX_AUDITED (reach b))
         (nat_lt MAX_OUTBOX
-        (length b.outbox + (last_in_reach b.end.number b.learned - b.end.number))) refl refl refl none is
-        (h ∙ ap (λ xs. ask_up_to b.end.number (length b.outbox) (last_in_reach b.end.number xs)) (sym e))
+        (length b.outbox + (reach b - b.end.number))) refl refl refl none is
+        (h ∙ ap (λ xs. ask_up_to b.end.number (length b.outbox)
+        (last_in_reach b.log_version b.end.number xs)) (sym e))
 
     by : (s : Stage) → b.stage ≡ s → Asked first last ≡ reply_to_audit b b.stage → Asks b first last
     by NoAudit is h =
@@ -200,7 +210,7 @@ begins b j told = by b.stage refl
     job_same : (k : JobParts) → Job j ≡ Job k → j ≡ k
     job_same k h = cc
 
-    by_exposed : (c : ClosedParts) (x : Bool) → exposed b ≡ x → b.stage ≡ Given c
+    by_exposed : (c : ClosedVersionedParts) (x : Bool) → exposed b ≡ x → b.stage ≡ Given c
         → Job j ≡ cond x (Refused NothingToAudit) (Job (job_of b (b.begun + 1) c)) → Begins b j
     by_exposed c true is at h = absurd (cc)
     by_exposed c false is at h =
@@ -239,22 +249,22 @@ out_of b j h = by b.stage refl
         }
 
 -- an answer that is accepted is what was asked for
-pub was_wanted : (s : Stage) (c : ClosedParts) → Accepted ≡ answer_reply s c
-    → s ≡ Wanted c.segment.first c.segment.closing.word
+pub was_wanted : (s : Stage) (c : ClosedVersionedParts) → Accepted ≡ answer_reply s c
+    → s ≡ Wanted c.segment.first (last_of c.segment)
 was_wanted NoAudit c h = absurd (cc)
 was_wanted (Given d) c h = absurd (cc)
 was_wanted (Out d) c h = absurd (cc)
 was_wanted (Wanted f l) c h =
-    by ((c.segment.first == f) && (c.segment.closing.word == l)) refl h
+    by ((c.segment.first == f) && (last_of c.segment == l)) refl h
   where
-    by : (x : Bool) → ((c.segment.first == f) && (c.segment.closing.word == l)) ≡ x
+    by : (x : Bool) → ((c.segment.first == f) && (last_of c.segment == l)) ≡ x
         → Accepted ≡ cond x Accepted (Refused NotAsked)
-        → Wanted f l ≡ Wanted c.segment.first c.segment.closing.word
+        → Wanted f l ≡ Wanted c.segment.first (last_of c.segment)
     by false e k = absurd (cc)
     by true e k =
-        let both = and_parts (c.segment.first == f) (c.segment.closing.word == l) e in
+        let both = and_parts (c.segment.first == f) (last_of c.segment == l) e in
         ap₂ (λ x y. Wanted x y) (sym (eqb-true c.segment.first f both.0))
-        (sym (eqb-true c.segment.closing.word l both.1))
+        (sym (eqb-true (last_of c.segment) l both.1))
 
 -- what comes back is the job that is out
 pub returned_is : (x : Bool) (o : Option JobParts) (good wrong none : Reply) → (good ≡ wrong → ⊥)
@@ -272,7 +282,8 @@ module _ (w : Watched) (past : Past) (b : Book) (k : Known w past b) where
   known_quiet p did x = record {
     of = quiet w past p b did k.exposure k.of;
     fits = k.fits;
-    kept_differ = subst NumbersDiffer (sym (kept_stays w past p did.notes did.files)) k.kept_differ;
+    kept_differ = subst (NumbersDiffer w.member.log_version) (sym (kept_stays w past p did.notes did.files))
+        k.kept_differ;
     exposure = x;
     audited =
         k.audited ∙ sym (ap (λ o. audited w past ++ entries_filed w.roster (end_of w past).state o) did.files
@@ -416,23 +427,25 @@ module _ (w : Watched) (past : Past) (b : Book) (k : Known w past b) where
       }) x
 
   -- what is kept agrees with a segment that was accepted, where the node isn't exposed
-  agreeing : (c : ClosedParts) → b.stage ≡ Given c → exposed b ≡ false → AgreesAt (Out c) b.learned
+  agreeing : (c : ClosedVersionedParts) → b.stage ≡ Given c → exposed b ≡ false
+      → AgreesAt b.log_version (Out c) b.learned
   agreeing c is hidden a i le =
+      let v = b.log_version in
       let one : IsMore b.end.number (exposed b) (Given c) k.fits.tiles.more =
       subst (λ s. IsMore b.end.number (exposed b) s k.fits.tiles.more) is k.fits.tiles.rest in
       let among : IsAmong c.segment b.segments =
       subst (IsAmong c.segment) (sym (k.fits.tiles.are ∙ ap (λ l. k.fits.tiles.audited ++ l) one.is))
       (on_right c.segment k.fits.tiles.audited (c.segment ∷ []) (inl refl)) in
-      let p = hash_at c.segment a.word (k.fits.whole c.segment among)
+      let p = mark_at c.segment (number_of v a) (k.fits.whole c.segment among)
       (omega (arith, one.follows.first, k.fits.above a i)) le in
-      let its = (k.of.stands.pairs (pair_of a)).0
-      (shows b.evidence b.learned b.segments (pair_of a) (Learned a i refl)) in
-      let there = (k.of.stands.pairs (a.word, p.hash)).0
-      (shows b.evidence b.learned b.segments (a.word, p.hash) (Segment c.segment among p.there)) in
-      let same : p.hash ≡ a.hash =
+      let its = (k.of.stands.pairs (pair_of v a)).0
+      (shows v b.evidence b.learned b.segments (pair_of v a) (Learned a i refl)) in
+      let there = (k.of.stands.pairs (number_of v a, p.mark)).0
+      (shows v b.evidence b.learned b.segments (number_of v a, p.mark) (Segment c.segment among p.there)) in
+      let same : p.mark ≡ a.hash =
       one_shown w past (sym (exposed_same w past b k.of k.exposure) ∙ hidden)
-      a.word p.hash a.hash there its in
-      subst (λ x. IsAmong (a.word, x) (segment_pairs c.segment)) same p.there
+      (number_of v a) p.mark a.hash there its in
+      subst (λ x. IsAmong (number_of v a, x) (marks_of c.segment)) same p.there
 
   begun_one : (r : Reply) → r ≡ reply_to_begin b b.stage → Exposure w ((Begin, r) ∷ past)
       → Known w ((Begin, r) ∷ past) (after_begin b r)
@@ -488,20 +501,21 @@ module _ (w : Watched) (past : Past) (b : Book) (k : Known w past b) where
   -- ---- what is handed in, and what is filed
 
   unshown : (a : Authenticator) (x y z : Bool) → is_exposed w past ≡ x
-      → is_shown (pair_of a) (shown w past) ≡ y
+      → is_shown (pair_of w.member.log_version a) (shown w past) ≡ y
       → Noted ≡ cond x Noted (cond y Already (cond z (Refused LearnedFull) Noted))
-      → is_exposed w past ≡ false → is_shown (pair_of a) (shown w past) ≡ false
+      → is_exposed w past ≡ false → is_shown (pair_of w.member.log_version a) (shown w past) ≡ false
   unshown a true y z is e h hidden = absurd (true≢false (sym is ∙ hidden))
   unshown a false true z is e h hidden = absurd (cc)
   unshown a false false z is e h hidden = e
 
   noted : (a : Authenticator) (r : Reply)
-      → r ≡ cond (is_exposed w past) Noted (cond (is_shown (pair_of a) (shown w past)) Already
+      → r ≡ cond (is_exposed w past) Noted
+      (cond (is_shown (pair_of w.member.log_version a) (shown w past)) Already
       (cond (has_no_room w past a) (Refused LearnedFull) Noted))
       → Exposure w ((Learn a, r) ∷ past) → Known w ((Learn a, r) ∷ past) (after_learn b a r)
   noted a Noted h x =
       noted_known w past b a k
-      (unshown a (is_exposed w past) (is_shown (pair_of a) (shown w past))
+      (unshown a (is_exposed w past) (is_shown (pair_of w.member.log_version a) (shown w past))
       (has_no_room w past a) refl refl h)
       x
   noted a r h x =
@@ -515,10 +529,12 @@ module _ (w : Watched) (past : Past) (b : Book) (k : Known w past b) where
         challenges = refl;
       }) x
 
-  accepted : (c : ClosedParts) (r : Reply) → r ≡ answer_reply b.stage c → IsCheckedStep w (Answer c)
-      → Exposure w ((Answer c, r) ∷ past) → Known w ((Answer c, r) ∷ past) (after_answer b c r)
-  accepted c Accepted h given x = accepted_known w past b c k given (was_wanted b.stage c h) x
-  accepted c r h given x =
+  accepted : (c : ClosedVersionedParts) (r : Reply) → r ≡ answer_reply b.stage c → IsInRoster w
+      → IsCheckedStep w (Answer c) → Exposure w ((Answer c, r) ∷ past)
+      → Known w ((Answer c, r) ∷ past) (after_answer b c r)
+  accepted c Accepted h member given x =
+      accepted_known w past b c k member given (was_wanted b.stage c h) x
+  accepted c r h member given x =
       known_quiet (Answer c, r) (record {
         notes = refl;
         accepts = refl;
@@ -539,7 +555,9 @@ module _ (w : Watched) (past : Past) (b : Book) (k : Known w past b) where
       o.state ∙ ap (λ (e : End). e.state) k.of.stands.end in
       filed_known w past b d k o.at
       (sym (done
-      ∙ ap₂ (λ (ns : List Member) (s : State). segment_verdict ns s d.job.segment.segment) roster state)) x
+      ∙ ap₂ (λ (ns : List Member) (s : State). verdict_of ns s (places_in d.job.segment.segment)) roster
+      state))
+      x
   filed d r h done x =
       known_quiet (File d, r) (record {
         notes = refl;
@@ -564,9 +582,9 @@ module _ (w : Watched) (past : Past) (b : Book) (k : Known w past b) where
       (sym e ∙ o.told))
 
   -- What is known stays known after a step that gets the reply that is owed to it.
-  pub known_on : (step : Step) (r : Reply) → Owes w past step r → IsCheckedStep w step → IsDoneStep step
-      → Exposure w ((step, r) ∷ past) → Known w ((step, r) ∷ past) (book_after b step r)
-  known_on step r owed checked done x =
+  pub known_on : (step : Step) (r : Reply) → IsInRoster w → Owes w past step r → IsCheckedStep w step
+      → IsDoneStep step → Exposure w ((step, r) ∷ past) → Known w ((step, r) ∷ past) (book_after b step r)
+  known_on step r member owed checked done x =
       by step owed ((owes_known w past b k step r).0 owed)
       checked done x
     where
@@ -575,7 +593,7 @@ module _ (w : Watched) (past : Past) (b : Book) (k : Known w past b) where
           → Exposure w ((step, r) ∷ past) → Known w ((step, r) ∷ past) (book_after b step r)
       by (Learn a) owed o checked done x = noted a r owed.told x
       by (SendChallenge e) owed o checked done x = challenged e r x
-      by (Answer c) owed o checked done x = accepted c r o.told checked x
+      by (Answer c) owed o checked done x = accepted c r o.told member checked x
       by (AckIn a) owed o checked done x = acked a r x
       by Audit owed o checked done x = asked r o.told x
       by Begin owed o checked done x = begun_one r o.told x

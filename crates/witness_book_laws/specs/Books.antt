@@ -2,9 +2,10 @@
 use Rattle.std.specs.Prelude.{ℕ, Bool, nat_le, List, [], ◌∷◌, ◌++◌, map, filter, flat_map}
 use Rattle.std.specs.Prelude.{Option, Some, None, is_some, if◌then◌else◌}
 use Rattle.authenticator.specs.declared.authenticator.Authenticator.{Authenticator}
+use Rattle.authenticator.specs.declared.member.LogVersion.{LogVersion}
 use Rattle.authenticator.specs.declared.member.Member.{Member}
-use Rattle.secure_log.specs.declared.log_entries.entry.Entry.{Entry}
-use Rattle.secure_log.specs.Segment.{SegmentParts, ClosedParts}
+use Rattle.secure_log.specs.LogEntries.Chain.{Logged}
+use Rattle.secure_log.specs.Versioned.{VersionedParts, ClosedVersionedParts}
 use Rattle.replay_spec.specs.Opening.{opening_of}
 use Rattle.witness_laws.specs.evidence_spec.Showing.{ShowingParts}
 use Rattle.witness_laws.specs.evidence_spec.Evidence.{Charge, Fork, Replay, EvidenceParts}
@@ -19,6 +20,8 @@ use Rattle.witness_laws.specs.witness_spec.Histories.{BookParts}
 pub record Book : Type 0 where
   -- the node's number
   pub node : ℕ
+  -- the version of its log
+  pub log_version : LogVersion
   -- the last number that was audited, and the state there
   pub end : End
   -- how far the audit is, with the segment that is given or out
@@ -28,7 +31,7 @@ pub record Book : Type 0 where
   -- the authenticators that were learned before the node was exposed, with numbers above the end
   pub learned : List Authenticator
   -- the segments that were accepted
-  pub segments : List SegmentParts
+  pub segments : List VersionedParts
   -- the open challenges
   pub challenges : List Challenge
   -- what is still to be forwarded
@@ -40,6 +43,7 @@ pub record Book : Type 0 where
 abbrev pub book_opening : Member → Book
 book_opening m = record {
   node = m.node;
+  log_version = m.log_version;
   end = record { number = 0; state = opening_of m };
   stage = NoAudit;
   begun = 0;
@@ -63,7 +67,7 @@ newer_closing old (Some new) = new.closing
 
 -- the pair that closes what exposed a node by a fork: that of a learned authenticator, or of a segment
 abbrev pub charged_pairs : Charge → List Pair
-charged_pairs (Fork f) = pair_of (newer_closing f.a f.b) ∷ []
+charged_pairs (Fork f) = pair_of f.log_version (newer_closing f.a f.b) ∷ []
 charged_pairs (Replay s) = []
 
 -- the same of the evidence, if there is some
@@ -75,18 +79,19 @@ exposing_pairs (Some e) = charged_pairs e.charge
 -- segments.
 abbrev pub book_shown : Book → List Pair
 book_shown b =
-    first_pair ∷ (exposing_pairs b.evidence ++ (map pair_of b.learned ++ flat_map marks_of b.segments))
+    first_pair
+    ∷ (exposing_pairs b.evidence ++ (map (pair_of b.log_version) b.learned ++ flat_map marks_of b.segments))
 
 -- a segment lies up to the end
-abbrev pub is_audited : (end : ℕ) → SegmentParts → Bool
+abbrev pub is_audited : (end : ℕ) → VersionedParts → Bool
 is_audited end s = nat_le (last_of s) end
 
 -- all entries that were audited, in order
-abbrev pub book_audited : Book → List Entry
+abbrev pub book_audited : Book → List Logged
 book_audited b = flat_map (λ s. s.entries) (filter (λ s. is_audited b.end.number s) b.segments)
 
 -- the job with a number, of a segment: it begins from the end's state
-abbrev pub job_of : Book → (number : ℕ) → ClosedParts → JobParts
+abbrev pub job_of : Book → (number : ℕ) → ClosedVersionedParts → JobParts
 job_of b number c = record { node = b.node; number = number; state = b.end.state; segment = c }
 
 -- the job that is out at a stage, if one is

@@ -3,15 +3,14 @@ use Rattle.std.specs.Prelude.{◌+◌, not, nat_lt, List, [], ◌∷◌, ◌++�
 use Rattle.std.specs.Prelude.{Option, Some, None, option_map, option_and_then}
 use Rattle.authenticator.specs.declared.authenticator.Authenticator.{Authenticator}
 use Rattle.authenticator.specs.declared.member.Member.{Member}
-use Rattle.authenticator.specs.declared.member.LogVersion.TheVariants.{One}
+use Rattle.authenticator.specs.declared.member.LogVersion.{LogVersion}
 use Rattle.secure_log.specs.LogEntries.Chain.{zeros}
-use Rattle.secure_log.specs.Segment.{SegmentParts, ClosedParts}
-use Rattle.secure_log.specs.Versioned.{of_plain}
+use Rattle.secure_log.specs.Versioned.{VersionedParts, ClosedVersionedParts}
 use Rattle.envelopes.specs.Acknowledgement.{acked_message}
 use Rattle.envelopes.specs.declared.envelope.Envelope.{Envelope}
 use Rattle.envelopes.specs.declared.acknowledgement.Ack.{Ack}
 use Rattle.replay_spec.specs.Replay.{Verdict, Sound, Fault}
-use Rattle.witness_laws.specs.evidence_spec.Showing.{ShowingParts, authenticator_showing, segment_showing}
+use Rattle.witness_laws.specs.evidence_spec.Showing.{ShowingParts, authenticator_showing, versioned_showing}
 use Rattle.witness_laws.specs.evidence_spec.Evidence.{Charge, Replay, EvidenceParts}
 use Rattle.witness_laws.specs.witness_spec.Events.{JobParts, DoneParts}
 use Rattle.witness_laws.specs.witness_spec.Replies.{Reply, Noted, Opened, Accepted, Closed, Asked, Job, Filed}
@@ -40,11 +39,13 @@ first_evidence (Some e) new = Some e
 -- the evidence that a new showing of these pairs brings: a fork with what was shown, at the least number
 abbrev pub fork_evidence : Book → (new : ShowingParts) → List Pair → Option EvidenceParts
 fork_evidence b new pairs =
-    evidence_of b (option_and_then (fork_of b.learned b.segments new) (first_fork pairs (book_shown b)))
+    evidence_of b
+    (option_and_then (fork_of b.log_version b.learned b.segments new) (first_fork pairs (book_shown b)))
 
 -- all audited entries and those of a segment, with its closing
-abbrev pub audited_with : Book → SegmentParts → SegmentParts
+abbrev pub audited_with : Book → VersionedParts → VersionedParts
 audited_with b s = record {
+  log_version = b.log_version;
   node = b.node;
   first = 1;
   opening = zeros;
@@ -52,21 +53,23 @@ audited_with b s = record {
   closing = s.closing;
 }
 
--- the charge that a verdict on a segment brings: of a log of version 1, so it skips nothing
-abbrev pub verdict_charge : Book → SegmentParts → Verdict → Option Charge
+-- the charge that a verdict on a segment brings
+abbrev pub verdict_charge : Book → VersionedParts → Verdict → Option Charge
 verdict_charge b s (Sound t found) = None
-verdict_charge b s (Fault fault number) = Some (Replay (of_plain (audited_with b s)))
+verdict_charge b s (Fault fault number) = Some (Replay (audited_with b s))
 
 -- the evidence after an authenticator that was noted
 abbrev pub evidence_noted : Book → Authenticator → Option EvidenceParts
-evidence_noted b a = first_evidence b.evidence (fork_evidence b (authenticator_showing One a) (pair_of a ∷ []))
+evidence_noted b a =
+    first_evidence b.evidence
+    (fork_evidence b (authenticator_showing b.log_version a) (pair_of b.log_version a ∷ []))
 
 -- the evidence after a segment that was accepted
-abbrev pub evidence_accepted : Book → SegmentParts → Option EvidenceParts
-evidence_accepted b s = first_evidence b.evidence (fork_evidence b (segment_showing s) (marks_of s))
+abbrev pub evidence_accepted : Book → VersionedParts → Option EvidenceParts
+evidence_accepted b s = first_evidence b.evidence (fork_evidence b (versioned_showing s) (marks_of s))
 
 -- the evidence after a verdict that was filed
-abbrev pub evidence_filed : Book → SegmentParts → Verdict → Option EvidenceParts
+abbrev pub evidence_filed : Book → VersionedParts → Verdict → Option EvidenceParts
 evidence_filed b s v = first_evidence b.evidence (evidence_of b (verdict_charge b s v))
 
 -- ---- what is kept
@@ -77,9 +80,9 @@ learned_unless None learned a = learned ++ a ∷ []
 learned_unless (Some e) learned a = learned
 
 -- Where a segment was sound, what lies above its last number stays.
-abbrev pub learned_above : SegmentParts → Verdict → List Authenticator → List Authenticator
-learned_above s (Sound t found) learned = filter (λ a. nat_lt (last_of s) (number_of a)) learned
-learned_above s (Fault fault number) learned = learned
+abbrev pub learned_above : LogVersion → VersionedParts → Verdict → List Authenticator → List Authenticator
+learned_above v s (Sound t found) learned = filter (λ a. nat_lt (last_of s) (number_of v a)) learned
+learned_above v s (Fault fault number) learned = learned
 
 -- ---- one function for each kind of event that changes a book
 
@@ -95,7 +98,7 @@ after_send_challenge b e Opened = record b { challenges = b.challenges ++ SendOf
 after_send_challenge b e _ = b
 
 -- after a segment that was given
-abbrev pub after_answer : Book → ClosedParts → Reply → Book
+abbrev pub after_answer : Book → ClosedVersionedParts → Reply → Book
 after_answer b c Accepted = record b {
   stage = Given c;
   segments = b.segments ++ c.segment ∷ [];
@@ -122,11 +125,11 @@ after_begin b (Job j) = record b { stage = Out j.segment; begun = b.begun + 1 }
 after_begin b _ = b
 
 -- after a segment with its verdict was filed
-abbrev pub having_filed : Book → SegmentParts → Verdict → Book
+abbrev pub having_filed : Book → VersionedParts → Verdict → Book
 having_filed b s v = record b {
   end = moved_by b.end (last_of s) v;
   stage = NoAudit;
-  learned = learned_above s v b.learned;
+  learned = learned_above b.log_version s v b.learned;
   outbox = b.outbox ++ sound_found v;
   evidence = evidence_filed b s v;
 }

@@ -19,9 +19,9 @@ pub record KeepsLimits (b : Book) : Type 0 where
   pub learned : length b.learned ≤ MAX_LEARNED
   -- open challenges with messages
   pub challenges : count_by is_send b.challenges ≤ MAX_CHALLENGES
-  -- audited entries
+  -- audited numbers
   pub end : b.end.number ≤ MAX_AUDITED
   -- with those of the audit
   pub last : audit_last b.end.number b.stage ≤ MAX_AUDITED
-  -- the outbox, with one authenticator for each entry of the audit
+  -- the outbox, with one authenticator for each number of the audit
   pub outbox : length b.outbox + (audit_last b.end.number b.stage - b.end.number) ≤ MAX_OUTBOX

@@ -1,9 +1,8 @@
 -- What holds of books. Each is the contract of a function here.
-use Rattle.std.specs.Prelude.{◌≡◌, ◌↔◌, ℕ, ◌<◌, false, List, ◌∷◌, map, Some, Ok}
+use Rattle.std.specs.Prelude.{◌≡◌, ◌↔◌, ℕ, false, List, ◌∷◌, map, Some, Ok}
 use Rattle.authenticator.specs.Roster.{IsRoster}
 use Rattle.authenticator.specs.declared.member.Member.{Member}
-use Rattle.secure_log.specs.Segment.{SegmentParts}
-use Rattle.secure_log.specs.SegmentHashes.{segment_hash_at}
+use Rattle.secure_log.specs.Versioned.{VersionedParts}
 use Rattle.witness_laws.specs.witness_spec.Events.{Event, IsEvent}
 use Rattle.witness_laws.specs.witness_spec.Replies.{Reply}
 use Rattle.witness_laws.specs.witness_spec.Watched.{Watched, watched, IsInRoster}
@@ -18,8 +17,8 @@ use Rattle.witness_book_laws.specs.Books.{Book, book_opening, exposed, book_show
 use Rattle.witness_book_laws.specs.Books.{book_indication, parts_of}
 use Rattle.witness_book_laws.specs.Replying.{BookOwes}
 use Rattle.witness_book_laws.specs.Going.{book_after, book_after_steps}
-use Rattle.witness_book_laws.specs.Fitting.{FitsTogether, IsBookOf}
-use Rattle.witness_book_laws.specs.LookUps.{hash_shown, hash_among, is_hash, is_other_hash, HasOneHash}
+use Rattle.witness_book_laws.specs.Fitting.{FitsTogether, IsBookOf, IsOfMember}
+use Rattle.witness_book_laws.specs.LookUps.{hash_shown, is_hash, is_other_hash, HasOneHash}
 use Rattle.witness_book_laws.specs.Answers.{answer_fork}
 use Rattle.witness_book_laws.specs.Keeping.{KeepsLimits}
 use Rattle.witness_book_laws.specs.Together.{book_at, with_book_at, AreKept}
@@ -109,7 +108,7 @@ AnyBookGoesOn =
 abbrev pub AnyBookKeepsItsContract : Type 0
 AnyBookKeepsItsContract =
     (w : Watched) (b : Book) (event : Event) (step : Step) (reply : Reply)
-    → IsInRoster w → FitsTogether b → b.node ≡ w.member.node
+    → IsInRoster w → FitsTogether b → IsOfMember w.member b
     → IsEvent event → whose w.roster event ≡ Ok (record { member = w.member; step = step })
     → BookOwes b step reply
     → BookStepsTo w (parts_of b) step reply (parts_of (book_after b step reply))
@@ -153,17 +152,11 @@ LookUpsTell =
     → (is_shown (number, x) (book_shown b) ≡ is_hash x (hash_shown b number))
     × (is_fork (number, x) (book_shown b) ≡ is_other_hash x (hash_shown b number))
 
--- The hash of a segment at a number is looked up among its pairs.
-abbrev pub SegmentsLookUp : Type 0
-SegmentsLookUp =
-    (s : SegmentParts) (number : ℕ) → 0 < first_of s
-    → segment_hash_at s number ≡ hash_among number (marks_of s)
-
 -- Where a segment that follows on the end, from the first number that was asked for on, makes the first fork
 -- with what such a book shows is looked up: at its opening, and at each learned authenticator.
 abbrev pub AnAnswerLooksUp : Type 0
 AnAnswerLooksUp =
-    (b : Book) (s : SegmentParts) (last : ℕ)
+    (b : Book) (s : VersionedParts) (last : ℕ)
     → FitsTogether b → HasOneHash b → exposed b ≡ false → b.stage ≡ Wanted (first_of s) last
     → first_fork (marks_of s) (book_shown b) ≡ answer_fork b s
 

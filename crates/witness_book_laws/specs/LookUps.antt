@@ -3,20 +3,17 @@ use Rattle.std.specs.Prelude.{◌≡◌, ℕ, Bool, false, not, ◌==◌, List, 
 use Rattle.std.specs.Prelude.{if◌then◌else◌}
 use Rattle.authenticator.specs.Signing.{is_same}
 use Rattle.secure_log.specs.LogEntries.Chain.{zeros}
-use Rattle.secure_log.specs.Segment.{SegmentParts}
+use Rattle.secure_log.specs.Versioned.{VersionedParts}
 use Rattle.secure_log.specs.LogEntries.Chain.{IsAmong}
-use Rattle.witness_laws.specs.witness_spec.Pairs.{Pair, number_of, marks_of}
+use Rattle.secure_log.specs.Marks.{segment_mark_at}
+use Rattle.witness_laws.specs.witness_spec.Pairs.{number_of}
 use Rattle.witness_laws.specs.witness_spec.Exposing.{segment_holding}
 use Rattle.witness_book_laws.specs.Books.{Book, exposed, book_shown}
 
--- the hash of the first of these pairs that has a number
-abbrev pub hash_among : (number : ℕ) → List Pair → Option (List ℕ)
-hash_among number pairs = option_map (λ p. p.1) (find (λ p. p.0 == number) pairs)
-
 -- the hash at a number in the segment that holds it, if one does, else in what is kept
-abbrev pub hash_held : Option SegmentParts → Book → (number : ℕ) → Option (List ℕ)
-hash_held (Some s) b number = hash_among number (marks_of s)
-hash_held None b number = option_map (λ a. a.hash) (find (λ a. number_of a == number) b.learned)
+abbrev pub hash_held : Option VersionedParts → Book → (number : ℕ) → Option (List ℕ)
+hash_held (Some s) b number = segment_mark_at s number
+hash_held None b number = option_map (λ a. a.hash) (find (λ a. number_of b.log_version a == number) b.learned)
 
 -- the hash that a book shows at a number: zeros at 0
 abbrev pub hash_shown : Book → (number : ℕ) → Option (List ℕ)

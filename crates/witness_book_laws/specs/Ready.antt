@@ -1,15 +1,17 @@
--- What a book's step asks of the book; and the books of all members that have it.
-use Rattle.std.specs.Prelude.{◌≤◌, List}
+-- What a book's step asks of the book, and of the step; and the books of all members that have it.
+use Rattle.std.specs.Prelude.{◌≡◌, ◌≤◌, List}
 use Rattle.std.specs.List.{AllByRecursion}
 use Rattle.std.specs.FinMap.{len}
+use Rattle.authenticator.specs.declared.member.LogVersion.{LogVersion}
 use Rattle.authenticator.specs.declared.member.Member.{Member}
+use Rattle.witness_laws.specs.witness_spec.Steps.{Step, Answer}
 use Rattle.witness_book_laws.specs.Books.{Book}
 use Rattle.witness_book_laws.specs.Fitting.{FitsTogether}
 use Rattle.witness_book_laws.specs.LookUps.{HasOneHash}
 use Rattle.witness_book_laws.specs.Keeping.{KeepsLimits}
 use Rattle.witness_book_laws.specs.Together.{AreKept}
 
--- The end's state knows no more messages of either kind than entries were audited.
+-- The end's state knows no more messages of either kind than the end's number, up to which all was audited.
 pub record KnowsFew (b : Book) : Type 0 where
   -- messages received
   pub received : len b.end.state.received ≤ b.end.number
@@ -26,6 +28,11 @@ pub record IsReady (b : Book) : Type 0 where
   pub limits : KeepsLimits b
   -- its state knows few messages
   pub few : KnowsFew b
+
+-- A segment that is given is of a log of this version.
+abbrev pub IsOfLog : LogVersion → Step → Type 0
+IsOfLog v (Answer c) = c.segment.log_version ≡ v
+IsOfLog v _ = Unit {0}
 
 -- The books of a roster's members can make their steps.
 pub record AreReady (ms : List Member) (books : List Book) : Type 0 where

@@ -11,8 +11,9 @@ use Rattle.witness_laws.specs.witness_spec.Contract.{StepsTo}
 use Rattle.witness_book_laws.specs.Books.{Book, book_opening, parts_of}
 use Rattle.witness_book_laws.specs.Replying.{BookOwes}
 use Rattle.witness_book_laws.specs.Going.{book_after}
+use Rattle.witness_book_laws.specs.Fitting.{IsOfMember}
 use Rattle.witness_book_laws.specs.Together.{book_at, with_book_at}
-use Rattle.witness_book_laws.specs.Ready.{IsReady, AreReady}
+use Rattle.witness_book_laws.specs.Ready.{IsReady, AreReady, IsOfLog}
 
 -- The opening books of a roster's members can make their steps.
 abbrev pub OpeningBooksAreReady : Type 0
@@ -30,8 +31,16 @@ ReadyBooksStep =
     (map parts_of (with_book_at w.roster w.member.node (book_after b step reply) books))
     × AreReady w.roster (with_book_at w.roster w.member.node (book_after b step reply) books)
 
--- The book of each member can make a step.
+-- The book of each member is the member's, and can make a step.
 abbrev pub ReadyBooksAreReady : Type 0
 ReadyBooksAreReady =
     (w : Watched) (books : List Book) (b : Book)
-    → AreReady w.roster books → IsInRoster w → book_at w.roster books w.member.node ≡ Some b → IsReady b
+    → AreReady w.roster books → IsInRoster w → book_at w.roster books w.member.node ≡ Some b
+    → IsReady b × IsOfMember w.member b
+
+-- An event that is a member's step and gives a segment gives it of a log of the member's version.
+abbrev pub StepsAreOfTheLog : Type 0
+StepsAreOfTheLog =
+    (w : Watched) (event : Event) (step : Step)
+    → IsEvent event → whose w.roster event ≡ Ok (record { member = w.member; step = step })
+    → IsOfLog w.member.log_version step

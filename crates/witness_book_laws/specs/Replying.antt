@@ -2,7 +2,7 @@
 use Rattle.std.specs.Prelude.{◌≡◌, ◌+◌, Bool, not, ◌&&◌, nat_lt, nat_le, length, Some}
 use Rattle.std.specs.Prelude.{Decides, if◌then◌else◌}
 use Rattle.authenticator.specs.declared.authenticator.Authenticator.{Authenticator}
-use Rattle.secure_log.specs.Segment.{ClosedParts}
+use Rattle.secure_log.specs.Versioned.{ClosedVersionedParts}
 use Rattle.envelopes.specs.Acknowledgement.{acked_message}
 use Rattle.envelopes.specs.declared.envelope.Envelope.{Envelope}
 use Rattle.envelopes.specs.declared.acknowledgement.Ack.{Ack}
@@ -30,14 +30,14 @@ use Rattle.witness_book_laws.specs.Books.{Book, exposed, book_shown, job_of, job
 -- An authenticator that makes no fork and lies above the end is to be kept; there may be no room for it.
 abbrev pub has_no_room : Book → Authenticator → Bool
 has_no_room b a =
-    not (is_fork (pair_of a) (book_shown b))
-    && (nat_lt b.end.number (number_of a) && nat_le MAX_LEARNED (length b.learned))
+    not (is_fork (pair_of b.log_version a) (book_shown b))
+    && (nat_lt b.end.number (number_of b.log_version a) && nat_le MAX_LEARNED (length b.learned))
 
 -- to an authenticator that is learned
 abbrev pub reply_to_learn : Book → Authenticator → Reply
 reply_to_learn b a =
     if exposed b then Noted
-    else if is_shown (pair_of a) (book_shown b) then Already
+    else if is_shown (pair_of b.log_version a) (book_shown b) then Already
     else if has_no_room b a then Refused LearnedFull
     else Noted
 
@@ -46,7 +46,7 @@ abbrev pub reply_to_send_challenge : Book → Envelope → Reply
 reply_to_send_challenge b e = challenge_reply b.challenges e
 
 -- to a segment
-abbrev pub reply_to_answer : Book → ClosedParts → Reply
+abbrev pub reply_to_answer : Book → ClosedVersionedParts → Reply
 reply_to_answer b c = answer_reply b.stage c
 
 -- to an acknowledgement
@@ -55,7 +55,7 @@ reply_to_ack b a = ack_reply b.challenges (acked_message a)
 
 -- to an audit, by its stage
 abbrev pub reply_to_audit : Book → Stage → Reply
-reply_to_audit b NoAudit = ask_reply (exposed b) b.end.number (length b.outbox) b.learned
+reply_to_audit b NoAudit = ask_reply b.log_version (exposed b) b.end.number (length b.outbox) b.learned
 reply_to_audit b (Wanted first last) = Refused Busy
 reply_to_audit b (Given c) = Refused Busy
 reply_to_audit b (Out c) = Refused Busy

@@ -5,9 +5,10 @@ ghost use Rattle.witness_book_laws.specs.Laws.{BooksTellTheIndication, BooksHave
 ghost use Rattle.witness_book_laws.specs.Laws.{BooksHaveEvidenceIfExposed, AnyBookOwesTheSame, AnyBookGoesOn};
 ghost use Rattle.witness_book_laws.specs.Laws.{AnyBookKeepsItsContract, OpeningsStand, OpeningBooksAreKept};
 ghost use Rattle.witness_book_laws.specs.Laws.{KeptBooksStep, KeptBooksHaveOneHash, LookUpsTell};
-ghost use Rattle.witness_book_laws.specs.Laws.{SegmentsLookUp, AnAnswerLooksUp};
+ghost use Rattle.witness_book_laws.specs.Laws.{AnAnswerLooksUp};
 ghost use Rattle.witness_book_laws.specs.Laws.{BooksKeepLimits, AnyBookKeepsLimits};
 ghost use Rattle.witness_book_laws.specs.ReadyLaws.{OpeningBooksAreReady, ReadyBooksStep, ReadyBooksAreReady};
+ghost use Rattle.witness_book_laws.specs.ReadyLaws.{StepsAreOfTheLog};
 
 /// A member's book after its own steps of a history replies to each further step what is owed to it after
 /// that history, and nothing else; it tells the indication that is told of the node, and has evidence exactly
@@ -64,13 +65,11 @@ pub fn look_ups_tell()
     ensures tell { LookUpsTell }
 {}
 
-/// The hash of a segment at a number is that of the first of its pairs that has the number. Where a segment
-/// that was asked for makes the first fork with what a book shows, few look-ups tell: at the end's number,
-/// where its opening is another hash than the book's there, else at the least number of a learned
-/// authenticator at which the segment shows another hash.
+/// Where a segment that was asked for makes the first fork with what a book shows, few look-ups tell: at the
+/// end's number, where its opening is another hash than the book's there, else at the least number of a
+/// learned authenticator at which the segment shows another mark.
 pub fn answers_look_up()
-    ensures segment { SegmentsLookUp }
-    ensures fork { AnAnswerLooksUp }
+    ensures { AnAnswerLooksUp }
 {}
 
 /// A book keeps its limits over every history, and with each step: at most `MAX_LEARNED` authenticators,
@@ -83,10 +82,12 @@ pub fn limits_are_kept()
 
 /// The opening books of all members can make their steps: each fits together, shows one hash at each number
 /// unless its node is exposed, keeps its limits, and has a state that knows no more messages of either kind
-/// than entries were audited. Where an event is a member's step, and the reply is the one that this member's
+/// than the end's number. Where an event is a member's step, and the reply is the one that this member's
 /// book owes, the books with that one gone on keep the contract of all books, and can make their steps again.
+/// A step gives a member's book only segments of logs of the member's version.
 pub fn books_are_ready()
     ensures opening { OpeningBooksAreReady }
     ensures step { ReadyBooksStep }
     ensures ready { ReadyBooksAreReady }
+    ensures of_log { StepsAreOfTheLog }
 {}

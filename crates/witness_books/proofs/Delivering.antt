@@ -21,7 +21,7 @@ use Rattle.node_book.specs.witness_spec.Steps as steps
 use Rattle.node_book.specs.witness_spec.Watched.{watched}
 use Rattle.node_book.specs.witness_spec.Whose.{is_key_of, same_roster, step_of, signed_step, sent_step}
 use Rattle.node_book.specs.witness_spec.Whose.{closed_step}
-use Rattle.node_book.specs.witness_spec.Whose.{judged_step, learned_step, whose}
+use Rattle.node_book.specs.witness_spec.Whose.{judged_step, whose}
 use Rattle.node_book.specs.witness_spec.Histories.{History, own_step, own, OwesTo, IsOwed, MayWant, IsWanting}
 use Rattle.node_book.specs.witness_spec.Histories.{BookParts, StandsFor, StandEach}
 use Rattle.node_book.specs.witness_spec.Contract.{StepsTo}
@@ -85,8 +85,7 @@ spelled_alike ms bytes event spell = by spell.delivery spell.is_taken spell.is_e
         → AreAlike ms (events.Deliver bytes) event
     by (packets.Learn a) is (m, (of, same)) =
         subst (AreAlike ms (events.Deliver bytes)) (sym same) (record {
-          whose_is = ap (judged_step ms) is
-              ∙ ap (learned_step (member_of ms a.node)) (signed_is ms a.node m (steps.Learn a) of);
+          whose_is = ap (judged_step ms) is ∙ signed_is ms a.node m (steps.Learn a) of;
           refused_as = λ f. refl;
           wants_as = λ _. tt;
         })

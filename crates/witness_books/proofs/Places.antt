@@ -6,9 +6,10 @@ use Rattle.std.proofs.lemmas.Option.{same_Some}
 use Rattle.authenticator.specs.Roster.{member_of}
 use Rattle.authenticator.specs.declared.member.Member.{Member}
 use Rattle.node_book.specs.witness_spec.Watched.{watched}
+use Rattle.node_book.specs.witness_spec.Steps.{Step}
 use Rattle.node_book.specs.witness_book_laws.Books.{Book}
 use Rattle.node_book.specs.witness_book_laws.Together.{book_at, with_book_at, FitEach}
-use Rattle.node_book.specs.witness_book_laws.Ready.{IsReady, AreReady}
+use Rattle.node_book.specs.witness_book_laws.Ready.{IsReady, AreReady, IsOfLog}
 use Rattle.node_book.specs.witness_book_laws.ReadyLaws.{ReadyBooksAreReady}
 use Rattle.witness_books.specs.Places.{place_from, OneDoes}
 
@@ -125,4 +126,12 @@ pub here_ready : ReadyBooksAreReady → (ms : List Member) (m : Member) (books :
     (b : Book) → AreReady ms books → member_of ms m.node ≡ Some m → IsHere ms m.node books place
     → b ≡ get_or books place b → IsReady b
 here_ready law ms m books place b ready member here is =
-    law (watched ms m) books b ready member (here.there b ∙ ap (λ x. Some x) (sym is))
+    (law (watched ms m) books b ready member (here.there b ∙ ap (λ x. Some x) (sym is))).0
+
+-- a step of the member is of the book's log
+pub here_of_log : ReadyBooksAreReady → (ms : List Member) (m : Member) (books : List Book) (place : ℕ)
+    (b : Book) (step : Step) → AreReady ms books → member_of ms m.node ≡ Some m → IsOfLog m.log_version step
+    → IsHere ms m.node books place → b ≡ get_or books place b → IsOfLog b.log_version step
+here_of_log law ms m books place b step ready member of here is =
+    let its = (law (watched ms m) books b ready member (here.there b ∙ ap (λ x. Some x) (sym is))).1 in
+    subst (λ v. IsOfLog v step) (sym its.version) of

@@ -1,9 +1,7 @@
 -- A step that was given to its owner is the event's, or what bytes deliver.
 -- Serves: route and the functions for each kind of event.
-use Rattle.std.proofs.Common.{◌≡◌, ◌⊎◌, inl, inr, ℕ, List, Option, Result, Ok, Err, sym, ap, subst, ◌∙◌}
-use Rattle.std.proofs.Common.{cond, true, false}
-use Rattle.authenticator.specs.Roster.{is_of_version, member_of}
-use Rattle.authenticator.specs.declared.member.LogVersion.TheVariants.{One}
+use Rattle.std.proofs.Common.{◌≡◌, ◌⊎◌, inl, inr, ℕ, List, Result, Ok, Err, sym, ap, subst, ◌∙◌}
+use Rattle.authenticator.specs.Roster.{member_of}
 use Rattle.authenticator.specs.declared.member.Member.{Member}
 use Rattle.authenticator.specs.declared.refusal.Refusal as checks
 use Rattle.authenticator.specs.declared.refusal.Refusal.TheVariants as checking
@@ -16,7 +14,7 @@ use Rattle.node_book.specs.witness_spec.Events as spec
 use Rattle.node_book.specs.witness_spec.Replies as replies
 use Rattle.node_book.specs.witness_spec.Steps.{OwnStep}
 use Rattle.node_book.specs.witness_spec.Steps as steps
-use Rattle.node_book.specs.witness_spec.Whose.{step_of, delivered_step, judged_step, learned_step, whose}
+use Rattle.node_book.specs.witness_spec.Whose.{step_of, delivered_step, judged_step, whose}
 use Rattle.node_book.specs.witness_spec.Histories.{MayWant, IsWanting}
 use Rattle.node_book.specs.Events.{event_in, step_in}
 use Rattle.node_book.specs.Replies.{refusal_in}
@@ -72,18 +70,6 @@ module _ (owed : steps.Step → Result OwnStep refusals.Refusal) (owner : Result
         whose_is = whose_is ∙ there (step_in step);
         is = given.1.1 ∙ sym (refused_as (refusal_in given.0));
       })
-
--- an authenticator of a log of version 1 is learned of who signed it
-pub learned_keeps : (m : Option Member) (owed : steps.Step → Result OwnStep refusals.Refusal)
-    (owner : Result Member Refusal) → is_of_version One m ≡ true → OwnerIs owed owner
-    → OwnerIs (λ step. learned_step m (owed step)) owner
-learned_keeps m owed (Ok x) e is = λ step. ap (λ b. cond b (owed step) (Err refusals.Garbage)) e ∙ is step
-learned_keeps m owed (Err f) e is = λ step. ap (λ b. cond b (owed step) (Err refusals.Garbage)) e ∙ is step
-
--- of another log it is garbage
-pub learned_of_others : (m : Option Member) (owed : steps.Step → Result OwnStep refusals.Refusal)
-    (step : steps.Step) → is_of_version One m ≡ false → learned_step m (owed step) ≡ Err refusals.Garbage
-learned_of_others m owed step e = ap (λ b. cond b (owed step) (Err refusals.Garbage)) e
 
 -- a step that is given to a node's member goes where the event does, of which the node is
 pub named_routes : (ms : List Member) (node of_node : ℕ) (owner : Result Member Refusal) (step : Step)

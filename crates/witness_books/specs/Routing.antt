@@ -1,5 +1,5 @@
 -- Whose step an event is, as code says it.
-use Rattle.std.specs.Prelude.{◌≡◌, ◌⊎◌, List, Option, Result, Ok, Err}
+use Rattle.std.specs.Prelude.{◌≡◌, ◌⊎◌, List, Result, Ok, Err}
 use Rattle.authenticator.specs.declared.member.Member.{Member}
 use Rattle.packets.specs.Packet.{Delivery}
 use Rattle.node_book.specs.witness_spec.Refusals as refusals
@@ -8,7 +8,7 @@ use Rattle.node_book.specs.witness_spec.Events as spec
 use Rattle.node_book.specs.witness_spec.Replies as replies
 use Rattle.node_book.specs.witness_spec.Steps.{OwnStep}
 use Rattle.node_book.specs.witness_spec.Steps as steps
-use Rattle.node_book.specs.witness_spec.Whose.{delivered_step, learned_step, whose}
+use Rattle.node_book.specs.witness_spec.Whose.{delivered_step, whose}
 use Rattle.node_book.specs.witness_spec.Histories.{MayWant, IsWanting}
 use Rattle.node_book.specs.Events.{event_in, step_in}
 use Rattle.node_book.specs.Replies.{refusal_in, reply_in}
@@ -26,12 +26,6 @@ use Rattle.witness_books.specs.declared.route.Routed.TheVariants as r
 abbrev pub OwnerIs : (steps.Step → Result OwnStep refusals.Refusal) → Result Member Refusal → Type 0
 OwnerIs owed (Ok m) = (step : steps.Step) → owed step ≡ Ok (record { member = m; step = step })
 OwnerIs owed (Err refusal) = (step : steps.Step) → owed step ≡ Err (refusal_in refusal)
-
--- An authenticator is learned of the member that signed it, where that member's log is of version 1.
-abbrev pub LearnerIs : (signer : Option Member) → (found answer : Result Member Refusal) → Type 0
-LearnerIs signer found answer =
-    (owed : steps.Step → Result OwnStep refusals.Refusal) → OwnerIs owed found
-    → OwnerIs (λ step. learned_step signer (owed step)) answer
 
 -- A step was given to its member; or it was refused as its owner was.
 abbrev pub IsGivenTo : Result Member Refusal → Step → Routed → Type 0

@@ -5,7 +5,7 @@ ghost use Rattle.authenticator.specs.Roster.{IsRoster, member_of};
 ghost use Rattle.node_book.specs.witness_spec.Contract.{AreBooks, IsNotedStep, StepsTo, opening_books};
 ghost use Rattle.node_book.specs.witness_spec.Replies.{is_want_of_memory};
 ghost use Rattle.node_book.specs.witness_book_laws.Books.{book_opening};
-ghost use Rattle.node_book.specs.witness_book_laws.Ready.{AreReady};
+ghost use Rattle.node_book.specs.witness_book_laws.Ready.{AreReady, IsOfLog};
 ghost use Rattle.node_book.specs.Events.{event_in, step_in};
 ghost use Rattle.node_book.specs.Replies.{reply_in};
 ghost use Rattle.node_book.specs.Stepping.{NotedSteps, Steps};
@@ -228,6 +228,7 @@ fn step_of(
 ) -> Reply
     requires ready { AreReady roster.now books.old.items }
     requires member { member_of roster.now member.now.node ≡ Some member.now }
+    requires of_log { IsOfLog member.now.log_version (step_in step) }
     ensures { OneDoes roster.now member.now.node books.old.items
         (λ old new. Steps old (step_in step) (reply_in result) new) books.new.items }
 {
@@ -246,6 +247,7 @@ fn noted_step_of(
 ) -> (Reply, Option<(PlainReply, PlainReply)>)
     requires ready { AreReady roster.now books.old.items }
     requires member { member_of roster.now member.now.node ≡ Some member.now }
+    requires of_log { IsOfLog member.now.log_version (step_in step) }
     ensures { OneDoes roster.now member.now.node books.old.items
         (λ old new. NotedSteps old (step_in step) result.0 result.1 new) books.new.items }
 {

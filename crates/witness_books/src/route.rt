@@ -9,9 +9,9 @@ ghost use Rattle.authenticator.specs.Roster.{member_of};
 ghost use Rattle.packets.specs.Delivered.{IsUnder, delivery_in};
 ghost use Rattle.node_book.specs.Events.{event_in, key_of, step_in};
 ghost use Rattle.node_book.specs.Replies.{refusal_in, reply_in};
-ghost use Rattle.witness_books.specs.Routing.{DeliversTo, GoesTo, IsGivenTo, LearnerIs, OwnerIs, RoutesTo};
+ghost use Rattle.witness_books.specs.Routing.{DeliversTo, GoesTo, IsGivenTo, OwnerIs, RoutesTo};
 
-use authenticator::{Authenticator, Checked, LogVersion, Member, Roster, is_same_hash};
+use authenticator::{Authenticator, Checked, Member, Roster, is_same_hash};
 use envelopes::{Ack, Envelope};
 use node_book::{Event, EventOf, Refusal, Reply, ReplyOf, SharedSegment, Step};
 use packets::{Packet, read_packet};
@@ -28,9 +28,8 @@ pub(crate) enum Routed {
 /// Whose step an event is, by the event and the roster alone. Bytes are read and checked; what was checked
 /// before is a step only where that was under the key, or the roster, that counts here. `UnknownNode` comes
 /// where a node that the event is of is no member, else `BadSignature` where it was checked under another key
-/// or roster, or isn't signed; `Garbage` where bytes are no packet, and of an authenticator of a member whose
-/// log isn't of version 1, before the others. `NoMemory` comes only where a growth was refused, of bytes
-/// alone. A job or a done value that is refused comes back with the reply.
+/// or roster, or isn't signed; `Garbage` where bytes are no packet. `NoMemory` comes only where a growth was
+/// refused, of bytes alone. A job or a done value that is refused comes back with the reply.
 #[tactic(auto, using(crate::proofs::Routes::given_goes))]
 pub(crate) fn route(alloc: Global, roster: &Roster, event: Event) -> Routed
     ensures { RoutesTo roster.now event result }
@@ -113,17 +112,6 @@ fn signer(roster: &Roster, node: u32, under: &Member) -> Result<Member, Refusal>
     }
 }
 
-/// Who signed an authenticator, as found before, where that is no member, or its log is of version 1; else
-/// `Garbage`.
-fn learner(roster: &Roster, node: u32, signer: Result<Member, Refusal>) -> Result<Member, Refusal>
-    ensures { LearnerIs (member_of roster.now node) signer result }
-{
-    if !roster.keeps_version(node, LogVersion::One) {
-        return Err(Refusal::Garbage);
-    }
-    signer
-}
-
 /// The receiver of an envelope that its sender signed under a key: `UnknownNode` where either is no member,
 /// else `BadSignature` where the sender has another key.
 fn receiver(roster: &Roster, from: u32, to: u32, under: &Member) -> Result<Member, Refusal>
@@ -154,8 +142,7 @@ fn closer(roster: &Roster, node: u32, under: &Roster) -> Result<Member, Refusal>
 fn route_learn(roster: &Roster, checked: Checked<Authenticator>) -> Routed
     ensures { GoesTo roster.now (Learn checked.value (key_of checked.member)) result }
 {
-    let node = checked.value().node;
-    let owner = learner(roster, node, signer(roster, node, checked.member()));
+    let owner = signer(roster, checked.value().node, checked.member());
     give(owner, Step::Learn(checked.into_value()))
 }
 
@@ -205,15 +192,9 @@ fn delivered_step(alloc: Global, roster: &Roster, packet: Packet) -> Routed
     requires { IsUnder roster.now packet }
     ensures { DeliversTo roster.now (delivery_in packet) result }
 {
-    let node = packet.node();
-    let owner = member_named(roster, node);
+    let owner = member_named(roster, packet.node());
     match packet {
-        Packet::Learn(checked) => {
-            give(
-                learner(roster, node, owner),
-                Step::Learn(checked.into_value()),
-            )
-        }
+        Packet::Learn(checked) => give(owner, Step::Learn(checked.into_value())),
         Packet::SendChallenge(checked) => give(owner, Step::SendChallenge(checked.into_value())),
         Packet::Answer(closed) => match SharedSegment::new(alloc, closed) {
             Ok(segment) => give(owner, Step::Answer(segment)),

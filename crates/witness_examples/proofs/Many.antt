@@ -20,7 +20,7 @@ use Rattle.witness_spec.specs.Exposing.{fork_of, new_charge, evidence}
 use Rattle.witness_spec.specs.Histories.{AreOwed}
 use Rattle.witness_spec.specs.evidence_spec.Evidence.{Charge, EvidenceParts}
 use Rattle.witness_spec.specs.evidence_spec.Showing.{authenticator_showing}
-use Rattle.secure_log.specs.Segment.{SegmentParts}
+use Rattle.secure_log.specs.Versioned.{VersionedParts}
 use Rattle.witness_spec.specs.Steps.{Learn, Past}
 use Rattle.witness_examples.specs.Worked.{node_five, learned, one_hash, other_hash, learned_to}
 use Rattle.witness_examples.specs.Forks.{forked, full_forked}
@@ -70,7 +70,7 @@ shown_is (suc n) =
     let none : is_exposed node_five (learned_to n) ≡ false =
     or_from (has_fork (shown node_five (learned_to n))) (has_fault node_five (learned_to n))
     (ap has_fork (shown_is n) ∙ no_fork n) (no_fault n) in
-    ap₂ (λ b s. pairs_noted b (Some (learned (suc n) one_hash)) ++ ([] ++ s)) none (shown_is n)
+    ap₂ (λ b s. pairs_noted One b (Some (learned (suc n) one_hash)) ++ ([] ++ s)) none (shown_is n)
 
 not_exposed : (n : ℕ) → is_exposed node_five (learned_to n) ≡ false
 not_exposed n =
@@ -187,7 +187,7 @@ fork_noted =
 pub fork_exposes : is_exposed node_five full_forked ≡ true
 unfolding pairs_to
 fork_exposes =
-    ap₂ (λ a s. has_fork (pairs_noted a (Some (learned 3 other_hash)) ++ ([] ++ s)) || has_fault node_five
+    ap₂ (λ a s. has_fork (pairs_noted One a (Some (learned 3 other_hash)) ++ ([] ++ s)) || has_fault node_five
     full_forked)
     (not_exposed 256) (shown_is 256)
 
@@ -203,12 +203,12 @@ against o = option_map (λ g. record { node = 5; charge = g }) o
 evidence_after : (past : Past) (a : Authenticator) (k : List Authenticator) (s : List Pair)
     → is_exposed node_five past ≡ false → kept node_five past ≡ k → shown node_five past ≡ s
     → evidence node_five ((Learn a, Noted) ∷ past)
-    ≡ against (option_and_then (fork_of k (all_accepted past) (authenticator_showing One a))
-    (first_fork (pair_of a ∷ []) s))
+    ≡ against (option_and_then (fork_of One k (all_accepted past) (authenticator_showing One a))
+    (first_fork (pair_of One a ∷ []) s))
 evidence_after past a k s hidden is there =
     ap (λ b. cond b (evidence node_five past) (against (new_charge node_five past (Learn a) Noted))) hidden
-    ∙ ap₂ (λ l ps. against (option_and_then (fork_of l (all_accepted past) (authenticator_showing One a))
-    (first_fork (pair_of a ∷ []) ps))) is there
+    ∙ ap₂ (λ l ps. against (option_and_then (fork_of One l (all_accepted past) (authenticator_showing One a))
+    (first_fork (pair_of One a ∷ []) ps))) is there
 
 kept_is : kept node_five (learned_to 256) ≡ list_to 256
 kept_is =
@@ -220,9 +220,10 @@ two_at_three =
     forked 3 (authenticator_showing One (learned 3 one_hash))
     (Some (authenticator_showing One (learned 3 other_hash)))
 
-worked_out : (segments : List SegmentParts)
-    → against (option_and_then (fork_of (list_to 256) segments (authenticator_showing One (learned 3 other_hash)))
-    (first_fork (pair_of (learned 3 other_hash) ∷ []) (pairs_to 256))) ≡ Some two_at_three
+worked_out : (segments : List VersionedParts)
+    → against (option_and_then
+    (fork_of One (list_to 256) segments (authenticator_showing One (learned 3 other_hash)))
+    (first_fork (pair_of One (learned 3 other_hash) ∷ []) (pairs_to 256))) ≡ Some two_at_three
 unfolding pairs_to list_to
 worked_out segments = refl
 

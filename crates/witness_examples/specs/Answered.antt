@@ -5,7 +5,7 @@ use Rattle.secure_log.specs.LogEntries.Chain.{zeros, links_from, last_hash}
 use Rattle.secure_log.specs.LogEntries.Messages.{message_hash}
 use Rattle.secure_log.specs.declared.log_entries.entry.Entry.{Entry}
 use Rattle.secure_log.specs.declared.log_entries.entry.Entry.TheVariants.{Recv}
-use Rattle.secure_log.specs.Segment.{SegmentParts, ClosedParts}
+use Rattle.secure_log.specs.Versioned.{VersionedParts, ClosedVersionedParts, of_plain}
 use Rattle.witness_spec.specs.Replies.{Noted, Opened, Accepted, Asked}
 use Rattle.witness_spec.specs.Steps.{Learn, SendChallenge, Answer, Audit, Past}
 use Rattle.witness_examples.specs.Worked.{no_signature, learned, sent}
@@ -23,17 +23,17 @@ abbrev pub received_hash : List ℕ
 received_hash = last_hash zeros (links_from 1 received)
 
 -- it alone, closed
-abbrev pub received_segment : SegmentParts
-received_segment = record {
+abbrev pub received_segment : VersionedParts
+received_segment = of_plain (record {
   node = 5;
   first = 1;
   opening = zeros;
   entries = received;
   closing = learned 1 received_hash;
-}
+})
 
 -- with a roster, at which own steps don't look
-abbrev pub received_closed : ClosedParts
+abbrev pub received_closed : ClosedVersionedParts
 received_closed = record { segment = received_segment; roster = [] }
 
 -- it is challenged with both messages, and its log is asked for

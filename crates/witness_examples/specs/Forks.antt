@@ -1,9 +1,14 @@
 -- Own steps that show two hashes at one number of a client, and the evidence of them.
 use Rattle.std.specs.Prelude.{ℕ, ◌∷◌, [], List, Option}
-use Rattle.secure_log.specs.LogEntries.Chain.{zeros, links_from, last_hash}
+use Rattle.authenticator.specs.Numbers.{word_of}
+use Rattle.authenticator.specs.declared.authenticator.Authenticator.{Authenticator}
+use Rattle.authenticator.specs.declared.member.LogVersion.{LogVersion}
+use Rattle.authenticator.specs.declared.member.LogVersion.TheVariants.{One, Two}
+use Rattle.authenticator.specs.declared.member.Member.{Member}
+use Rattle.secure_log.specs.LogEntries.Chain.{Logged, zeros, links_from, logged_links, last_hash}
 use Rattle.secure_log.specs.declared.log_entries.entry.Entry.{Entry}
 use Rattle.secure_log.specs.declared.log_entries.entry.Entry.TheVariants.{Clock}
-use Rattle.secure_log.specs.Segment.{SegmentParts, ClosedParts}
+use Rattle.secure_log.specs.Versioned.{VersionedParts, ClosedVersionedParts, of_plain}
 use Rattle.state_spec.specs.State.{State, opening_client}
 use Rattle.state_spec.specs.Steps.{having_read}
 use Rattle.replay_spec.specs.Replay.{Sound}
@@ -11,14 +16,18 @@ use Rattle.witness_spec.specs.evidence_spec.Showing.{ShowingParts}
 use Rattle.witness_spec.specs.evidence_spec.Evidence.{Fork, EvidenceParts}
 use Rattle.witness_spec.specs.Events.{JobParts}
 use Rattle.witness_spec.specs.Replies.{Noted, Accepted, Asked, Job, Filed}
+use Rattle.witness_spec.specs.Watched.{Watched, watched}
 use Rattle.witness_spec.specs.Steps.{Learn, Answer, Audit, Begin, File, Past}
-use Rattle.witness_examples.specs.Worked.{learned, one_hash, other_hash, closed, filed_two, learned_to}
+use Rattle.witness_examples.specs.Worked.{five, learned, one_hash, other_hash, closed, filed_two, learned_to}
 use Rattle.witness_examples.specs.Worked.{state_read}
-use Rattle.authenticator.specs.declared.member.LogVersion.TheVariants.{One}
 
--- that a number has two hashes
+-- that a number has two hashes, in a log of a version
+abbrev pub forked_in : LogVersion → (at : ℕ) (a : ShowingParts) (b : Option ShowingParts) → EvidenceParts
+forked_in v at a b = record { node = 5; charge = Fork (record { log_version = v; at = at; a = a; b = b }) }
+
+-- in one of version 1
 abbrev pub forked : (at : ℕ) (a : ShowingParts) (b : Option ShowingParts) → EvidenceParts
-forked at a b = record { node = 5; charge = Fork (record { log_version = One; at = at; a = a; b = b }) }
+forked at a b = forked_in One at a b
 
 -- a hash at 0 that isn't 32 zero bytes
 abbrev pub zero_forked : Past
@@ -37,14 +46,14 @@ abbrev pub two_readings : List Entry
 two_readings = Clock 1 0 ∷ Clock 2 0 ∷ []
 
 -- a segment of them
-abbrev pub two_segment : SegmentParts
-two_segment = record {
+abbrev pub two_segment : VersionedParts
+two_segment = of_plain (record {
   node = 5;
   first = 1;
   opening = zeros;
   entries = two_readings;
   closing = learned 2 (last_hash zeros (links_from 1 two_readings));
-}
+})
 
 -- it was given
 abbrev pub two_given : Past
@@ -71,17 +80,17 @@ abbrev pub later_readings : List Entry
 later_readings = Clock 2 0 ∷ []
 
 -- a segment of it, whose opening isn't the hash at the end
-abbrev pub later_segment : SegmentParts
-later_segment = record {
+abbrev pub later_segment : VersionedParts
+later_segment = of_plain (record {
   node = 5;
   first = 2;
   opening = one_hash;
   entries = later_readings;
   closing = learned 2 (last_hash one_hash (links_from 2 later_readings));
-}
+})
 
 -- with a roster
-abbrev pub later_closed : ClosedParts
+abbrev pub later_closed : ClosedVersionedParts
 later_closed = record { segment = later_segment; roster = [] }
 
 -- it is asked for
@@ -117,3 +126,56 @@ below_forked = (Learn (learned 1 one_hash), Noted) ∷ two_filed
 -- another hash at the end
 abbrev pub end_forked : Past
 end_forked = (Learn (learned 2 one_hash), Noted) ∷ two_filed
+
+-- ---- a log of version 2
+
+-- the client, where its log is of version 2
+abbrev pub five_two : Member
+five_two = record five { log_version = Two }
+
+-- its node, under a roster that has it alone
+abbrev pub node_two : Watched
+node_two = watched (five_two ∷ []) five_two
+
+-- its authenticator of a hash at number 3, just before which so many numbers are skipped
+abbrev pub skipping : (skipped : ℕ) (hash : List ℕ) → Authenticator
+skipping skipped hash = learned (word_of skipped 3) hash
+
+-- one that skips one number was learned
+abbrev pub skipping_one : Past
+skipping_one = (Learn (skipping 1 one_hash), Noted) ∷ []
+
+-- then one of another hash, that skips two
+abbrev pub skipping_forked : Past
+skipping_forked = (Learn (skipping 2 other_hash), Noted) ∷ skipping_one
+
+-- two readings, just before the second of which number 2 is skipped
+abbrev pub gap_readings : List Logged
+gap_readings = record { skipped = 0; entry = Clock 1 0 } ∷ record { skipped = 1; entry = Clock 2 0 } ∷ []
+
+-- a segment of them, of numbers 1 to 3
+abbrev pub gap_segment : VersionedParts
+gap_segment = record {
+  log_version = Two;
+  node = 5;
+  first = 1;
+  opening = zeros;
+  entries = gap_readings;
+  closing = skipping 1 (last_hash zeros (logged_links 0 gap_readings));
+}
+
+-- under that roster
+abbrev pub gap_closed : ClosedVersionedParts
+gap_closed = record { segment = gap_segment; roster = five_two ∷ [] }
+
+-- it is asked for
+abbrev pub gap_wanted : Past
+gap_wanted = (Audit, Asked 1 3) ∷ (Learn gap_segment.closing, Noted) ∷ []
+
+-- and given
+abbrev pub gap_given : Past
+gap_given = (Answer gap_closed, Accepted) ∷ gap_wanted
+
+-- then an authenticator of the number that it skips
+abbrev pub gap_forked : Past
+gap_forked = (Learn (learned 2 one_hash), Noted) ∷ gap_given

@@ -10,7 +10,7 @@ use Rattle.authenticator.specs.declared.member.Member.{Member}
 use Rattle.secure_log.specs.LogEntries.Chain.{zeros, links_from, last_hash}
 use Rattle.secure_log.specs.declared.log_entries.entry.Entry.{Entry}
 use Rattle.secure_log.specs.declared.log_entries.entry.Entry.TheVariants.{Clock}
-use Rattle.secure_log.specs.Segment.{SegmentParts, ClosedParts}
+use Rattle.secure_log.specs.Versioned.{VersionedParts, ClosedVersionedParts}
 use Rattle.secure_log.specs.Versioned.{of_plain}
 use Rattle.envelopes.specs.declared.envelope.Envelope.{Envelope}
 use Rattle.state_spec.specs.State.{State, opening_client}
@@ -105,17 +105,17 @@ abbrev pub read_hash : List ℕ
 read_hash = last_hash zeros (links_from 1 readings)
 
 -- it alone, closed
-abbrev pub segment : SegmentParts
-segment = record {
+abbrev pub segment : VersionedParts
+segment = of_plain (record {
   node = 5;
   first = 1;
   opening = zeros;
   entries = readings;
   closing = learned 1 read_hash;
-}
+})
 
 -- with a roster, at which own steps don't look
-abbrev pub closed : ClosedParts
+abbrev pub closed : ClosedVersionedParts
 closed = record { segment = segment; roster = [] }
 
 -- its last authenticator was learned
@@ -204,17 +204,17 @@ abbrev pub no_hash : List ℕ
 no_hash = last_hash zeros (links_from 1 no_readings)
 
 -- it alone, closed
-abbrev pub no_segment : SegmentParts
-no_segment = record {
+abbrev pub no_segment : VersionedParts
+no_segment = of_plain (record {
   node = 5;
   first = 1;
   opening = zeros;
   entries = no_readings;
   closing = learned 1 no_hash;
-}
+})
 
 -- with a roster
-abbrev pub no_closed : ClosedParts
+abbrev pub no_closed : ClosedVersionedParts
 no_closed = record { segment = no_segment; roster = [] }
 
 -- the job of it
@@ -237,7 +237,7 @@ no_filed = (File no_done, Filed) ∷ no_out
 
 -- the evidence
 abbrev pub fault_at_one : EvidenceParts
-fault_at_one = record { node = 5; charge = Replay (of_plain no_segment) }
+fault_at_one = record { node = 5; charge = Replay no_segment }
 
 -- ---- many
 

@@ -7,8 +7,7 @@ use Rattle.std.proofs.Common.{eqb-true}
 use Rattle.std.specs.Prelude.{◌&&◌, IsTrue}
 use Rattle.std.proofs.lemmas.Bool.{and_parts, true≢false}
 use Rattle.xdr.specs.Item.{Fits, IsBytes}
-use Rattle.authenticator.specs.Roster.{member_of, kind_number, is_of_version, keeps_version, log_number}
-use Rattle.authenticator.specs.Roster.{same_version}
+use Rattle.authenticator.specs.Roster.{member_of, kind_number, log_number, same_version}
 use Rattle.authenticator.specs.declared.member.LogVersion.{LogVersion}
 use Rattle.authenticator.specs.declared.member.LogVersion.TheVariants.{One, Two}
 use Rattle.authenticator.specs.Signed.{IsSignedBy, IsSignedIn, authenticator_item, authenticator_value}
@@ -19,13 +18,15 @@ use Rattle.authenticator.specs.declared.member.Member.{Member}
 use Rattle.authenticator.specs.declared.refusal.Refusal as checks
 use Rattle.authenticator.proofs.Members.{member_node}
 use Rattle.authenticator.proofs.Signed.{same_list}
-use Rattle.secure_log.specs.Segment.{SegmentParts, ClosedParts, HasText, IsClosed}
+use Rattle.secure_log.specs.declared.segment.TheConstants.{MAX_ENTRIES}
+use Rattle.secure_log.specs.Versioned.{VersionedParts, ClosedVersionedParts, FitsVersion, IsClosedIn}
+use Rattle.secure_log.specs.Versioned.{is_whole_in, versioned_value}
 use Rattle.witness_spec.specs.packets.Packet.{Delivery}
 use Rattle.witness_spec.specs.packets.Packet as packets
 use Rattle.witness_spec.specs.packets.Judging.{judged}
 use Rattle.witness_spec.specs.packets.Taking.{IsTaken}
 use Rattle.witness_spec.proofs.packets.Taken.{as_meant}
-use Rattle.witness_spec.specs.Refusals.{Refusal, Garbage, BadSignature}
+use Rattle.witness_spec.specs.Refusals.{Refusal, BadSignature}
 use Rattle.witness_spec.specs.Events.{PublicKey, Event, IsSignedUnder, IsClosedUnder, IsEvent}
 use Rattle.witness_spec.specs.Events as events
 use Rattle.witness_spec.specs.Replies.{Reply, is_want_of_memory}
@@ -33,7 +34,7 @@ use Rattle.witness_spec.specs.Watched.{Watched, watched, IsInRoster}
 use Rattle.witness_spec.specs.Steps.{Step, Learn, SendChallenge, Answer, AckIn, Audit, Begin, File, PutBack}
 use Rattle.witness_spec.specs.Steps.{Forward, Ask, OwnStep, Past}
 use Rattle.witness_spec.specs.Whose.{step_of, is_key_of, same_member, same_roster, signed_step, sent_step}
-use Rattle.witness_spec.specs.Whose.{closed_step, delivered_step, judged_step, learned_step, whose}
+use Rattle.witness_spec.specs.Whose.{closed_step, delivered_step, judged_step, whose}
 use Rattle.witness_spec.specs.Histories.{History, own_step, IsHistory, own_of}
 use Rattle.witness_laws.proofs.OwnSteps.{same_member as member_same}
 
@@ -41,23 +42,23 @@ use Rattle.witness_laws.proofs.OwnSteps.{same_member as member_same}
 pub record IsLearned (w : Watched) (a : Authenticator) : Type 0 where
   -- it is of this node
   pub node : a.node ≡ w.member.node
-  -- the node's log is of version 1
-  pub version : IsTrue (keeps_version w.roster w.member.node One)
   -- it has a text
   pub text : Fits authenticator_item (authenticator_value a)
   -- a member of the roster signed it
   pub signed : IsSignedIn w.roster a
 
 -- a segment of a node that is closed under the roster, with a text
-pub record IsGiven (w : Watched) (c : ClosedParts) : Type 0 where
+pub record IsGiven (w : Watched) (c : ClosedVersionedParts) : Type 0 where
   -- its closing authenticator is of this node
   pub node : c.segment.closing.node ≡ w.member.node
   -- the roster under which it was checked
   pub roster : c.roster ≡ w.roster
   -- it has a text
-  pub text : HasText c.segment
+  pub fits : FitsVersion MAX_ENTRIES c.segment
+  -- with that it is whole
+  pub whole : IsTrue (is_whole_in c.segment.log_version (versioned_value c.segment.log_version c.segment))
   -- it is closed under the roster
-  pub closed : IsClosed w.roster c.segment
+  pub closed : IsClosedIn w.roster c.segment
 
 -- what a step brings was checked under the node's key and roster
 abbrev pub IsCheckedStep : Watched → Step → Type 0
@@ -81,7 +82,8 @@ kind_same Server Client h = absurd (omega (arith, h))
 kind_same Client Server h = absurd (omega (arith, h))
 kind_same Client Client h = refl
 
-version_same : (a b : LogVersion) → log_number a ≡ log_number b → a ≡ b
+-- versions of logs that have one number are one
+pub version_same : (a b : LogVersion) → log_number a ≡ log_number b → a ≡ b
 version_same One One h = refl
 version_same One Two h = absurd (omega (arith, h))
 version_same Two One h = absurd (omega (arith, h))
@@ -144,29 +146,12 @@ to_own : (ms : List Member) (o : OwnStep) (m : Member) (step : Step) → IsCheck
     → ◌≡◌ {A = Result OwnStep Refusal} (Ok (record { member = m; step = step })) (Ok o) → IsCheckedOwn ms o
 to_own ms o m step h e = subst (IsCheckedOwn ms) (own_same o m step e) h
 
--- what is learned is of a log of version 1
-pub of_learned : (x : Option Member) (r : Result OwnStep Refusal) (o : OwnStep) → learned_step x r ≡ Ok o
-    → (is_of_version One x ≡ true) × (r ≡ Ok o)
-of_learned x r o h = by (is_of_version One x) refl h
-  where
-    by : (b : Bool) → is_of_version One x ≡ b → ◌≡◌ {A = Result OwnStep Refusal} (cond b r (Err Garbage)) (Ok o)
-        → (is_of_version One x ≡ true) × (r ≡ Ok o)
-    by true e h = (e, h)
-    by false e h = absurd (cc)
-
--- so is its node's, as the roster has it
-its_version : (ms : List Member) (node : ℕ) (m : Member) → member_of ms node ≡ Some m
-    → is_of_version One (Some m) ≡ true → IsTrue (keeps_version ms m.node One)
-its_version ms node m is version =
-    ap (is_of_version One) (ap (member_of ms) (member_node ms node m is) ∙ is) ∙ version
-
 module _ (ms : List Member) (o : OwnStep) where
   learn_at : (a : Authenticator) (key : PublicKey) (x : Option Member) → member_of ms a.node ≡ x
-      → is_of_version One x ≡ true → signed_step x key (Learn a) ≡ Ok o
-      → Fits authenticator_item (authenticator_value a)
+      → signed_step x key (Learn a) ≡ Ok o → Fits authenticator_item (authenticator_value a)
       → IsSignedUnder key a → IsCheckedOwn ms o
-  learn_at a key None is version h text signed = absurd (cc)
-  learn_at a key (Some m) is version h text signed = by (is_key_of m key) refl h
+  learn_at a key None is h text signed = absurd (cc)
+  learn_at a key (Some m) is h text signed = by (is_key_of m key) refl h
     where
       by : (b : Bool) → is_key_of m key ≡ b
           → ◌≡◌ {A = Result OwnStep Refusal}
@@ -176,14 +161,13 @@ module _ (ms : List Member) (o : OwnStep) where
           to_own ms o m (Learn a)
           (record {
             node = sym (member_node ms a.node m is);
-            version = its_version ms a.node m is version;
             text = text;
             signed = in_roster (watched ms m) a is (signed_by m key a e signed);
           })
           h
       by false e h = absurd (cc)
 
-  answer_at : (c : ClosedParts) (x : Option Member) → member_of ms c.segment.closing.node ≡ x
+  answer_at : (c : ClosedVersionedParts) (x : Option Member) → member_of ms c.segment.closing.node ≡ x
       → closed_step x (same_roster c.roster ms) (Answer c) ≡ Ok o → IsClosedUnder c → IsCheckedOwn ms o
   answer_at c None is h closed = absurd (cc)
   answer_at c (Some m) is h closed = by (same_roster c.roster ms) refl h
@@ -198,8 +182,9 @@ module _ (ms : List Member) (o : OwnStep) where
           (record {
             node = sym (member_node ms c.segment.closing.node m is);
             roster = roster;
-            text = closed.text;
-            closed = subst (λ r. IsClosed r c.segment) roster closed.closed;
+            fits = closed.fits;
+            whole = closed.whole;
+            closed = subst (λ r. IsClosedIn r c.segment) roster closed.closed;
           })
           h
       by false e h = absurd (cc)
@@ -240,20 +225,18 @@ module _ (ms : List Member) (o : OwnStep) where
   -- ---- bytes
 
   learned_bytes : (bytes : List ℕ) (a : Authenticator) (x : Option Member) → member_of ms a.node ≡ x
-      → is_of_version One x ≡ true → step_of x (Learn a) ≡ Ok o → IsTaken ms bytes (packets.Learn a)
-      → IsCheckedOwn ms o
-  learned_bytes bytes a None is version h taken = absurd (cc)
-  learned_bytes bytes a (Some m) is version h taken =
+      → step_of x (Learn a) ≡ Ok o → IsTaken ms bytes (packets.Learn a) → IsCheckedOwn ms o
+  learned_bytes bytes a None is h taken = absurd (cc)
+  learned_bytes bytes a (Some m) is h taken =
       to_own ms o m (Learn a)
       (record {
         node = sym (member_node ms a.node m is);
-        version = its_version ms a.node m is version;
         text = taken.of_members.well.says.is_content.0;
         signed = taken.signed;
       })
       h
 
-  answered_bytes : (bytes : List ℕ) (s : SegmentParts) (x : Option Member) → member_of ms s.closing.node ≡ x
+  answered_bytes : (bytes : List ℕ) (s : VersionedParts) (x : Option Member) → member_of ms s.closing.node ≡ x
       → step_of x (Answer (record { segment = s; roster = ms })) ≡ Ok o → IsTaken ms bytes (packets.Answer s)
       → IsCheckedOwn ms o
   answered_bytes bytes s None is h taken = absurd (cc)
@@ -263,7 +246,8 @@ module _ (ms : List Member) (o : OwnStep) where
       (record {
         node = sym (member_node ms s.closing.node m is);
         roster = refl;
-        text = (content.0, content.1);
+        fits = content.fits;
+        whole = content.is.1;
         closed = record {
           version = taken.of_members.well.may_be.0;
           ends = taken.of_members.well.may_be.1;
@@ -274,10 +258,7 @@ module _ (ms : List Member) (o : OwnStep) where
 
   delivered_at : (bytes : List ℕ) (d : Delivery) → delivered_step ms d ≡ Ok o → IsTaken ms bytes d
       → IsCheckedOwn ms o
-  delivered_at bytes (packets.Learn a) h taken =
-      let x = member_of ms a.node in
-      let its = of_learned x (step_of x (Learn a)) o h in
-      learned_bytes bytes a x refl its.0 its.1 taken
+  delivered_at bytes (packets.Learn a) h taken = learned_bytes bytes a (member_of ms a.node) refl h taken
   delivered_at bytes (packets.SendChallenge e) h taken =
       other_at (member_of ms e.to) (SendChallenge e) (λ m. tt) h
   delivered_at bytes (packets.Answer s) h taken =
@@ -294,10 +275,7 @@ module _ (ms : List Member) (o : OwnStep) where
   -- where an event that may be handed in is a step of somebody, what it holds was checked
   pub checked_event : (e : Event) → whose ms e ≡ Ok o → IsEvent e → IsCheckedStep (watched ms o.member) o.step
   checked_event (events.Deliver bytes) h is = judged_at bytes (judged ms bytes) is refl h
-  checked_event (events.Learn a key) h is =
-      let x = member_of ms a.node in
-      let its = of_learned x (signed_step x key (Learn a)) o h in
-      learn_at a key x refl its.0 its.1 is.0 is.1
+  checked_event (events.Learn a key) h is = learn_at a key (member_of ms a.node) refl h is.0 is.1
   checked_event (events.SendChallenge e key) h is =
       sent_at (member_of ms e.from) (member_of ms e.to) key (SendChallenge e) (λ m. tt) h
   checked_event (events.Answer c) h is = answer_at c (member_of ms c.segment.closing.node) refl h is

@@ -9,7 +9,7 @@ use Rattle.std.specs.Prelude.{◌<◌, Decides, length}
 use Rattle.std.specs.List.{AllByRecursion}
 use Rattle.authenticator.specs.declared.authenticator.Authenticator.{Authenticator}
 use Rattle.secure_log.specs.LogEntries.Chain.{IsAmong}
-use Rattle.secure_log.specs.Segment.{ClosedParts}
+use Rattle.secure_log.specs.Versioned.{ClosedVersionedParts}
 use Rattle.witness_spec.specs.Refusals as refusals
 use Rattle.witness_spec.specs.Events.{JobParts, DoneParts}
 use Rattle.witness_spec.specs.Replies.{Reply, Noted, Already, Accepted, Asked, Job, Filed, Returned, Refused}
@@ -19,7 +19,7 @@ use Rattle.witness_spec.specs.Steps.{Step, Learn, SendChallenge, Answer, AckIn, 
 use Rattle.witness_spec.specs.Steps.{Forward, Ask, Past}
 use Rattle.witness_spec.specs.evidence_spec.Evidence.{MAX_AUDITED}
 use Rattle.witness_spec.specs.Limits.{MAX_OUTBOX}
-use Rattle.witness_spec.specs.Pairs.{pair_of, is_shown}
+use Rattle.witness_spec.specs.Pairs.{number_of, pair_of, is_shown, last_of}
 use Rattle.witness_spec.specs.Done.{noted, accepted, filed}
 use Rattle.witness_spec.specs.Standing.{end_of, Stage, NoAudit, Wanted, Given, Out, stage_after, stage_of}
 use Rattle.witness_spec.specs.Standing.{job_of}
@@ -30,8 +30,8 @@ use Rattle.witness_spec.specs.Owing.{next_job, back_reply, has_no_room, IsOut, O
 use Rattle.witness_laws.proofs.Reach.{IsInReach, IsNumberOf, in_reach, kept_after}
 
 -- what a step noted, accepted and filed, and where the audit stands after it
-pub record Did (past : Past) (p : Step × Reply) (learned : Option Authenticator) (answer : Option ClosedParts)
-    (job : Option JobParts) (to : Stage) : Type 0 where
+pub record Did (past : Past) (p : Step × Reply) (learned : Option Authenticator)
+    (answer : Option ClosedVersionedParts) (job : Option JobParts) (to : Stage) : Type 0 where
   -- what it noted
   pub notes : noted p.0 p.1 ≡ learned
   -- the segment that it accepted
@@ -46,17 +46,17 @@ pub data Doing (w : Watched) (past : Past) (p : Step × Reply) : Type 0 where
   Nothing : Did past p None None None (stage_of past) → Doing w past p
   Notes : (a : Authenticator) → p.0 ≡ Learn a → Did past p (Some a) None None (stage_of past)
       → Doing w past p
-  Accepts : (c : ClosedParts) → p.0 ≡ Answer c
-      → stage_of past ≡ Wanted c.segment.first c.segment.closing.word
+  Accepts : (c : ClosedVersionedParts) → p.0 ≡ Answer c
+      → stage_of past ≡ Wanted c.segment.first (last_of c.segment)
       → Did past p None (Some c) None (Given c) → Doing w past p
   Asks : (first last : ℕ) → first ≡ (end_of w past).number + 1
-      → (last ≤ MAX_AUDITED) × IsInReach first last × IsNumberOf (kept w past) last
+      → (last ≤ MAX_AUDITED) × IsInReach first last × IsNumberOf w.member.log_version (kept w past) last
       → Did past p None None None (Wanted first last) → Doing w past p
-  Begins : (c : ClosedParts) → stage_of past ≡ Given c → Did past p None None None (Out c)
+  Begins : (c : ClosedVersionedParts) → stage_of past ≡ Given c → Did past p None None None (Out c)
       → Doing w past p
   Files : (j : JobParts) → stage_of past ≡ Out j.segment → Did past p None None (Some j) NoAudit
       → Doing w past p
-  PutsBack : (c : ClosedParts) → stage_of past ≡ Out c → Did past p None None None (Given c)
+  PutsBack : (c : ClosedVersionedParts) → stage_of past ≡ Out c → Did past p None None None (Given c)
       → Doing w past p
 
 module _ (w : Watched) (past : Past) where
@@ -68,28 +68,30 @@ module _ (w : Watched) (past : Past) where
   learns a false false false =
       Notes a refl (record { notes = refl; accepts = refl; files = refl; stage = refl })
 
-  answered : (c : ClosedParts) (first last : ℕ) (b : Bool) → stage_of past ≡ Wanted first last
-      → ((c.segment.first == first) && (c.segment.closing.word == last)) ≡ b
+  answered : (c : ClosedVersionedParts) (first last : ℕ) (b : Bool) → stage_of past ≡ Wanted first last
+      → ((c.segment.first == first) && (last_of c.segment == last)) ≡ b
       → Doing w past (Answer c, cond b Accepted (Refused refusals.NotAsked))
   answered c first last true is e =
-      let both = and_parts (c.segment.first == first) (c.segment.closing.word == last) e in
+      let both = and_parts (c.segment.first == first) (last_of c.segment == last) e in
       let one : c.segment.first ≡ first = eqb-true c.segment.first first both.0 in
-      let other : c.segment.closing.word ≡ last = eqb-true c.segment.closing.word last both.1 in
+      let other : last_of c.segment ≡ last = eqb-true (last_of c.segment) last both.1 in
       Accepts c refl (is ∙ (ap (λ n. Wanted n last) (sym one)
       ∙ ap (λ n. Wanted c.segment.first n) (sym other)))
       (record { notes = refl; accepts = refl; files = refl; stage = refl })
   answered c first last false is e =
       Nothing (record { notes = refl; accepts = refl; files = refl; stage = refl })
 
-  answers : (c : ClosedParts) (s : Stage) → stage_of past ≡ s → Doing w past (Answer c, answer_reply s c)
+  answers : (c : ClosedVersionedParts) (s : Stage) → stage_of past ≡ s
+      → Doing w past (Answer c, answer_reply s c)
   answers c NoAudit is = Nothing (record { notes = refl; accepts = refl; files = refl; stage = refl })
   answers c (Wanted first last) is =
-      answered c first last ((c.segment.first == first) && (c.segment.closing.word == last)) is refl
+      answered c first last ((c.segment.first == first) && (last_of c.segment == last)) is refl
   answers c (Given d) is = Nothing (record { notes = refl; accepts = refl; files = refl; stage = refl })
   answers c (Out d) is = Nothing (record { notes = refl; accepts = refl; files = refl; stage = refl })
 
   asked : (x y z : Bool) (first last : ℕ) → first ≡ (end_of w past).number + 1
-      → (x ≡ false → IsInReach first last × IsNumberOf (kept w past) last) → nat_lt MAX_AUDITED last ≡ y
+      → (x ≡ false → IsInReach first last × IsNumberOf w.member.log_version (kept w past) last)
+      → nat_lt MAX_AUDITED last ≡ y
       → Doing w past (
         Audit,
         cond x (Refused refusals.TooFar) (cond y (Refused refusals.BookFull)
@@ -107,18 +109,18 @@ module _ (w : Watched) (past : Past) where
 
   asks : (exposed : Bool) (waiting : ℕ) (learned : List Authenticator)
       → ((a : Authenticator) → IsAmong a learned → IsAmong a (kept w past))
-      → AllByRecursion (λ a. (end_of w past).number < a.word) learned
-      → Doing w past (Audit, ask_reply exposed (end_of w past).number waiting learned)
+      → AllByRecursion (λ a. (end_of w past).number < number_of w.member.log_version a) learned
+      → Doing w past (Audit, ask_reply w.member.log_version exposed (end_of w past).number waiting learned)
   asks true waiting learned within all =
       Nothing (record { notes = refl; accepts = refl; files = refl; stage = refl })
   asks false waiting [] within all =
       Nothing (record { notes = refl; accepts = refl; files = refl; stage = refl })
   asks false waiting (a ∷ learned) within all =
       let end = (end_of w past).number in
-      let last = last_in_reach end (a ∷ learned) in
+      let last = last_in_reach w.member.log_version end (a ∷ learned) in
       asked (last == 0) (nat_lt MAX_AUDITED last) (nat_lt MAX_OUTBOX (waiting + (last - end)))
       (end + 1) last refl
-      (in_reach (kept w past) end (a ∷ learned) within all) refl
+      (in_reach w.member.log_version (kept w past) end (a ∷ learned) within all) refl
 
   audits : (s : Stage) → Doing w past (Audit, audit_reply w past s)
   audits NoAudit = asks (is_exposed w past) (length (outbox w past)) (kept w past) (λ a i. i)
@@ -127,7 +129,7 @@ module _ (w : Watched) (past : Past) where
   audits (Given c) = Nothing (record { notes = refl; accepts = refl; files = refl; stage = refl })
   audits (Out c) = Nothing (record { notes = refl; accepts = refl; files = refl; stage = refl })
 
-  begun : (c : ClosedParts) (b : Bool) → stage_of past ≡ Given c
+  begun : (c : ClosedVersionedParts) (b : Bool) → stage_of past ≡ Given c
       → Doing w past (Begin, cond b (Refused refusals.NothingToAudit) (Job (next_job w past c)))
   begun c true is = Nothing (record { notes = refl; accepts = refl; files = refl; stage = refl })
   begun c false is = Begins c is (record { notes = refl; accepts = refl; files = refl; stage = refl })
@@ -174,7 +176,8 @@ module _ (w : Watched) (past : Past) where
   told : (b : Bool) (step : Step) → Decides b (IsOut w past step)
       → Doing w past (step, reply_told b w past step)
   told b (Learn a) h =
-      learns a (is_exposed w past) (is_shown (pair_of a) (shown w past)) (has_no_room w past a)
+      learns a (is_exposed w past) (is_shown (pair_of w.member.log_version a) (shown w past))
+      (has_no_room w past a)
   told b (SendChallenge e) h = Nothing (record { notes = refl; accepts = refl; files = refl; stage = refl })
   told b (Answer c) h = answers c (stage_of past) refl
   told b (AckIn a) h = Nothing (record { notes = refl; accepts = refl; files = refl; stage = refl })

@@ -7,12 +7,12 @@ use Rattle.std.proofs.lemmas.Bool.{and_parts, and_from, or_cases, or_left, or_ri
 use Rattle.authenticator.specs.declared.member.Member.{Member}
 use Rattle.witness_spec.specs.state_spec.State.{State}
 use Rattle.authenticator.specs.Signing.{is_same}
-use Rattle.witness_spec.specs.replay_spec.Placed.{placed_in}
-use Rattle.witness_spec.specs.replay_spec.Replay.{Honest, Verdict, Sound, Fault, segment_verdict}
+use Rattle.witness_spec.specs.replay_spec.Placed.{places_in}
+use Rattle.witness_spec.specs.replay_spec.Replay.{Honest, Verdict, Sound, Fault, verdict_of}
 use Rattle.authenticator.proofs.Signed.{same_list, list_same}
 use Rattle.witness_spec.proofs.replay_spec.Runs.{sound, is_sound}
 use Rattle.secure_log.specs.LogEntries.Chain.{IsAmong}
-use Rattle.secure_log.specs.Segment.{SegmentParts}
+use Rattle.secure_log.specs.Versioned.{VersionedParts}
 use Rattle.witness_spec.specs.Events.{JobParts}
 use Rattle.witness_spec.specs.Replies.{Reply, Challenge, Suspected, Exposed}
 use Rattle.witness_spec.specs.Watched.{Watched}
@@ -117,18 +117,20 @@ fork_of (p ∷ pairs) n x y (inr i) (inr j) h =
 -- ---- faults
 
 -- a verdict is a fault exactly where no list of states is honest
-pub no_states : (ms : List Member) (s : State) (g : SegmentParts) → is_fault (segment_verdict ms s g) ≡ true
-    → (states : List State) → ¬ Honest ms s (placed_in g) states
+pub no_states : (ms : List Member) (s : State) (g : VersionedParts)
+    → is_fault (verdict_of ms s (places_in g)) ≡ true
+    → (states : List State) → ¬ Honest ms s (places_in g) states
 no_states ms s g h states honest =
-    true≢false (sym h ∙ ap is_fault (sound ms s (placed_in g) states honest))
+    true≢false (sym h ∙ ap is_fault (sound ms s (places_in g) states honest))
 
 -- the verdict on a segment that no list of states makes honest is a fault
-pub fault_of : (ms : List Member) (s : State) (g : SegmentParts)
-    → ((states : List State) → ¬ Honest ms s (placed_in g) states) → is_fault (segment_verdict ms s g) ≡ true
-fault_of ms s g h = by (segment_verdict ms s g) refl
+pub fault_of : (ms : List Member) (s : State) (g : VersionedParts)
+    → ((states : List State) → ¬ Honest ms s (places_in g) states)
+    → is_fault (verdict_of ms s (places_in g)) ≡ true
+fault_of ms s g h = by (verdict_of ms s (places_in g)) refl
   where
-    by : (v : Verdict) → segment_verdict ms s g ≡ v → is_fault v ≡ true
-    by (Sound t found) e = let k = is_sound ms s (placed_in g) t found e in absurd (h k.states k.honest)
+    by : (v : Verdict) → verdict_of ms s (places_in g) ≡ v → is_fault v ≡ true
+    by (Sound t found) e = let k = is_sound ms s (places_in g) t found e in absurd (h k.states k.honest)
     by (Fault fault number) e = refl
 
 faulty_of : (w : Watched) (past : Past) (p : Step × Reply) (job : Option JobParts)
@@ -237,7 +239,7 @@ exposed_on w p past h = by (or_cases (has_fork (shown w past)) (has_fault w past
         → is_exposed w (p ∷ past) ≡ true
     by (inl f) =
         or_left (has_fork (shown w (p ∷ past))) (has_fault w (p ∷ past))
-        (fork_stays (pairs_noted (is_exposed w past) (noted p.0 p.1))
+        (fork_stays (pairs_noted w.member.log_version (is_exposed w past) (noted p.0 p.1))
         (pairs_accepted (accepted p.0 p.1) ++ shown w past)
         (fork_stays (pairs_accepted (accepted p.0 p.1)) (shown w past) f))
     by (inr g) =

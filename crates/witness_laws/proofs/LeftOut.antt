@@ -4,22 +4,21 @@ use Rattle.std.proofs.Common.{◌≡◌, ◌≢◌, ℕ, Bool, true, false, ◌=
 use Rattle.std.proofs.Common.{Option, Some, None, Result, Ok, Err, refl, sym, ap, subst, ◌∙◌}
 use Rattle.std.proofs.Common.{eqb-true, eq-eqb, leb-true, cond}
 use Rattle.std.proofs.lemmas.Bool.{and_parts}
-use Rattle.authenticator.specs.declared.member.LogVersion.TheVariants.{One}
-use Rattle.authenticator.specs.Roster.{is_of_version, member_of}
+use Rattle.authenticator.specs.Roster.{member_of}
 use Rattle.authenticator.specs.declared.member.Member.{Member}
 use Rattle.authenticator.specs.declared.refusal.Refusal.TheVariants as checking
 use Rattle.witness_spec.specs.packets.Packet.{Delivery, delivery_of, delivery_shows}
 use Rattle.witness_spec.specs.packets.Packet as packets
 use Rattle.authenticator.specs.Signing.{is_signed_in}
 use Rattle.witness_spec.specs.packets.Judging.{may_be, is_of_members, judged_option, judged}
-use Rattle.witness_spec.specs.Refusals.{Refusal, refusal_number, Garbage, BadSignature}
+use Rattle.witness_spec.specs.Refusals.{Refusal, refusal_number, BadSignature}
 use Rattle.witness_spec.specs.Events.{PublicKey, Event}
 use Rattle.witness_spec.specs.Events as events
 use Rattle.witness_spec.specs.Replies.{Reply, is_want_of_memory}
 use Rattle.witness_spec.specs.Watched.{watched}
-use Rattle.witness_spec.specs.Steps.{Step, Learn, OwnStep}
+use Rattle.witness_spec.specs.Steps.{Step, OwnStep}
 use Rattle.witness_spec.specs.Whose.{step_of, is_key_of, same_roster, signed_step, sent_step, closed_step}
-use Rattle.witness_spec.specs.Whose.{delivered_step, judged_step, learned_step, whose}
+use Rattle.witness_spec.specs.Whose.{delivered_step, judged_step, whose}
 use Rattle.witness_spec.specs.Owing.{Owes}
 use Rattle.witness_spec.specs.Histories.{History, own_one, own, OwesTo, IsOwed, IsWanting, BookParts}
 use Rattle.witness_spec.specs.Histories.{StandsFor}
@@ -81,13 +80,6 @@ early_signed : (x : Option Member) (key : PublicKey) (step : Step) → IsEarly (
 early_signed None key step = refl
 early_signed (Some m) key step = early_cond (is_key_of m key) _
 
-early_learned : (x : Option Member) (r : Result OwnStep Refusal) → IsEarly r → IsEarly (learned_step x r)
-early_learned x r h = by (is_of_version One x)
-  where
-    by : (b : Bool) → IsEarly (cond b r (Err Garbage))
-    by true = h
-    by false = refl
-
 early_sent : (x y : Option Member) (key : PublicKey) (step : Step) → IsEarly (sent_step x y key step)
 early_sent None y key step = refl
 early_sent (Some m) None key step = refl
@@ -98,8 +90,7 @@ early_closed None same step = refl
 early_closed (Some m) same step = early_cond same _
 
 early_delivered : (ms : List Member) (d : Delivery) → IsEarly (delivered_step ms d)
-early_delivered ms (packets.Learn a) =
-    early_learned (member_of ms a.node) _ (early_step (member_of ms a.node) (Learn a))
+early_delivered ms (packets.Learn a) = early_step (member_of ms a.node) _
 early_delivered ms (packets.SendChallenge e) = early_step (member_of ms e.to) _
 early_delivered ms (packets.Answer s) = early_step (member_of ms s.closing.node) _
 early_delivered ms (packets.AckIn a) = early_step (member_of ms a.by) _
@@ -124,8 +115,7 @@ early_bytes ms bytes = early_option ms (delivery_of bytes)
 
 early : (ms : List Member) (e : Event) → IsEarly (whose ms e)
 early ms (events.Deliver bytes) = early_bytes ms bytes
-early ms (events.Learn a key) =
-    early_learned (member_of ms a.node) _ (early_signed (member_of ms a.node) key (Learn a))
+early ms (events.Learn a key) = early_signed (member_of ms a.node) key _
 early ms (events.SendChallenge e key) = early_sent (member_of ms e.from) (member_of ms e.to) key _
 early ms (events.Answer c) = early_closed (member_of ms c.segment.closing.node) (same_roster c.roster ms) _
 early ms (events.AckIn a key) = early_signed (member_of ms a.by) key _

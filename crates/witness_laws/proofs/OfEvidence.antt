@@ -1,4 +1,5 @@
 -- Lemmas on audits, charges and what exposes a node. Serves: `evidence`.
+pub mod Marks
 pub mod Audits
 pub mod Before
 pub mod Charges

@@ -4,22 +4,21 @@ use Rattle.std.proofs.Common.{◌≡◌, ◌⊎◌, inl, inr, ℕ, Bool, true, f
 use Rattle.std.proofs.Common.{◌++◌, map, Option, Some, None, Result, Ok, Err, refl, sym, ap, ap₂, subst, ◌∙◌}
 use Rattle.std.proofs.Common.{eqb-true}
 use Rattle.std.proofs.lemmas.Option.{same_Some}
-use Rattle.authenticator.specs.declared.member.LogVersion.TheVariants.{One}
-use Rattle.authenticator.specs.Roster.{is_of_version, member_of}
+use Rattle.authenticator.specs.Roster.{member_of}
 use Rattle.authenticator.specs.declared.member.Member.{Member}
 use Rattle.authenticator.specs.declared.refusal.Refusal as checks
 use Rattle.authenticator.proofs.Members.{member_node}
 use Rattle.witness_spec.specs.packets.Packet.{Delivery}
 use Rattle.witness_spec.specs.packets.Packet as packets
 use Rattle.witness_spec.specs.packets.Judging.{judged}
-use Rattle.witness_spec.specs.Refusals.{Refusal, Garbage}
+use Rattle.witness_spec.specs.Refusals.{Refusal}
 use Rattle.witness_spec.specs.Events.{PublicKey, Event}
 use Rattle.witness_spec.specs.Events as events
 use Rattle.witness_spec.specs.Replies.{Reply, is_want_of_memory}
 use Rattle.witness_spec.specs.Watched.{Watched, watched, IsInRoster}
-use Rattle.witness_spec.specs.Steps.{Step, Learn, OwnStep, Past}
+use Rattle.witness_spec.specs.Steps.{Step, OwnStep, Past}
 use Rattle.witness_spec.specs.Whose.{step_of, is_key_of, same_roster, signed_step, sent_step, closed_step}
-use Rattle.witness_spec.specs.Whose.{delivered_step, judged_step, learned_step, whose}
+use Rattle.witness_spec.specs.Whose.{delivered_step, judged_step, whose}
 use Rattle.witness_spec.specs.Standing.{indication, open_challenges}
 use Rattle.witness_spec.specs.Exposing.{evidence}
 use Rattle.witness_spec.specs.Owing.{Owes}
@@ -45,15 +44,6 @@ key_cond : (b : Bool) (m : Member) (step : Step) (code : Refusal) (o : OwnStep)
 key_cond true m step code o h = cc
 key_cond false m step code o h = absurd (cc)
 
--- what is learned is the step that it would be of any log
-pub of_learned : (x : Option Member) (r : Result OwnStep Refusal) (o : OwnStep) → learned_step x r ≡ Ok o
-    → r ≡ Ok o
-of_learned x r o h = by (is_of_version One x) h
-  where
-    by : (b : Bool) → ◌≡◌ {A = Result OwnStep Refusal} (cond b r (Err Garbage)) (Ok o) → r ≡ Ok o
-    by true h = h
-    by false h = absurd (cc)
-
 of_signed : (x : Option Member) (key : PublicKey) (step : Step) (o : OwnStep)
     → signed_step x key step ≡ Ok o → HasMember x o
 of_signed None key step o h = absurd (cc)
@@ -77,8 +67,7 @@ at_member ms node o h = ap (member_of ms) (member_node ms node o.member h) ∙ h
 
 of_delivery : (ms : List Member) (d : Delivery) (o : OwnStep) → delivered_step ms d ≡ Ok o
     → member_of ms o.member.node ≡ Some o.member
-of_delivery ms (packets.Learn a) o h =
-    at_member ms a.node o (of_step _ (Learn a) o (of_learned (member_of ms a.node) _ o h))
+of_delivery ms (packets.Learn a) o h = at_member ms a.node o (of_step _ _ o h)
 of_delivery ms (packets.SendChallenge e) o h = at_member ms e.to o (of_step _ _ o h)
 of_delivery ms (packets.Answer s) o h = at_member ms s.closing.node o (of_step _ _ o h)
 of_delivery ms (packets.AckIn a) o h = at_member ms a.by o (of_step _ _ o h)
@@ -92,8 +81,7 @@ of_judged ms (Err refusal) o h = absurd (cc)
 pub of_member : (ms : List Member) (e : Event) (o : OwnStep) → whose ms e ≡ Ok o
     → member_of ms o.member.node ≡ Some o.member
 of_member ms (events.Deliver bytes) o h = of_judged ms (judged ms bytes) o h
-of_member ms (events.Learn a key) o h =
-    at_member ms a.node o (of_signed _ key (Learn a) o (of_learned (member_of ms a.node) _ o h))
+of_member ms (events.Learn a key) o h = at_member ms a.node o (of_signed _ key _ o h)
 of_member ms (events.SendChallenge e key) o h =
     at_member ms e.to o (of_sent (member_of ms e.from) _ key _ o h)
 of_member ms (events.Answer c) o h =

@@ -5,7 +5,8 @@ use Rattle.std.proofs.Common.{List, [], ◌∷◌, Option, Some, None}
 use Rattle.std.proofs.Common.{refl, sym, ap, ◌∙◌}
 use Rattle.std.specs.Bool.{one_answer}
 use Rattle.authenticator.specs.declared.authenticator.Authenticator.{Authenticator}
-use Rattle.secure_log.specs.Segment.{ClosedParts}
+use Rattle.authenticator.specs.declared.member.LogVersion.{LogVersion}
+use Rattle.secure_log.specs.Versioned.{ClosedVersionedParts}
 use Rattle.witness_spec.specs.Refusals as refusals
 use Rattle.witness_spec.specs.Events.{Event, JobParts, Question, ItsIndication, ItsChallenges, ItsEvidence}
 use Rattle.witness_spec.specs.Events as events
@@ -24,7 +25,7 @@ use Rattle.witness_spec.specs.Owing.{back_reply, forward_reply, last_in_reach, h
 use Rattle.witness_spec.specs.Owing.{next_job, Owes}
 use Rattle.witness_spec.specs.Limits.{MAX_CHALLENGES, MAX_OUTBOX}
 use Rattle.witness_spec.specs.evidence_spec.Evidence.{MAX_AUDITED}
-use Rattle.witness_spec.specs.Pairs.{pair_of, is_shown}
+use Rattle.witness_spec.specs.Pairs.{pair_of, is_shown, last_of}
 use Rattle.envelopes.specs.Envelope.{envelope_message}
 use Rattle.envelopes.specs.Acknowledgement.{acked_message}
 
@@ -54,10 +55,10 @@ either : (b : Bool) (x y : Reply) → is_good x ≡ true → is_good y ≡ true 
 either true x y h k = h
 either false x y h k = k
 
-good_answer : (stage : Stage) (c : ClosedParts) → is_good (answer_reply stage c) ≡ true
+good_answer : (stage : Stage) (c : ClosedVersionedParts) → is_good (answer_reply stage c) ≡ true
 good_answer NoAudit c = refl
 good_answer (Wanted first last) c =
-    either ((c.segment.first == first) && (c.segment.closing.word == last))
+    either ((c.segment.first == first) && (last_of c.segment == last))
     Accepted (Refused refusals.NotAsked) refl refl
 good_answer (Given d) c = refl
 good_answer (Out d) c = refl
@@ -75,15 +76,15 @@ good_up_to end waiting last =
     good_tests (last == 0) (nat_lt MAX_AUDITED last) (nat_lt MAX_OUTBOX (waiting + (last - end)))
     (end + 1) last
 
-good_ask : (exposed : Bool) (end waiting : ℕ) (learned : List Authenticator)
-    → is_good (ask_reply exposed end waiting learned) ≡ true
-good_ask true end waiting learned = refl
-good_ask false end waiting [] = refl
-good_ask false end waiting (a ∷ learned) = good_up_to end waiting (last_in_reach end (a ∷ learned))
+good_ask : (v : LogVersion) (exposed : Bool) (end waiting : ℕ) (learned : List Authenticator)
+    → is_good (ask_reply v exposed end waiting learned) ≡ true
+good_ask v true end waiting learned = refl
+good_ask v false end waiting [] = refl
+good_ask v false end waiting (a ∷ learned) = good_up_to end waiting (last_in_reach v end (a ∷ learned))
 
 good_audit : (w : Watched) (past : Past) (stage : Stage)
     → is_good (audit_reply w past stage) ≡ true
-good_audit w past NoAudit = good_ask (is_exposed w past) _ _ (kept w past)
+good_audit w past NoAudit = good_ask w.member.log_version (is_exposed w past) _ _ (kept w past)
 good_audit w past (Wanted first last) = refl
 good_audit w past (Given c) = refl
 good_audit w past (Out c) = refl
@@ -129,7 +130,8 @@ good_challenge false false = refl
 pub good_reply : (b : Bool) (w : Watched) (past : Past) (step : Step)
     → is_good (reply_told b w past step) ≡ true
 good_reply b w past (Learn a) =
-    good_learn (is_exposed w past) (is_shown (pair_of a) (shown w past)) (has_no_room w past a)
+    good_learn (is_exposed w past) (is_shown (pair_of w.member.log_version a) (shown w past))
+    (has_no_room w past a)
 good_reply b w past (SendChallenge e) =
     good_challenge (is_open (envelope_message e) (open_challenges past))
     (nat_le MAX_CHALLENGES (count_by is_send (open_challenges past)))

@@ -9,6 +9,7 @@ use Rattle.std.specs.List.{AllByRecursion}
 use Rattle.std.proofs.lemmas.Bool.{true≢false}
 use Rattle.std.proofs.lemmas.Option.{same_Some}
 use Rattle.authenticator.specs.declared.authenticator.Authenticator.{Authenticator}
+use Rattle.authenticator.specs.declared.member.LogVersion.TheVariants.{One}
 use Rattle.secure_log.specs.LogEntries.Chain.{IsAmong}
 use Rattle.secure_log.specs.declared.log_entries.entry.Entry.{Entry}
 use Rattle.commitment.specs.Signings.Signings.{Signing, is_signed_entry}
@@ -18,6 +19,7 @@ use Rattle.node_logs.specs.Steps.Nodes.{NodeParts, sender_of}
 use Rattle.witness_laws.specs.witness_spec.Replies.{Reply}
 use Rattle.witness_laws.specs.witness_spec.Watched.{Watched}
 use Rattle.witness_laws.specs.witness_spec.Steps.{Step, Learn, Past}
+use Rattle.witness_laws.specs.witness_spec.Pairs.{number_of}
 use Rattle.witness_laws.specs.witness_spec.Standing.{Stage, NoAudit, Wanted, Given, Out, stage_of, kept}
 use Rattle.witness_laws.specs.witness_spec.Standing.{noted_before}
 use Rattle.witness_laws.specs.witness_spec.Standing.{unless_exposed, end_of, is_exposed}
@@ -78,7 +80,7 @@ module _ (each : SignsEach) (none : LeavesNone) (n : NodeParts) where
           subst (λ k. IsSome (signed_at (sender_of n) k)) same
           (still_signed h.number g_at.before (g_at.rest ++ h.went_on.rest) g.entry g_at.kind whole g_at.place)
 
-  module _ (w : Watched) where
+  module _ (w : Watched) (version : w.member.log_version ≡ One) where
     -- a step noted only what it was to learn
     here : (past : Past) (p : Step × Reply) (b : Bool) (a : Authenticator) → Doing w past p
         → ShowsItsOwn n p.0
@@ -125,8 +127,10 @@ module _ (each : SignsEach) (none : LeavesNone) (n : NodeParts) where
     one_step past p (Notes a is did) signed k = subst StageIsSigned (sym did.stage) k
     one_step past p (Accepts c is wanted did) signed k = subst StageIsSigned (sym did.stage) tt
     one_step past p (Asks first last is few did) signed k =
+        let a = few.2.authenticator in
+        let number : a.word ≡ last = ap (λ v. number_of v a) (sym version) ∙ few.2.is in
         subst StageIsSigned (sym did.stage)
-        (subst (λ j. IsSome (signed_at (sender_of n) j)) few.2.is (signed few.2.authenticator few.2.among))
+        (subst (λ j. IsSome (signed_at (sender_of n) j)) number (signed a few.2.among))
     one_step past p (Begins c is did) signed k = subst StageIsSigned (sym did.stage) tt
     one_step past p (Files j is did) signed k = subst StageIsSigned (sym did.stage) tt
     one_step past p (PutsBack c is did) signed k = subst StageIsSigned (sym did.stage) tt
@@ -137,7 +141,8 @@ module _ (each : SignsEach) (none : LeavesNone) (n : NodeParts) where
     signed_stage (p ∷ past) owed all =
         one_step past p (doing w past p.0 p.1 owed.0)
         (λ a i. signed_now a (noted_own past owed.1 all.1 a
-        (from_filter (λ x. nat_lt (end_of w past).number x.word) a (noted_before w past) i)))
+        (from_filter (λ x. nat_lt (end_of w past).number (number_of w.member.log_version x)) a
+        (noted_before w past) i)))
         (signed_stage past owed.1 all.1)
 
     -- Where all that own steps show is the node's own, it signed at the last number that an audit asks for.

@@ -4,7 +4,7 @@ use Rattle.std.proofs.Common.{◌≡◌, inl, inr, ℕ, ◌+◌, List, [], ◌�
 use Rattle.std.specs.Prelude.{◌↔◌}
 use Rattle.authenticator.specs.declared.authenticator.Authenticator.{Authenticator}
 use Rattle.secure_log.specs.declared.log_entries.entry.Entry.{Entry}
-use Rattle.secure_log.specs.LogEntries.Chain.{Link, StandsIn, hash_after, link_of, links_from, pairs, zeros}
+use Rattle.secure_log.specs.LogEntries.Chain.{StandsIn, hash_after, link_of, links_from, pairs, zeros}
 use Rattle.secure_log.specs.LogEntries.Chain.{IsAmong}
 use Rattle.secure_log.specs.Log.{LogParts, IsOfPlace, hash_at, log_pairs}
 use Rattle.witness_laws.proofs.evidence_spec.Places.{head_among}

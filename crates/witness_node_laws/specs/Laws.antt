@@ -5,9 +5,11 @@ use Rattle.xdr.specs.Item.{IsBytes, number_spelling}
 use Rattle.xdr.specs.Texts.Text.{IsText}
 use Rattle.authenticator.specs.Roster.{IsRoster}
 use Rattle.authenticator.specs.Signed.{IsSignedBy}
+use Rattle.authenticator.specs.declared.member.LogVersion.TheVariants.{One}
 use Rattle.authenticator.specs.declared.member.Member.{Member}
-use Rattle.secure_log.specs.LogEntries.Chain.{NoCollision, IsAmong}
+use Rattle.secure_log.specs.LogEntries.Chain.{NoCollision, IsAmong, without_gaps}
 use Rattle.secure_log.specs.Segment.{SegmentParts, segment_text, segment_value}
+use Rattle.secure_log.specs.Versioned.{of_plain}
 use Rattle.envelopes.specs.Envelope.{envelope_message}
 use Rattle.envelopes.specs.Acknowledgement.{ack_shows, ack_text, ack_value}
 use Rattle.envelopes.specs.Checking.{IsTextOf}
@@ -49,8 +51,8 @@ IsNeverExposed n =
     n.strayed ≡ false → (m : Member) (history : History)
     → let w : Watched = watched n.roster m in
     IsListedAs n m → IsInRoster w → IsHistory n.roster history
-    → Unforged w n.entries (own_of w history)
-    → NoCollisionWith n.entries (own_of w history)
+    → Unforged w (without_gaps n.entries) (own_of w history)
+    → NoCollisionWith (without_gaps n.entries) (own_of w history)
     → indication w (own_of w history) ≢ Exposed
 
 -- Nor is it where all that a witness was shown of its log is what the node itself showed, and no two texts of
@@ -83,10 +85,10 @@ pub record IsSameStep (w : Watched) (history : History) (bytes : List ℕ) (even
 pub record IsAcceptedAnswer (w : Watched) (history : History) (bytes : List ℕ) : Type 0 where
   pub segment : SegmentParts
   pub text : IsText segment_text (segment_value segment) bytes
-  pub event : IsEvent (events.Answer (record { segment = segment; roster = w.roster }))
-  pub accepted : AnswersAudit w history (record { segment = segment; roster = w.roster })
+  pub event : IsEvent (events.Answer (record { segment = of_plain segment; roster = w.roster }))
+  pub accepted : AnswersAudit w history (record { segment = of_plain segment; roster = w.roster })
   pub packet : IsSameStep w history (number_spelling 4 3 ++ bytes)
-      (events.Answer (record { segment = segment; roster = w.roster }))
+      (events.Answer (record { segment = of_plain segment; roster = w.roster }))
 
 -- Where an audit is open, a node that signed at the last number refuses the challenge with its numbers
 -- only where memory runs out.
@@ -98,12 +100,12 @@ AskedCanBeAnswered =
     → IsSender (sender_of n) → IsSome (signed_at (sender_of n) last)
     → RefusesChallenge n first last fault → fault ≡ NoMemory
 
--- So it does where all that a witness was shown of its log is what the node itself showed: then an audit asks
--- up to a number at which the node signed.
+-- So it does where the roster gives its log version 1, as it is, and all that a witness was shown of its log
+-- is what the node itself showed: then an audit asks up to a number at which the node signed.
 abbrev pub OwnWordsCanBeAnswered : NodeParts → Type 0
 OwnWordsCanBeAnswered n =
     (w : Watched) (history : History) (first last : ℕ) (fault : SegmentFault)
-    → IsInRoster w → IsHistory w.roster history
+    → IsInRoster w → w.member.log_version ≡ One → IsHistory w.roster history
     → AllByRecursion (λ p. ShowsItsOwn n p.0) (own_of w history)
     → stage_of (own_of w history) ≡ Wanted first last
     → RefusesChallenge n first last fault → fault ≡ NoMemory

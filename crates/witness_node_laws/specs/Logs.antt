@@ -6,7 +6,7 @@ use Rattle.secure_log.specs.LogEntries.Chain.{IsAmong}
 use Rattle.secure_log.specs.declared.log_entries.entry.Entry.{Entry}
 use Rattle.secure_log.specs.Log.{log_pairs}
 use Rattle.secure_log.specs.Part.{with_closing}
-use Rattle.secure_log.specs.Segment.{SegmentParts}
+use Rattle.secure_log.specs.Versioned.{VersionedParts, of_plain}
 use Rattle.commitment.specs.Senders.Sender.{IsSender}
 use Rattle.commitment.specs.Senders.LookUps.{authenticator_at}
 use Rattle.node_logs.specs.replay_spec.HonestLogs.{IsHonestLog}
@@ -52,14 +52,14 @@ pub record IsHandedOut (n : NodeParts) (a : Authenticator) : Type 0 where
   pub made : authenticator_at (sender_of before) number ≡ Some a
 
 -- It answered a challenge with this segment, now or when its log was shorter.
-pub record IsAnswered (n : NodeParts) (s : SegmentParts) : Type 0 where
+pub record IsAnswered (n : NodeParts) (s : VersionedParts) : Type 0 where
   pub before : NodeParts
   pub went_on : WentOn before n
   pub first : ℕ
   pub last : ℕ
   pub bytes : List ℕ
   pub answers : AnswersChallenge before first last bytes
-  pub is : s ≡ with_closing answers.answer.part answers.answer.closing
+  pub is : s ≡ of_plain (with_closing answers.answer.part answers.answer.closing)
 
 -- What a step shows of a node's log, the node showed itself.
 abbrev pub ShowsItsOwn : NodeParts → Step → Type 0

@@ -57,8 +57,8 @@ pub fn what_is_asked_can_be_answered()
     ensures { AskedCanBeAnswered }
 {}
 
-/// So it does where all that a witness was shown of its log is what the node itself showed: an audit asks up
-/// to a number that was learned, and there the node signed.
+/// So it does where the roster gives its log version 1 and all that a witness was shown of its log is what the
+/// node itself showed: an audit asks up to a number that was learned, and there the node signed.
 pub fn own_words_can_be_answered(node: &NodeLog)
     ensures { OwnWordsCanBeAnswered node.now }
 {

@@ -7,6 +7,7 @@ use Rattle.node_book.specs.evidence_spec.replay_spec.Replay as replay
 use Rattle.node_book.specs.witness_spec.Refusals as refusals
 use Rattle.node_book.specs.witness_spec.Events.{Event}
 use Rattle.node_book.specs.witness_spec.Events as events
+use Rattle.node_book.specs.witness_spec.Pairs.{last_of}
 use Rattle.node_book.specs.witness_spec.Replies.{Reply}
 use Rattle.node_book.specs.witness_spec.Replies as replies
 
@@ -20,7 +21,7 @@ is_sound (replay.Fault fault number) = false
 -- a segment of the node that ends at this number is filed, and is sound
 abbrev pub is_filed_to : (node last : ℕ) → Event → Reply → Bool
 is_filed_to node last (events.File d) replies.Filed =
-    (d.job.node == node) && (is_sound d.verdict && (d.job.segment.segment.closing.word == last))
+    (d.job.node == node) && (is_sound d.verdict && (last_of d.job.segment.segment == last))
 is_filed_to node last _ _ = false
 
 -- the refusal says why a node can't be audited further, though it signed more: the greatest number that was

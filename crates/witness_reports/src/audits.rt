@@ -3,13 +3,14 @@
 ghost use Rattle.std.specs.Prelude.{◌≡◌, ◌==◌, ◌&&◌};
 ghost use Rattle.node_book.specs.Events.{event_in};
 ghost use Rattle.node_book.specs.replay_jobs.Jobs.{job_verdict, verdict_told};
+ghost use Rattle.node_book.specs.witness_spec.Pairs.{last_of};
 ghost use Rattle.node_book.specs.Replies.{refusal_in, reply_in};
 ghost use Rattle.witness_reports.specs.Audits.{are_forwarded, ends_audits, is_emptied, is_filed_to};
 ghost use Rattle.witness_reports.specs.Audits.{is_followed, is_refused_audit, is_sound, learns};
 ghost use Rattle.witness_reports.specs.Audits.{was_filed_to, was_refused};
 ghost use Rattle.std.specs.List.{list_any};
 
-use authenticator::{Authenticator, LogVersion};
+use authenticator::Authenticator;
 use node_book::{EventOf, JobVerdict, PlainDone, PlainEvent, PlainReply, Refusal, ReplyOf};
 use witness_service::Note;
 
@@ -59,13 +60,13 @@ fn is_filed_to(event: &PlainEvent, reply: &PlainReply, node: u32, last: u64) -> 
 /// Whether what was done is of the node, ends at this number, and is sound.
 fn is_sound_to(done: &PlainDone, node: u32, last: u64) -> bool
     ensures { result ≡ (done.now.node == node) && (is_sound (job_verdict done.now)
-        && (done.now.segment.segment.closing.word == last)) }
+        && (last_of done.now.segment.segment == last)) }
 {
     let job = done.job();
-    let closing = job.segment().closed().segment().closing();
+    let segment = job.segment().closed().segment();
     job.node() == node
         && is_sound(done.verdict())
-        && closing.word.number(LogVersion::One).get() == last
+        && segment.closing().word.number(segment.log_version()).get() == last
 }
 
 /// Whether a verdict says that no fault was found.

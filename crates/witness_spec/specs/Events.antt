@@ -1,16 +1,19 @@
 -- What a witness may be handed.
-use Rattle.std.specs.Prelude.{◌≡◌, ℕ, List}
+use Rattle.std.specs.Prelude.{◌≡◌, ℕ, IsTrue, List}
 use Rattle.xdr.specs.Item.{Fits, IsBytes}
 use Rattle.merkle_keys.specs.Signing.{Signed}
 use Rattle.authenticator.specs.Signed.{signed_digest, authenticator_item, authenticator_value}
 use Rattle.authenticator.specs.declared.authenticator.Authenticator.{Authenticator}
-use Rattle.secure_log.specs.Segment.{ClosedParts, HasText, IsClosed}
+use Rattle.secure_log.specs.Versioned.{ClosedVersionedParts, FitsVersion, IsClosedIn, is_whole_in}
+use Rattle.secure_log.specs.Versioned.{versioned_value}
+use Rattle.secure_log.specs.declared.segment.TheConstants.{MAX_ENTRIES}
 use Rattle.packets.specs.envelopes.declared.envelope.Envelope.{Envelope}
 use Rattle.packets.specs.envelopes.declared.acknowledgement.Ack.{Ack}
 use Rattle.packets.specs.envelopes.Envelope.{envelope_item, envelope_value, envelope_shows}
 use Rattle.packets.specs.envelopes.Acknowledgement.{ack_item, ack_value, ack_shows}
 use Rattle.state_spec.specs.State.{State}
-use Rattle.evidence_spec.specs.replay_spec.Replay.{Verdict, segment_verdict}
+use Rattle.evidence_spec.specs.replay_spec.Replay.{Verdict, verdict_of}
+use Rattle.evidence_spec.specs.replay_spec.Placed.{places_in}
 
 -- a node's public key: the root of its tree of keys, and that tree's height
 pub record PublicKey : Type 0 where
@@ -23,7 +26,7 @@ pub record JobParts : Type 0 where
   pub node : ℕ
   pub number : ℕ
   pub state : State
-  pub segment : ClosedParts
+  pub segment : ClosedVersionedParts
 
 -- a replay that was done: the job, and its verdict
 pub record DoneParts : Type 0 where
@@ -42,7 +45,7 @@ pub data Event : Type 0 where
   Deliver : (bytes : List ℕ) → Event
   Learn : Authenticator → PublicKey → Event
   SendChallenge : Envelope → PublicKey → Event
-  Answer : ClosedParts → Event
+  Answer : ClosedVersionedParts → Event
   AckIn : Ack → PublicKey → Event
   Audit : (node : ℕ) → Event
   Begin : (node : ℕ) → Event
@@ -57,10 +60,11 @@ pub data Event : Type 0 where
 abbrev pub IsSignedUnder : PublicKey → Authenticator → Type 0
 IsSignedUnder key a = Signed key.root key.height (signed_digest a.node a.word a.hash) a.signature
 
--- A segment has a text, and is closed under the roster that is kept with it.
-pub record IsClosedUnder (c : ClosedParts) : Type 0 where
-  pub text : HasText c.segment
-  pub closed : IsClosed c.roster c.segment
+-- A segment has a text of its log's version, and is closed under the roster that is kept with it.
+pub record IsClosedUnder (c : ClosedVersionedParts) : Type 0 where
+  pub fits : FitsVersion MAX_ENTRIES c.segment
+  pub whole : IsTrue (is_whole_in c.segment.log_version (versioned_value c.segment.log_version c.segment))
+  pub closed : IsClosedIn c.roster c.segment
 
 -- Where an event holds a checked value, that has a text and is signed under its key. A done value's verdict
 -- is the replay of its own state and segment.
@@ -74,7 +78,7 @@ IsEvent (Audit node) = Unit {0}
 IsEvent (Begin node) = Unit {0}
 IsEvent (File d) =
     IsClosedUnder d.job.segment
-    × (d.verdict ≡ segment_verdict d.job.segment.roster d.job.state d.job.segment.segment)
+    × (d.verdict ≡ verdict_of d.job.segment.roster d.job.state (places_in d.job.segment.segment))
 IsEvent (PutBack j) = IsClosedUnder j.segment
 IsEvent (Forward node) = Unit {0}
 IsEvent (Ask node question) = Unit {0}

@@ -2,12 +2,11 @@
 use Rattle.std.specs.Prelude.{ℕ, ◌==◌, ◌&&◌, nat_le, List, [], ◌∷◌, ◌++◌, find}
 use Rattle.std.specs.Prelude.{Option, Some, None, option_map, option_and_then, if◌then◌else◌}
 use Rattle.authenticator.specs.declared.authenticator.Authenticator.{Authenticator}
-use Rattle.authenticator.specs.declared.member.LogVersion.TheVariants.{One}
+use Rattle.authenticator.specs.declared.member.LogVersion.{LogVersion}
 use Rattle.secure_log.specs.LogEntries.Chain.{zeros}
-use Rattle.secure_log.specs.Segment.{SegmentParts, ClosedParts}
-use Rattle.secure_log.specs.Versioned.{of_plain}
+use Rattle.secure_log.specs.Versioned.{VersionedParts, ClosedVersionedParts}
 use Rattle.evidence_spec.specs.replay_spec.Replay.{Verdict, Sound, Fault}
-use Rattle.evidence_spec.specs.Showing.{ShowingParts, authenticator_showing, segment_showing}
+use Rattle.evidence_spec.specs.Showing.{ShowingParts, authenticator_showing, versioned_showing}
 use Rattle.evidence_spec.specs.Evidence.{Charge, Fork, Replay, EvidenceParts}
 use Rattle.witness_spec.specs.Events.{JobParts}
 use Rattle.witness_spec.specs.Replies.{Reply}
@@ -20,39 +19,42 @@ use Rattle.witness_spec.specs.Standing.{end_of, audited, shown, is_exposed, kept
 -- ---- what showed a hash at a number before
 
 -- the segment that holds a place, from its first number to its last
-abbrev pub segment_holding : (number : ℕ) → List SegmentParts → Option SegmentParts
+abbrev pub segment_holding : (number : ℕ) → List VersionedParts → Option VersionedParts
 segment_holding number segments =
     find (λ s. nat_le (first_of s) number && nat_le number (last_of s)) segments
 
 -- the showing of an authenticator, if there is one, else of a segment, if there is one
-abbrev pub or_segment : Option Authenticator → Option SegmentParts → Option ShowingParts
-or_segment (Some a) segment = Some (authenticator_showing One a)
-or_segment None segment = option_map segment_showing segment
+abbrev pub or_segment : LogVersion → Option Authenticator → Option VersionedParts → Option ShowingParts
+or_segment v (Some a) segment = Some (authenticator_showing v a)
+or_segment v None segment = option_map versioned_showing segment
 
 -- the learned authenticator that is kept at the number, else the accepted segment that holds the place
-abbrev pub showing_before : List Authenticator → List SegmentParts → (number : ℕ) → Option ShowingParts
-showing_before learned segments number =
-    or_segment (find (λ a. number_of a == number) learned) (segment_holding number segments)
+abbrev pub showing_before : LogVersion → List Authenticator → List VersionedParts → (number : ℕ)
+    → Option ShowingParts
+showing_before v learned segments number =
+    or_segment v (find (λ a. number_of v a == number) learned) (segment_holding number segments)
 
 -- ---- the evidence
 
 -- A showing that shows another hash at a number is a fork with what showed one there before; at 0 alone,
 -- since every log has zeros there.
-abbrev pub fork_of : List Authenticator → List SegmentParts → (new : ShowingParts) (number : ℕ)
+abbrev pub fork_of : LogVersion → List Authenticator → List VersionedParts → (new : ShowingParts) (number : ℕ)
     → Option Charge
-fork_of learned segments new number =
-    if number == 0 then Some (Fork (record { log_version = One; at = 0; a = new; b = None }))
-    else option_map (λ old. Fork (record { log_version = One; at = number; a = old; b = Some new }))
-    (showing_before learned segments number)
+fork_of v learned segments new number =
+    if number == 0 then Some (Fork (record { log_version = v; at = 0; a = new; b = None }))
+    else option_map (λ old. Fork (record { log_version = v; at = number; a = old; b = Some new }))
+    (showing_before v learned segments number)
 
 -- the fork that a new showing makes with what a node showed, at the least number
 abbrev pub new_fork : Watched → Past → ShowingParts → List Pair → Option Charge
 new_fork w past new pairs =
-    option_and_then (fork_of (kept w past) (all_accepted past) new) (first_fork pairs (shown w past))
+    option_and_then (fork_of w.member.log_version (kept w past) (all_accepted past) new)
+    (first_fork pairs (shown w past))
 
 -- all audited entries and those of a segment, with its closing
-abbrev pub audited_with : Watched → Past → SegmentParts → SegmentParts
+abbrev pub audited_with : Watched → Past → VersionedParts → VersionedParts
 audited_with w past s = record {
+  log_version = w.member.log_version;
   node = w.member.node;
   first = 1;
   opening = zeros;
@@ -60,17 +62,18 @@ audited_with w past s = record {
   closing = s.closing;
 }
 
--- what a replay's fault is shown by: a segment of a log of version 1, so one that skips nothing
-abbrev pub replay_of : Watched → Past → SegmentParts → Verdict → Option Charge
+-- what a replay's fault is shown by
+abbrev pub replay_of : Watched → Past → VersionedParts → Verdict → Option Charge
 replay_of w past s (Sound t found) = None
-replay_of w past s (Fault fault number) = Some (Replay (of_plain (audited_with w past s)))
+replay_of w past s (Fault fault number) = Some (Replay (audited_with w past s))
 
 -- the charge that follows from an authenticator noted, a segment accepted or a job filed, where there is one
 abbrev pub charge_of : Watched → Past
-    → Option Authenticator → Option ClosedParts → Option JobParts → Option Charge
-charge_of w past (Some a) segment job = new_fork w past (authenticator_showing One a) (pair_of a ∷ [])
+    → Option Authenticator → Option ClosedVersionedParts → Option JobParts → Option Charge
+charge_of w past (Some a) segment job =
+    new_fork w past (authenticator_showing w.member.log_version a) (pair_of w.member.log_version a ∷ [])
 charge_of w past None (Some c) job =
-    new_fork w past (segment_showing c.segment) (marks_of c.segment)
+    new_fork w past (versioned_showing c.segment) (marks_of c.segment)
 charge_of w past None None (Some j) =
     replay_of w past j.segment.segment (verdict_on w.roster (end_of w past).state j)
 charge_of w past None None None = None

@@ -5,7 +5,7 @@ use Rattle.std.specs.Prelude.{Option, Result, Ok, Err, if◌then◌else◌}
 use Rattle.authenticator.specs.declared.authenticator.Authenticator.{Authenticator}
 use Rattle.authenticator.specs.declared.member.Member.{Member}
 use Rattle.secure_log.specs.LogEntries.Chain.{IsAmong}
-use Rattle.secure_log.specs.Segment.{SegmentParts}
+use Rattle.secure_log.specs.Versioned.{VersionedParts}
 use Rattle.evidence_spec.specs.Evidence.{EvidenceParts}
 use Rattle.witness_spec.specs.Refusals.{Refusal, NoMemory}
 use Rattle.witness_spec.specs.Events.{Event, Question, ItsIndication, ItsChallenges, ItsEvidence, IsEvent}
@@ -90,7 +90,7 @@ pub record BookParts : Type 0 where
   pub learned : List Authenticator
   pub challenges : List Challenge
   pub outbox : List Authenticator
-  pub segments : List SegmentParts
+  pub segments : List VersionedParts
   pub evidence : Option EvidenceParts
 
 -- The lists hold the same.

@@ -9,13 +9,12 @@ use Rattle.authenticator.specs.declared.member.LogVersion.TheVariants.{One}
 use Rattle.authenticator.specs.Signed.{IsSignedBy}
 use Rattle.authenticator.specs.declared.authenticator.Authenticator.{Authenticator}
 use Rattle.authenticator.specs.declared.member.Member.{Member}
-use Rattle.secure_log.specs.LogEntries.Chain.{IsAmong}
-use Rattle.secure_log.specs.declared.log_entries.entry.Entry.{Entry}
+use Rattle.secure_log.specs.LogEntries.Chain.{Logged, IsAmong}
 use Rattle.secure_log.specs.declared.log_entries.entry.Entry.TheVariants as entries
 use Rattle.secure_log.specs.LogEntries.Messages.{message_hash}
 use Rattle.secure_log.specs.Log.{LogParts, IsOfPlace}
 use Rattle.secure_log.specs.Part.{GivesPart, with_closing}
-use Rattle.secure_log.specs.Segment.{SegmentParts, ClosedParts, IsClosed}
+use Rattle.secure_log.specs.Versioned.{VersionedParts, ClosedVersionedParts, IsClosedIn, of_plain}
 use Rattle.secure_log.specs.declared.open.OpenSegment.{OpenSegment}
 use Rattle.packets.specs.envelopes.Envelope.{envelope_message}
 use Rattle.packets.specs.envelopes.Acknowledgement.{acked_message}
@@ -24,11 +23,11 @@ use Rattle.packets.specs.envelopes.declared.acknowledgement.Ack.{Ack}
 use Rattle.packets.specs.envelopes.declared.message.Message.{Message}
 use Rattle.state_spec.specs.State.{State}
 use Rattle.evidence_spec.specs.replay_spec.Opening.{opening_of}
-use Rattle.evidence_spec.specs.replay_spec.Placed.{placed_in}
+use Rattle.evidence_spec.specs.replay_spec.Placed.{places_in}
 use Rattle.evidence_spec.specs.replay_spec.Replay.{Honest}
-use Rattle.evidence_spec.specs.replay_spec.HonestLogs.{IsHonestLog}
+use Rattle.evidence_spec.specs.replay_spec.HonestLogs.{IsHonestWithGaps}
 use Rattle.evidence_spec.specs.Evidence.{EvidenceParts, evidence_item, evidence_value, Accepts}
-use Rattle.evidence_spec.specs.Proving.{IsLog, Proves}
+use Rattle.evidence_spec.specs.Proving.{IsLogOf, Proves}
 use Rattle.witness_spec.specs.Refusals.{Refusal, refusal_number}
 use Rattle.witness_spec.specs.Events.{PublicKey, JobParts, Event}
 use Rattle.witness_spec.specs.Events as events
@@ -148,7 +147,7 @@ pub record IsFaultyFile (w : Watched) (past : Past) (p : Step × Reply) : Type 0
   pub job : JobParts
   pub filed : filed p.0 p.1 ≡ Some job
   pub none : (states : List State)
-      → ¬ Honest w.roster (end_of w past).state (placed_in job.segment.segment) states
+      → ¬ Honest w.roster (end_of w past).state (places_in job.segment.segment) states
 
 -- one of the steps filed a segment with a fault
 abbrev pub HasFaultyFile : Watched → Past → Type 0
@@ -183,13 +182,13 @@ ExposedStays =
 
 -- ---- who answered by the tree
 
--- A node whose log is honest from the state that it begins with is never exposed, where its signatures aren't
--- forged and no two texts have one digest.
+-- A node whose log, of the version that the roster gives it, is honest from the state that it begins with is
+-- never exposed, where its signatures aren't forged and no two texts have one digest.
 abbrev pub HonestIsNeverExposed : Type 0
 HonestIsNeverExposed =
-    (w : Watched) (history : History) (log : List Entry) (s : State)
+    (w : Watched) (history : History) (log : List Logged) (s : State)
     → IsInRoster w → IsHistory w.roster history
-    → IsLog log → IsHonestLog w.roster (opening_of w.member) log s
+    → IsLogOf w.member.log_version log → IsHonestWithGaps w.roster (opening_of w.member) log s
     → Unforged w log (own_of w history) → NoCollisionWith log (own_of w history)
     → indication w (own_of w history) ≢ Exposed
 
@@ -220,8 +219,8 @@ EvidenceProves =
 
 -- A segment that was asked for is answered by that part of the node's log, closed by its signature there. The
 -- answer is the node's step, it is accepted, and after it no audit is open.
-pub record AnswersAudit (w : Watched) (history : History) (c : ClosedParts) : Type 0 where
-  pub closed : IsClosed w.roster c.segment
+pub record AnswersAudit (w : Watched) (history : History) (c : ClosedVersionedParts) : Type 0 where
+  pub closed : IsClosedIn w.roster c.segment
   pub its : whose w.roster (events.Answer c) ≡ Ok (record { member = w.member; step = Answer c })
   pub reply : (reply : Reply) → IsOwed w.roster history (events.Answer c) reply ↔ (reply ≡ Accepted)
   pub closes : (first last : ℕ)
@@ -229,8 +228,8 @@ pub record AnswersAudit (w : Watched) (history : History) (c : ClosedParts) : Ty
       ¬ IsAmong (AuditOf first last) (open_challenges (own_of w after))
 
 -- a part of a log with its closing, under a roster
-abbrev pub answer_of : List Member → OpenSegment → Authenticator → ClosedParts
-answer_of ms s closing = record { segment = with_closing s closing; roster = ms }
+abbrev pub answer_of : List Member → OpenSegment → Authenticator → ClosedVersionedParts
+answer_of ms s closing = record { segment = of_plain (with_closing s closing); roster = ms }
 
 -- The part of a node's log of version 1 that was asked for, closed by the node's signature at its last
 -- number, answers the audit.
@@ -261,18 +260,18 @@ AcksClose =
     → ClosesChallenge w history a key
 
 -- A segment has the RECV of a message in its node's log.
-pub record HasRecv (s : SegmentParts) (message : Message) : Type 0 where
+pub record HasRecv (s : VersionedParts) (message : Message) : Type 0 where
   pub from : ℕ
   pub seq : ℕ
   pub prev : List ℕ
   pub body : List ℕ
   pub signature : SignatureParts
-  pub among : IsAmong (entries.Recv from seq prev body signature) s.entries
+  pub among : IsAmong (entries.Recv from seq prev body signature) (map (λ (l : Logged). l.entry) s.entries)
   pub is : message ≡ record { from = from; seq = seq; hash = message_hash s.node seq prev (sha256 body) }
 
 -- After a segment that was accepted no audit is open; nor is a challenge with a message whose RECV it has.
 -- All other challenges with messages stay open, and none is new.
-pub record ClosesWhatItAnswers (w : Watched) (history : History) (c : ClosedParts) : Type 0 where
+pub record ClosesWhatItAnswers (w : Watched) (history : History) (c : ClosedVersionedParts) : Type 0 where
   pub audits : (first last : ℕ)
       → let after : History = (events.Answer c, Accepted) ∷ history in
       ¬ IsAmong (AuditOf first last) (open_challenges (own_of w after))
@@ -285,6 +284,6 @@ pub record ClosesWhatItAnswers (w : Watched) (history : History) (c : ClosedPart
 -- A node's segment that is accepted closes the audit, and each challenge with a message whose RECV it has.
 abbrev pub AnswersCloseChallenges : Type 0
 AnswersCloseChallenges =
-    (w : Watched) (history : History) (c : ClosedParts)
+    (w : Watched) (history : History) (c : ClosedVersionedParts)
     → whose w.roster (events.Answer c) ≡ Ok (record { member = w.member; step = Answer c })
     → ClosesWhatItAnswers w history c

@@ -5,7 +5,8 @@ use Rattle.std.specs.Prelude.{List, [], ◌∷◌, length, map, filter, fold, co
 use Rattle.std.specs.Prelude.{Decides, if◌then◌else◌}
 use Rattle.std.specs.List.{list_any}
 use Rattle.authenticator.specs.declared.authenticator.Authenticator.{Authenticator}
-use Rattle.secure_log.specs.Segment.{ClosedParts}
+use Rattle.authenticator.specs.declared.member.LogVersion.{LogVersion}
+use Rattle.secure_log.specs.Versioned.{ClosedVersionedParts}
 use Rattle.packets.specs.envelopes.Envelope.{envelope_message}
 use Rattle.packets.specs.envelopes.Acknowledgement.{acked_message}
 use Rattle.packets.specs.envelopes.declared.message.Message.{Message}
@@ -32,14 +33,15 @@ use Rattle.witness_spec.specs.Exposing.{evidence}
 -- be no room for it.
 abbrev pub has_no_room : Watched → Past → Authenticator → Bool
 has_no_room w past a =
-    not (is_fork (pair_of a) (shown w past))
-    && (nat_lt (end_of w past).number (number_of a) && nat_le MAX_LEARNED (length (kept w past)))
+    not (is_fork (pair_of w.member.log_version a) (shown w past))
+    && (nat_lt (end_of w past).number (number_of w.member.log_version a)
+    && nat_le MAX_LEARNED (length (kept w past)))
 
 -- the reply to an authenticator that is learned
 abbrev pub learn_reply : Watched → Past → Authenticator → Reply
 learn_reply w past a =
     if is_exposed w past then Noted
-    else if is_shown (pair_of a) (shown w past) then Already
+    else if is_shown (pair_of w.member.log_version a) (shown w past) then Already
     else if has_no_room w past a then Refused LearnedFull
     else Noted
 
@@ -60,7 +62,7 @@ challenge_reply challenges e =
     else Opened
 
 -- the first and the last number of a segment are those that were asked for
-abbrev pub answer_reply : Stage → ClosedParts → Reply
+abbrev pub answer_reply : Stage → ClosedVersionedParts → Reply
 answer_reply NoAudit c = Refused NotAsked
 answer_reply (Wanted first last) c =
     if (first_of c.segment == first) && (last_of c.segment == last) then Accepted else Refused NotAsked
@@ -74,9 +76,9 @@ ack_reply challenges message = if is_open message challenges then Closed else Re
 -- ---- audits and jobs
 
 -- the greatest number among those that an audit after `end` can reach; 0 if there is none
-abbrev pub last_in_reach : (end : ℕ) → List Authenticator → ℕ
-last_in_reach end learned =
-    fold max 0 (filter (λ n. nat_le n (end + MAX_ASKED)) (map (λ a. number_of a) learned))
+abbrev pub last_in_reach : LogVersion → (end : ℕ) → List Authenticator → ℕ
+last_in_reach v end learned =
+    fold max 0 (filter (λ n. nat_le n (end + MAX_ASKED)) (map (λ a. number_of v a) learned))
 
 -- an audit up to a number
 abbrev pub ask_up_to : (end waiting last : ℕ) → Reply
@@ -87,21 +89,22 @@ ask_up_to end waiting last =
     else Asked (end + 1) last
 
 -- an audit of what was learned above the end
-abbrev pub ask_reply : (exposed : Bool) (end waiting : ℕ) → List Authenticator → Reply
-ask_reply true end waiting learned = Refused NothingToAudit
-ask_reply false end waiting [] = Refused NothingToAudit
-ask_reply false end waiting (a ∷ learned) = ask_up_to end waiting (last_in_reach end (a ∷ learned))
+abbrev pub ask_reply : LogVersion → (exposed : Bool) (end waiting : ℕ) → List Authenticator → Reply
+ask_reply v true end waiting learned = Refused NothingToAudit
+ask_reply v false end waiting [] = Refused NothingToAudit
+ask_reply v false end waiting (a ∷ learned) = ask_up_to end waiting (last_in_reach v end (a ∷ learned))
 
 -- the reply to an audit, by its stage
 abbrev pub audit_reply : Watched → Past → Stage → Reply
 audit_reply w past NoAudit =
-    ask_reply (is_exposed w past) (end_of w past).number (length (outbox w past)) (kept w past)
+    ask_reply w.member.log_version (is_exposed w past) (end_of w past).number (length (outbox w past))
+    (kept w past)
 audit_reply w past (Wanted first last) = Refused Busy
 audit_reply w past (Given c) = Refused Busy
 audit_reply w past (Out c) = Refused Busy
 
 -- the job of a segment, with the number after the last
-abbrev pub next_job : Watched → Past → ClosedParts → JobParts
+abbrev pub next_job : Watched → Past → ClosedVersionedParts → JobParts
 next_job w past c = record (job_of w past c) { number = begins past + 1 }
 
 -- the reply where a job is to begin, by the stage

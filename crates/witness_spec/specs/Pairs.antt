@@ -4,32 +4,34 @@ use Rattle.std.specs.Prelude.{if◌then◌else◌}
 use Rattle.std.specs.List.{list_any}
 use Rattle.secure_log.specs.LogEntries.Chain.{zeros}
 use Rattle.authenticator.specs.declared.authenticator.Authenticator.{Authenticator}
+use Rattle.authenticator.specs.declared.member.LogVersion.{LogVersion}
+use Rattle.authenticator.specs.Numbers.{number_in}
 use Rattle.authenticator.specs.Signing.{is_same}
-use Rattle.secure_log.specs.Segment.{SegmentParts, segment_pairs}
+use Rattle.secure_log.specs.Versioned.{VersionedParts, segment_marks}
 
--- a number and a hash
+-- a number and the mark there
 abbrev pub Pair : Type 0
 Pair = ℕ × List ℕ
 
--- the number at which an authenticator is: books take logs of version 1 alone, whose words are numbers
-abbrev pub number_of : Authenticator → ℕ
-number_of a = a.word
+-- the number at which an authenticator is in a log of a version
+abbrev pub number_of : LogVersion → Authenticator → ℕ
+number_of v a = number_in v a.word
 
 -- the first number of a segment
-abbrev pub first_of : SegmentParts → ℕ
+abbrev pub first_of : VersionedParts → ℕ
 first_of s = s.first
 
--- the last number of a segment: that of its closing, by its word as above
-abbrev pub last_of : SegmentParts → ℕ
-last_of s = s.closing.word
+-- the last number of a segment: that of its closing
+abbrev pub last_of : VersionedParts → ℕ
+last_of s = number_in s.log_version s.closing.word
 
--- the pairs of number and mark that a segment shows; a mark is the hash there
-abbrev pub marks_of : SegmentParts → List Pair
-marks_of s = segment_pairs s
+-- the pairs of number and mark that a segment shows; a mark is the hash there, or that no entry has the number
+abbrev pub marks_of : VersionedParts → List Pair
+marks_of s = segment_marks s
 
--- the pair of an authenticator: its number and its hash
-abbrev pub pair_of : Authenticator → Pair
-pair_of a = (number_of a, a.hash)
+-- the pair of an authenticator in a log of a version: its number and its hash
+abbrev pub pair_of : LogVersion → Authenticator → Pair
+pair_of v a = (number_of v a, a.hash)
 
 -- the pair before the first entry, which every log has
 abbrev pub first_pair : Pair

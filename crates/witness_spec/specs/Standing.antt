@@ -6,18 +6,21 @@ use Rattle.std.specs.Prelude.{if◌then◌else◌}
 use Rattle.std.specs.List.{list_any}
 use Rattle.sha2.specs.Sha256.{sha256}
 use Rattle.authenticator.specs.declared.authenticator.Authenticator.{Authenticator}
+use Rattle.authenticator.specs.declared.member.LogVersion.{LogVersion}
 use Rattle.authenticator.specs.declared.member.Member.{Member}
 use Rattle.secure_log.specs.declared.log_entries.entry.Entry.{Entry}
 use Rattle.secure_log.specs.declared.log_entries.entry.Entry.TheVariants as entries
+use Rattle.secure_log.specs.LogEntries.Chain.{Logged}
 use Rattle.secure_log.specs.LogEntries.Messages.{message_hash}
-use Rattle.secure_log.specs.Segment.{SegmentParts, ClosedParts}
+use Rattle.secure_log.specs.Versioned.{VersionedParts, ClosedVersionedParts}
 use Rattle.packets.specs.envelopes.Envelope.{envelope_message}
 use Rattle.packets.specs.envelopes.Acknowledgement.{acked_message}
 use Rattle.packets.specs.envelopes.declared.message.Message.{Message}
 use Rattle.state_spec.specs.State.{State}
 use Rattle.evidence_spec.specs.replay_spec.Opening.{opening_of}
+use Rattle.evidence_spec.specs.replay_spec.Placed.{places_in}
 use Rattle.authenticator.specs.Signing.{is_same}
-use Rattle.evidence_spec.specs.replay_spec.Replay.{Verdict, Sound, Fault, segment_verdict}
+use Rattle.evidence_spec.specs.replay_spec.Replay.{Verdict, Sound, Fault, verdict_of}
 use Rattle.witness_spec.specs.Events.{JobParts}
 use Rattle.witness_spec.specs.Replies.{Reply, Challenge, AuditOf, SendOf}
 use Rattle.witness_spec.specs.Replies.{Indication, Trusted, Suspected, Exposed}
@@ -37,7 +40,7 @@ pub record End : Type 0 where
 
 -- the segment of a job, if there is one, and what a replay of it finds after a state
 abbrev pub verdict_on : List Member → State → JobParts → Verdict
-verdict_on ms s j = segment_verdict ms s j.segment.segment
+verdict_on ms s j = verdict_of ms s (places_in j.segment.segment)
 
 -- a verdict on a segment with this last number moves the end
 abbrev pub moved_by : End → (last : ℕ) → Verdict → End
@@ -71,30 +74,30 @@ has_fault w (p ∷ past) =
     finds_fault w.roster (end_of w past).state (filed p.0 p.1) || has_fault w past
 
 -- the entries of a segment that is found sound
-abbrev pub sound_entries : List Entry → Verdict → List Entry
+abbrev pub sound_entries : List Logged → Verdict → List Logged
 sound_entries entries (Sound s found) = entries
 sound_entries entries (Fault fault number) = []
 
 -- the entries of a job that may have been filed, where it is sound
-abbrev pub entries_filed : List Member → State → Option JobParts → List Entry
+abbrev pub entries_filed : List Member → State → Option JobParts → List Logged
 entries_filed ms s None = []
 entries_filed ms s (Some j) = sound_entries j.segment.segment.entries (verdict_on ms s j)
 
 -- all entries that were audited: those of the segments filed Sound, in order
-abbrev pub audited : Watched → Past → List Entry
+abbrev pub audited : Watched → Past → List Logged
 audited w [] = []
 audited w (p ∷ past) = audited w past ++ entries_filed w.roster (end_of w past).state (filed p.0 p.1)
 
 -- ---- what was shown
 
 -- the pairs of an authenticator that was noted while the node wasn't exposed
-abbrev pub pairs_noted : (was_exposed : Bool) → Option Authenticator → List Pair
-pairs_noted was_exposed None = []
-pairs_noted true (Some a) = []
-pairs_noted false (Some a) = pair_of a ∷ []
+abbrev pub pairs_noted : LogVersion → (was_exposed : Bool) → Option Authenticator → List Pair
+pairs_noted v was_exposed None = []
+pairs_noted v true (Some a) = []
+pairs_noted v false (Some a) = pair_of v a ∷ []
 
 -- the pairs of a segment that was accepted
-abbrev pub pairs_accepted : Option ClosedParts → List Pair
+abbrev pub pairs_accepted : Option ClosedVersionedParts → List Pair
 pairs_accepted None = []
 pairs_accepted (Some c) = marks_of c.segment
 
@@ -103,7 +106,7 @@ pairs_accepted (Some c) = marks_of c.segment
 abbrev pub shown : Watched → Past → List Pair
 shown w [] = first_pair ∷ []
 shown w (p ∷ past) =
-    pairs_noted (has_fork (shown w past) || has_fault w past) (noted p.0 p.1)
+    pairs_noted w.member.log_version (has_fork (shown w past) || has_fault w past) (noted p.0 p.1)
     ++ (pairs_accepted (accepted p.0 p.1) ++ shown w past)
 
 -- One number has two hashes among what was shown, or a segment was filed that isn't honest.
@@ -126,15 +129,16 @@ noted_before w (p ∷ past) =
 
 -- of these, those with numbers above the end
 abbrev pub kept : Watched → Past → List Authenticator
-kept w past = filter (λ a. nat_lt (end_of w past).number (number_of a)) (noted_before w past)
+kept w past =
+    filter (λ a. nat_lt (end_of w past).number (number_of w.member.log_version a)) (noted_before w past)
 
 -- the segments that were accepted, the newest first
-abbrev pub segment_of : Option ClosedParts → List SegmentParts
+abbrev pub segment_of : Option ClosedVersionedParts → List VersionedParts
 segment_of None = []
 segment_of (Some c) = c.segment ∷ []
 
 -- all segments that were accepted, the newest first
-abbrev pub all_accepted : Past → List SegmentParts
+abbrev pub all_accepted : Past → List VersionedParts
 all_accepted [] = []
 all_accepted (p ∷ past) = segment_of (accepted p.0 p.1) ++ all_accepted past
 
@@ -144,8 +148,8 @@ all_accepted (p ∷ past) = segment_of (accepted p.0 p.1) ++ all_accepted past
 pub data Stage : Type 0 where
   NoAudit : Stage
   Wanted : (first last : ℕ) → Stage
-  Given : ClosedParts → Stage
-  Out : ClosedParts → Stage
+  Given : ClosedVersionedParts → Stage
+  Out : ClosedVersionedParts → Stage
 
 -- the audit's stage after a step with its reply
 abbrev pub stage_after : Stage → Step → Reply → Stage
@@ -166,7 +170,7 @@ abbrev pub begins : Past → ℕ
 begins past = count_by (λ p. is_some (begun p.0 p.1)) past
 
 -- The job of a segment: it has the number of the last Begin and the end's state.
-abbrev pub job_of : Watched → Past → ClosedParts → JobParts
+abbrev pub job_of : Watched → Past → ClosedVersionedParts → JobParts
 job_of w past c =
     record { node = w.member.node; number = begins past; state = (end_of w past).state; segment = c }
 
@@ -197,9 +201,9 @@ is_recv_of node message (entries.Clock seconds microseconds) = false
 is_recv_of node message (entries.Check digest) = false
 
 -- a segment answers the audit, and each send challenge whose message a RECV in it has
-abbrev pub is_answered : SegmentParts → Challenge → Bool
+abbrev pub is_answered : VersionedParts → Challenge → Bool
 is_answered s (AuditOf first last) = true
-is_answered s (SendOf e) = list_any (is_recv_of s.node (envelope_message e)) s.entries
+is_answered s (SendOf e) = list_any (λ (l : Logged). is_recv_of s.node (envelope_message e) l.entry) s.entries
 
 -- a challenge is to acknowledge a message
 abbrev pub is_send_of : Message → Challenge → Bool

@@ -1,15 +1,14 @@
 -- Whose step an event is, or why it is nobody's: by event and roster alone.
 use Rattle.std.specs.Prelude.{Bool, true, false, ◌==◌, ◌&&◌, List, [], ◌∷◌, Option, Some, None}
 use Rattle.std.specs.Prelude.{Result, Ok, Err, if◌then◌else◌}
-use Rattle.authenticator.specs.declared.member.LogVersion.TheVariants.{One}
-use Rattle.authenticator.specs.Roster.{member_of, kind_number, is_of_version, same_version}
+use Rattle.authenticator.specs.Roster.{member_of, kind_number, same_version}
 use Rattle.authenticator.specs.declared.member.Member.{Member}
 use Rattle.authenticator.specs.Signing.{is_same}
 use Rattle.packets.specs.Packet.{Delivery}
 use Rattle.packets.specs.Packet as packets
 use Rattle.packets.specs.Judging.{judged}
 use Rattle.authenticator.specs.declared.refusal.Refusal as checks
-use Rattle.witness_spec.specs.Refusals.{Refusal, UnknownNode, Garbage, BadSignature, refusal_of}
+use Rattle.witness_spec.specs.Refusals.{Refusal, UnknownNode, BadSignature, refusal_of}
 use Rattle.witness_spec.specs.Events.{PublicKey, Event}
 use Rattle.witness_spec.specs.Events as events
 use Rattle.witness_spec.specs.Steps.{Step, Learn, SendChallenge, Answer, AckIn, Audit, Begin, File, PutBack}
@@ -19,11 +18,6 @@ use Rattle.witness_spec.specs.Steps.{Forward, Ask, OwnStep}
 abbrev pub step_of : Option Member → Step → Result OwnStep Refusal
 step_of None step = Err UnknownNode
 step_of (Some m) step = Ok (record { member = m; step = step })
-
--- An authenticator is learned of a log of version 1. Of a log of version 2 it is refused, as no witness reads
--- such a log.
-abbrev pub learned_step : Option Member → Result OwnStep Refusal → Result OwnStep Refusal
-learned_step signer step = if is_of_version One signer then step else Err Garbage
 
 -- ---- values that were checked before
 
@@ -67,8 +61,7 @@ closed_step (Some m) same step =
 
 -- What bytes deliver under a roster, as a step of the node whose it is.
 abbrev pub delivered_step : List Member → Delivery → Result OwnStep Refusal
-delivered_step ms (packets.Learn a) =
-    learned_step (member_of ms a.node) (step_of (member_of ms a.node) (Learn a))
+delivered_step ms (packets.Learn a) = step_of (member_of ms a.node) (Learn a)
 delivered_step ms (packets.SendChallenge e) = step_of (member_of ms e.to) (SendChallenge e)
 delivered_step ms (packets.Answer s) =
     step_of (member_of ms s.closing.node) (Answer (record { segment = s; roster = ms }))
@@ -85,8 +78,7 @@ judged_step ms (Err refusal) = Err (refusal_of refusal)
 -- its receiver; the other events are steps of the node that they name.
 abbrev pub whose : List Member → Event → Result OwnStep Refusal
 whose ms (events.Deliver bytes) = judged_step ms (judged ms bytes)
-whose ms (events.Learn a key) =
-    learned_step (member_of ms a.node) (signed_step (member_of ms a.node) key (Learn a))
+whose ms (events.Learn a key) = signed_step (member_of ms a.node) key (Learn a)
 whose ms (events.SendChallenge e key) =
     sent_step (member_of ms e.from) (member_of ms e.to) key (SendChallenge e)
 whose ms (events.Answer c) =

@@ -9,8 +9,9 @@ use Rattle.std.proofs.lemmas.Bool.{and_left, or_from}
 use Rattle.std.proofs.lemmas.Bool.Decides.{nat_tests}
 use Rattle.std.proofs.lemmas.List.Sums.{sum_by-cons}
 use Rattle.authenticator.specs.declared.authenticator.Authenticator.{Authenticator}
+use Rattle.authenticator.specs.declared.member.LogVersion.TheVariants.{One}
 use Rattle.authenticator.proofs.Signed.{list_same}
-use Rattle.secure_log.specs.Segment.{ClosedParts, segment_pairs}
+use Rattle.secure_log.specs.Versioned.{ClosedVersionedParts, segment_marks}
 use Rattle.state_spec.specs.State.{State}
 use Rattle.replay_spec.specs.Replay.{Sound}
 use Rattle.witness_spec.specs.Events.{JobParts, DoneParts}
@@ -20,6 +21,7 @@ use Rattle.witness_spec.specs.Watched.{Watched}
 use Rattle.witness_spec.specs.Steps.{Learn, Answer, Audit, Begin, File, Forward, Past}
 use Rattle.authenticator.specs.Signing.{is_same}
 use Rattle.witness_spec.specs.Pairs.{Pair, pair_of, same_pair, differ, is_shown, is_fork, has_fork}
+use Rattle.witness_spec.specs.Pairs.{last_of}
 use Rattle.witness_spec.specs.Standing.{End, end_of, moved_by, verdict_on, is_fault, has_fault, pairs_noted}
 use Rattle.witness_spec.specs.Standing.{shown}
 use Rattle.witness_spec.specs.Standing.{is_exposed, unless_exposed, noted_before, kept, NoAudit, stage_of}
@@ -101,6 +103,10 @@ none_above end (a ∷ xs) h =
 
 -- ---- after whole audits
 
+-- a node under a roster that gives it a log of version 1
+abbrev pub of_one : Watched → Watched
+of_one node = record { roster = node.roster; member = record node.member { log_version = One } }
+
 -- Own steps with the replies owed to them: a node whose log has the hashes `h` was audited up to an end, with
 -- the state there; nothing is under way, and this was found and not yet forwarded.
 pub record Quiet (w : Watched) (past : Past) (h : ℕ → List ℕ) (end begun : ℕ) (s : State)
@@ -134,8 +140,11 @@ new_pair h end p (q ∷ qs) above on =
 max_zero : (n : ℕ) → max 0 n ≡ n
 max_zero n = grind (arith, nat_tests)
 
-module _ (w : Watched) (past : Past) (h : ℕ → List ℕ) (end begun : ℕ) (s : State)
-    (found : List Authenticator) (q : Quiet w past h end begun s found) where
+module _ (node : Watched) (past : Past) (h : ℕ → List ℕ) (end begun : ℕ) (s : State)
+    (found : List Authenticator) (q : Quiet (of_one node) past h end begun s found) where
+  abbrev w : Watched
+  w = of_one node
+
   -- it isn't exposed
   pub hidden : is_exposed w past ≡ false
   hidden =
@@ -153,13 +162,13 @@ module _ (w : Watched) (past : Past) (h : ℕ → List ℕ) (end begun : ℕ) (s
 
     room : has_no_room w past a ≡ false
     room =
-        rw (new_pair h end (pair_of a) (shown w past) above q.on_log, above_end, kept_none) refl
+        rw (new_pair h end (pair_of One a) (shown w past) above q.on_log, above_end, kept_none) refl
 
     -- it is noted
     pub learned_new : Owes w past (Learn a) Noted
     learned_new =
         told w past (Learn a) Noted (λ x. x)
-        (rw (hidden, not_there h end (pair_of a) (shown w past) above q.on_log, room) refl)
+        (rw (hidden, not_there h end (pair_of One a) (shown w past) above q.on_log, room) refl)
 
     abbrev then_learned : Past
     then_learned = (Learn a, Noted) ∷ past
@@ -176,19 +185,19 @@ module _ (w : Watched) (past : Past) (h : ℕ → List ℕ) (end begun : ℕ) (s
         let out : nat_le a.word end ≡ false = grind (arith, nat_tests) in
         sym (ap (λ b. cond b (h a.word) a.hash) out)
 
-    shown_is : shown w then_learned ≡ pair_of a ∷ shown w past
-    shown_is = ap (λ b. pairs_noted b (Some a) ++ ([] ++ shown w past)) hidden
+    shown_is : shown w then_learned ≡ pair_of One a ∷ shown w past
+    shown_is = ap (λ b. pairs_noted One b (Some a) ++ ([] ++ shown w past)) hidden
 
     still_hidden : is_exposed w then_learned ≡ false
     still_hidden =
-        let on : OnLog with_it a.word (pair_of a ∷ shown w past) = (
+        let on : OnLog with_it a.word (pair_of One a ∷ shown w past) = (
           omega arith,
           high_same,
           grown h with_it end a.word (shown w past) low_same (omega arith)
               q.on_log,
         ) in
         or_from (has_fork (shown w then_learned)) (has_fault w then_learned)
-        (ap has_fork shown_is ∙ no_fork with_it a.word (pair_of a ∷ shown w past) on) q.sound
+        (ap has_fork shown_is ∙ no_fork with_it a.word (pair_of One a ∷ shown w past) on) q.sound
 
     noted_is : noted_before w then_learned ≡ a ∷ noted_before w past
     noted_is = ap (λ b. unless_exposed b (Some a) ++ noted_before w past) still_hidden
@@ -207,13 +216,13 @@ module _ (w : Watched) (past : Past) (h : ℕ → List ℕ) (end begun : ℕ) (s
 
     -- what is then owed to an audit
     pub audit_told : audit_reply w then_learned (stage_of then_learned)
-        ≡ ask_up_to end (length found) (last_in_reach end (a ∷ []))
+        ≡ ask_up_to end (length found) (last_in_reach One end (a ∷ []))
     audit_told =
         let waits = outbox w then_learned in
         let keeps = kept w then_learned in
         ap (audit_reply w then_learned) q.free
-        ∙ (ap₂ (λ b (e : End). ask_reply b e.number (length waits) keeps) still_hidden q.at_end
-        ∙ ap₂ (λ (o k : List Authenticator). ask_reply false end (length o) k) waiting kept_is)
+        ∙ (ap₂ (λ b (e : End). ask_reply One b e.number (length waits) keeps) still_hidden q.at_end
+        ∙ ap₂ (λ (o k : List Authenticator). ask_reply One false end (length o) k) waiting kept_is)
 
   -- A segment after the end that an audit may ask for: it holds the hashes of the log `k`, and a replay of
   -- it from the state there is sound.
@@ -222,6 +231,8 @@ module _ (w : Watched) (past : Past) (h : ℕ → List ℕ) (end begun : ℕ) (s
     pub job : j ≡ record { node = w.member.node; number = begun + 1; state = s; segment = j.segment }
     -- the segment begins after the end
     pub first : j.segment.segment.first ≡ end + 1
+    -- it ends where its closing's word says, as in a log of version 1
+    pub last : last_of j.segment.segment ≡ j.segment.segment.closing.word
     -- it closes above the end
     pub above : end < j.segment.segment.closing.word
     -- at most 4,096 numbers later
@@ -231,7 +242,7 @@ module _ (w : Watched) (past : Past) (h : ℕ → List ℕ) (end begun : ℕ) (s
     -- there is room to keep what it may show
     pub fits : length found + (j.segment.segment.closing.word - end) ≤ 4_096
     -- its pairs are of the log `k`
-    pub pairs : OnLog k j.segment.segment.closing.word (segment_pairs j.segment.segment)
+    pub pairs : OnLog k j.segment.segment.closing.word (segment_marks j.segment.segment)
     -- so is its closing hash
     pub closing : j.segment.segment.closing.hash ≡ k j.segment.segment.closing.word
     -- up to the end `k` has the hashes of `h`
@@ -241,7 +252,7 @@ module _ (w : Watched) (past : Past) (h : ℕ → List ℕ) (end begun : ℕ) (s
 
   module _ (j : JobParts) (k : ℕ → List ℕ) (t : State) (new : List Authenticator) (f : Follows j k t new)
     where
-      abbrev c : ClosedParts
+      abbrev c : ClosedVersionedParts
       c = j.segment
 
       abbrev a : Authenticator
@@ -270,7 +281,7 @@ module _ (w : Watched) (past : Past) (h : ℕ → List ℕ) (end begun : ℕ) (s
 
       -- ---- the replies
 
-      reached : last_in_reach end (a ∷ []) ≡ a.word
+      reached : last_in_reach One end (a ∷ []) ≡ a.word
       reached =
           ap (λ b. fold max 0 (cond b (a.word ∷ []) [])) (le-leb a.word (end + 4_096) f.near) ∙ max_zero
           a.word
@@ -291,7 +302,7 @@ module _ (w : Watched) (past : Past) (h : ℕ → List ℕ) (end begun : ℕ) (s
       answers : Owes w wanted (Answer c) Accepted
       answers =
           told w wanted (Answer c) Accepted (λ x. x)
-          (rw (eq-eqb first first refl, eq-eqb a.word a.word refl) refl)
+          (rw (eq-eqb first first refl, eq-eqb (last_of c.segment) a.word f.last) refl)
 
       on_given : OnLog k a.word (shown w given)
       on_given =
@@ -302,7 +313,7 @@ module _ (w : Watched) (past : Past) (h : ℕ → List ℕ) (end begun : ℕ) (s
             grown h k end a.word (shown w past) f.same (omega (arith, f.above))
                 q.on_log,
           ) in
-          both k a.word (segment_pairs j.segment.segment) (shown w known) f.pairs known_pairs
+          both k a.word (segment_marks j.segment.segment) (shown w known) f.pairs known_pairs
 
       given_hidden : is_exposed w given ≡ false
       given_hidden =
@@ -376,7 +387,8 @@ module _ (w : Watched) (past : Past) (h : ℕ → List ℕ) (end begun : ℕ) (s
       pub goes_on : Quiet w behind k a.word (begun + 1) t (found ++ new)
       goes_on = record {
         owed = (files, (begins_it, (answers, (audits, (learned_new a f.above, q.owed)))));
-        at_end = ap₂ (λ (e : End) v. moved_by e a.word v) q.at_end verdict_there;
+        at_end = ap₂ (λ (e : End) v. moved_by e (last_of c.segment) v) q.at_end verdict_there
+            ∙ ap (λ (n : ℕ). record { number = n; state = t }) f.last;
         sound = or_from (is_fault (verdict_on w.roster (end_of w out).state j)) (has_fault w out)
             (ap is_fault verdict_there) q.sound;
         on_log = on_given;
@@ -390,7 +402,7 @@ module _ (w : Watched) (past : Past) (h : ℕ → List ℕ) (end begun : ℕ) (s
 
   -- an audit after one more authenticator is told this, and the steps before it are owed
   pub then_asked : (a : Authenticator) → end < a.word → (r : Reply)
-      → ask_up_to end (length found) (last_in_reach end (a ∷ [])) ≡ r
+      → ask_up_to end (length found) (last_in_reach One end (a ∷ [])) ≡ r
       → Reaches w ((Learn a, Noted) ∷ past) Audit r
   then_asked a above r e = record {
     steps = (learned_new a above, q.owed);
@@ -410,13 +422,13 @@ module _ (w : Watched) (past : Past) (h : ℕ → List ℕ) (end begun : ℕ) (s
   }
 
 -- the oldest of what was found is forwarded
-pub forwarded : (w : Watched) (past : Past) (h : ℕ → List ℕ) (end begun : ℕ) (s : State)
-    (a : Authenticator) (found : List Authenticator) → Quiet w past h end begun s (a ∷ found)
-    → Quiet w ((Forward, Forwarded a) ∷ past) h end begun s found
-forwarded w past h end begun s a found q =
+pub forwarded : (node : Watched) (past : Past) (h : ℕ → List ℕ) (end begun : ℕ) (s : State)
+    (a : Authenticator) (found : List Authenticator) → Quiet (of_one node) past h end begun s (a ∷ found)
+    → Quiet (of_one node) ((Forward, Forwarded a) ∷ past) h end begun s found
+forwarded node past h end begun s a found q =
     let more : forwards ((Forward, Forwarded a) ∷ past) ≡ suc (forwards past) = omega (arith, sum_by-cons) in
     record {
-      owed = ((then_forward w past h end begun s (a ∷ found) q).next, q.owed);
+      owed = ((then_forward node past h end begun s (a ∷ found) q).next, q.owed);
       at_end = q.at_end;
       sound = q.sound;
       on_log = q.on_log;
@@ -424,6 +436,7 @@ forwarded w past h end begun s a found q =
       free = q.free;
       count = omega (arith, sum_by-cons, q.count);
       rest = λ later.
-          ap₂ (λ k xs. drop k (xs ++ later)) more (append-nil (all_found w past))
-          ∙ drop_more (forwards past) (all_found w past ++ later) a (found ++ later) (q.rest later);
+          ap₂ (λ k xs. drop k (xs ++ later)) more (append-nil (all_found (of_one node) past))
+          ∙ drop_more (forwards past) (all_found (of_one node) past ++ later) a (found ++ later)
+          (q.rest later);
     }

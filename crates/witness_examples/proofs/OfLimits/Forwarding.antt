@@ -104,6 +104,7 @@ quiet_audited =
     (record {
       job = refl;
       first = refl;
+      last = refl;
       above = omega arith;
       near = omega arith;
       few = omega arith;

@@ -12,14 +12,16 @@ use Rattle.authenticator.specs.Signed.{signed_digest}
 use Rattle.authenticator.specs.Signing.{is_signed_in}
 use Rattle.authenticator.proofs.Signed.{signed_by_member}
 use Rattle.secure_log.specs.LogEntries.Chain.{hash_after, link_of, links_from, pairs}
-use Rattle.secure_log.specs.Segment.{segment_pairs}
+use Rattle.secure_log.specs.Segment.{SegmentParts}
+use Rattle.secure_log.specs.Versioned.{of_plain, segment_marks}
 use Rattle.replay_spec.specs.Stepping.{BadReceive, Repeated, ReplayFault, step, shown_by, unless_fault}
 use Rattle.state_spec.specs.State.{State, ReceivedMessage, received_cmp, is_received, opening_client}
 use Rattle.replay_spec.specs.Placed.{place, placed}
 use Rattle.replay_spec.specs.Replay.{Sound, Fault, behind, verdict_of}
 use Rattle.witness_spec.specs.Watched.{watched}
 use Rattle.witness_spec.specs.Standing.{verdict_on}
-use Rattle.witness_examples.specs.Worked.{five}
+use Rattle.witness_spec.proofs.evidence_spec.PlainSegments.{marks_plain, verdict_plain}
+use Rattle.witness_examples.specs.Worked.{five, learned}
 use Rattle.witness_examples.specs.Limits.Audits.{tick, ticks, hash_at, ticked, ticked_job, its_secret, six}
 use Rattle.witness_examples.specs.Limits.Audits.{clients}
 use Rattle.witness_examples.specs.Limits.Audits.{rounds, sent_hash, sender, receipt, heard_hash}
@@ -27,7 +29,23 @@ use Rattle.witness_examples.specs.Limits.Audits.{heard_segment}
 use Rattle.witness_examples.specs.Limits.Audits.{heard_job, state_heard, heard}
 use Rattle.witness_examples.proofs.OfLimits.Audits.{OnLog, Quiet, goes_on}
 
+-- a segment that skips nothing shows a log's hashes where its pairs are
+plain_on : (h : ℕ → List ℕ) (end : ℕ) (s : SegmentParts) → 0 < s.first
+    → OnLog h end (pairs (s.first - 1) s.opening (links_from s.first s.entries))
+    → OnLog h end (segment_marks (of_plain s))
+plain_on h end s some on = subst (OnLog h end) (sym (marks_plain s some)) on
+
 -- ---- readings of the clock
+
+-- so many after an end, as a segment of a log of version 1
+abbrev plain_ticked : (end size : ℕ) → SegmentParts
+plain_ticked end size = record {
+  node = 5;
+  first = end + 1;
+  opening = hash_at end;
+  entries = ticks size;
+  closing = learned (end + size) (hash_at (end + size));
+}
 
 ticks_sound : (n first : ℕ) (before : List ℕ)
     → verdict_of clients (opening_client 5) (placed first before (replicate n tick)) ≡ Sound
@@ -53,18 +71,21 @@ ticks_on (suc size) n end before e low = (
       (ap (λ b. hash_after b (link_of (n + 1) tick)) e ∙ sym (next_hash n)) (omega arith),
 )
 
-ticked_on : (end size : ℕ) → OnLog hash_at (end + size) (segment_pairs (ticked end size))
+ticked_on : (end size : ℕ) → OnLog hash_at (end + size) (segment_marks (ticked end size))
 unfolding ticks
 ticked_on end size =
     let same : end ≡ (end + 1) - 1 = omega arith in
-    subst (λ n. OnLog hash_at (end + size) (pairs n (hash_at end)
+    plain_on hash_at (end + size) (plain_ticked end size) (omega arith)
+    (subst (λ n. OnLog hash_at (end + size) (pairs n (hash_at end)
     (links_from (end + 1) (replicate size tick)))) same
-    (ticks_on size end (end + size) (hash_at end) refl (omega arith))
+    (ticks_on size end (end + size) (hash_at end) refl (omega arith)))
 
 ticked_sound : (number end size : ℕ)
     → verdict_on clients (opening_client 5) (ticked_job number end size) ≡ Sound (opening_client 5) []
 unfolding ticks
-ticked_sound number end size = ticks_sound size (end + 1) (hash_at end)
+ticked_sound number end size =
+    verdict_plain clients (opening_client 5) (plain_ticked end size)
+    ∙ ticks_sound size (end + 1) (hash_at end)
 
 -- after so many rounds the end is 4,096 for each, and nothing was found
 abbrev pub QuietRounds : ℕ → Type 0
@@ -95,6 +116,7 @@ one_more k few q =
     (opening_client 5) [] (record {
       job = refl;
       first = refl;
+      last = refl;
       above = omega arith;
       near = omega arith;
       few = omega arith;
@@ -119,6 +141,16 @@ quiet_rounds (suc k) few = one_more k (omega arith) (quiet_rounds k (omega arith
 
 -- ---- a message that was received
 
+-- it alone, as a segment of a log of version 1
+abbrev plain_heard : (end : ℕ) → SegmentParts
+plain_heard end = record {
+  node = 5;
+  first = end + 1;
+  opening = hash_at end;
+  entries = receipt ∷ [];
+  closing = learned (end + 1) (heard_hash end);
+}
+
 signed : is_signed_in clients sender ≡ true
 signed =
     signed_by_member clients sender six refl
@@ -138,7 +170,8 @@ receipt_step number before =
 heard_sound : (number end : ℕ)
     → verdict_on clients (opening_client 5) (heard_job number end) ≡ Sound state_heard (sender ∷ [])
 heard_sound number end =
-    ap (λ (r : Result State ReplayFault). elim r [
+    verdict_plain clients (opening_client 5) (plain_heard end)
+    ∙ ap (λ (r : Result State ReplayFault). elim r [
       | Ok t ↦ behind (shown_by (opening_client 5) receipt) (verdict_of clients t [])
       | Err fault ↦ Fault fault (end + 1)
     ]) (receipt_step (end + 1) (hash_at end))
@@ -156,12 +189,14 @@ module _ (end : ℕ) where
       let out : nat_le (end + 1) end ≡ false = grind (arith, nat_tests) in
       sym (ap (λ b. cond b (hash_at (end + 1)) (heard_hash end)) out)
 
-  heard_on : OnLog heard_at (end + 1) (segment_pairs (heard_segment end))
+  heard_on : OnLog heard_at (end + 1) (segment_marks (heard_segment end))
   unfolding heard_hash
   heard_on =
       let same : end ≡ (end + 1) - 1 = omega arith in
-      subst (λ n. OnLog heard_at (end + 1) (pairs n (hash_at end) (links_from (end + 1) (receipt ∷ [])))) same
-      (omega arith, sym (before_same end (omega arith)), (omega arith, last_same, tt))
+      plain_on heard_at (end + 1) (plain_heard end) (omega arith)
+      (subst (λ n. OnLog heard_at (end + 1) (pairs n (hash_at end)
+      (links_from (end + 1) (receipt ∷ [])))) same
+      (omega arith, sym (before_same end (omega arith)), (omega arith, last_same, tt)))
 
 -- after so many rounds a message was received and audited
 pub quiet_heard : (k : ℕ) → k < 16
@@ -174,6 +209,7 @@ quiet_heard k few =
     (heard_job (k + 1) end) (heard_at end) state_heard (sender ∷ []) (record {
       job = refl;
       first = refl;
+      last = refl;
       above = omega arith;
       near = omega arith;
       few = omega arith;

@@ -9,15 +9,16 @@ use Rattle.merkle_keys.specs.Tree.{root}
 use Rattle.authenticator.specs.Signed.{signed_digest}
 use Rattle.authenticator.proofs.Signed.{list_same}
 use Rattle.secure_log.specs.declared.log_entries.entry.Entry.{Entry}
-use Rattle.secure_log.specs.LogEntries.Chain.{hash_after, zeros, IsAmong}
+use Rattle.secure_log.specs.LogEntries.Chain.{hash_after, zeros, without_gaps, IsAmong}
 use Rattle.secure_log.specs.Part.{GivesPart}
 use Rattle.secure_log.specs.declared.open.OpenSegment.{OpenSegment}
 use Rattle.replay_spec.specs.Opening.{opening_of}
 use Rattle.state_spec.specs.State.{opening_client}
 use Rattle.replay_spec.specs.Stepping.{step}
-use Rattle.replay_spec.specs.Replay.{Sound, segment_verdict}
-use Rattle.replay_spec.specs.HonestLogs.{IsHonestLog}
-use Rattle.witness_spec.specs.evidence_spec.Proving.{log_texts}
+use Rattle.replay_spec.specs.Placed.{places_in}
+use Rattle.replay_spec.specs.Replay.{Sound, verdict_of}
+use Rattle.replay_spec.specs.HonestLogs.{IsHonestWithGaps}
+use Rattle.witness_spec.specs.evidence_spec.Proving.{texts_of}
 use Rattle.witness_spec.proofs.evidence_spec.OneReading.{reading_texts}
 use Rattle.authenticator.specs.Signing.{is_same}
 use Rattle.witness_spec.specs.Refusals.{BadSignature}
@@ -72,8 +73,8 @@ module _ (secret : List ℕ) where
   -- its log, closed by that, may be handed in
   pub closed_is : IsClosedUnder (signed_closed secret)
   closed_is = record {
-    text = (
-      (
+    fits = record {
+      text = (
         omega arith,
         (
           (omega arith, refl),
@@ -85,19 +86,27 @@ module _ (secret : List ℕ) where
             ),
           ),
         ),
-      ),
-      refl,
-    );
+      );
+      skips = (refl, tt);
+      begins = tt;
+    };
+    whole = refl;
     closed = record {
       version = refl;
-      ends = record { node = refl; number = refl; hash = refl };
+      ends = record {
+        first = omega arith;
+        skips = (refl, tt);
+        node = refl;
+        last = refl;
+        hash = refl;
+      };
       signed = leaf_signs secret 0 (signed_digest 5 1 read_hash) (omega arith);
     };
   }
 
   -- a replay of it finds the state after the reading
   pub replayed : Sound state_read []
-      ≡ segment_verdict (alone secret) (opening_client 5) (signed_segment secret)
+      ≡ verdict_of (alone secret) (opening_client 5) (places_in (signed_segment secret))
   unfolding step
   replayed = refl
 
@@ -167,7 +176,8 @@ module _ (secret : List ℕ) where
   -- ---- what the law on honest nodes supposes
 
   -- the client's log, one reading of a clock, is honest
-  pub reading_honest : IsHonestLog (alone secret) (opening_of (client secret)) readings state_read
+  pub reading_honest : IsHonestWithGaps (alone secret) (opening_of (client secret)) (without_gaps readings)
+      state_read
   reading_honest = record {
     states = state_read ∷ [];
     honest = (record { stands = record { turn = tt; valid = omega arith; late = refl }; after = refl }, tt);
@@ -175,7 +185,8 @@ module _ (secret : List ℕ) where
   }
 
   -- every signature among its steps is of the log's last place
-  pub unforged : Unforged (watched (alone secret) (client secret)) readings (audited_steps secret)
+  pub unforged : Unforged (watched (alone secret) (client secret)) (without_gaps readings)
+      (audited_steps secret)
   unforged = ((λ of signed. inr (inl refl)), ((λ of signed. inr (inl refl)), tt))
 
 -- what is in two lists of texts is in one of them
@@ -193,9 +204,10 @@ in_both t texts i =
     ]
 
 -- no two texts of the log and of what was answered have one digest
-pub unlike : (secret : List ℕ) → NoCollisionWith readings (audited_steps secret)
+pub unlike : (secret : List ℕ) → NoCollisionWith (without_gaps readings) (audited_steps secret)
 unlike secret s t i j e =
-    reading_texts s t (in_both s (log_texts readings) i) (in_both t (log_texts readings) j) e
+    let texts = texts_of (without_gaps readings) in
+    reading_texts s t (in_both s texts i) (in_both t texts j) e
 
 -- The part with all entries of its log is the log's.
 pub whole_part : (s : OpenSegment) → s.node ≡ 5 → s.first ≡ 1 → s.opening ≡ zeros → s.entries.now ≡ readings

@@ -7,10 +7,10 @@ use Rattle.sha2.proofs.Facts256.{length-sha256}
 use Rattle.authenticator.specs.Signed.{signed_digest}
 use Rattle.secure_log.specs.LogEntries.Chain.{hash_after, zeros}
 use Rattle.state_spec.specs.State.{State, opening_client}
-use Rattle.replay_spec.specs.Placed.{placed_in}
+use Rattle.replay_spec.specs.Placed.{places_in}
 use Rattle.replay_spec.specs.Steps.{MayShowTime}
 use Rattle.replay_spec.specs.Stepping.{ClockBack, step}
-use Rattle.replay_spec.specs.Replay.{Fault, Honest, segment_verdict}
+use Rattle.replay_spec.specs.Replay.{Fault, Honest, verdict_of}
 use Rattle.witness_spec.specs.Refusals.{BadSignature}
 use Rattle.witness_spec.specs.Events.{IsEvent, IsClosedUnder}
 use Rattle.witness_spec.specs.Events as events
@@ -51,8 +51,8 @@ module _ (secret : List ℕ) where
   -- its log, closed by that, may be handed in
   pub back_closed_is : IsClosedUnder (back_closed secret)
   back_closed_is = record {
-    text = (
-      (
+    fits = record {
+      text = (
         omega arith,
         (
           (omega arith, refl),
@@ -71,25 +71,33 @@ module _ (secret : List ℕ) where
             ),
           ),
         ),
-      ),
-      refl,
-    );
+      );
+      skips = (refl, (refl, tt));
+      begins = tt;
+    };
+    whole = refl;
     closed = record {
       version = refl;
-      ends = record { node = refl; number = refl; hash = refl };
+      ends = record {
+        first = omega arith;
+        skips = (refl, (refl, tt));
+        node = refl;
+        last = refl;
+        hash = refl;
+      };
       signed = leaf_signs secret 0 (signed_digest 5 2 back_hash) (omega arith);
     };
   }
 
   -- a replay of it finds that the clock goes back
   pub back_replayed : Fault ClockBack 2
-      ≡ segment_verdict (alone secret) (opening_client 5) (back_segment secret)
+      ≡ verdict_of (alone secret) (opening_client 5) (places_in (back_segment secret))
   unfolding step
   back_replayed = refl
 
   -- no list of states makes it honest
   pub none_honest : (states : List State)
-      → Honest (alone secret) (opening_client 5) (placed_in (back_segment secret)) states → ⊥
+      → Honest (alone secret) (opening_client 5) (places_in (back_segment secret)) states → ⊥
   none_honest [] h = h
   none_honest (t ∷ []) h = h.1
   none_honest (t ∷ u ∷ us) h =

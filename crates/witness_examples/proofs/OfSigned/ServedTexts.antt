@@ -11,8 +11,9 @@ use Rattle.secure_log.specs.declared.log_entries.entry.Entry.{Entry}
 use Rattle.secure_log.specs.declared.log_entries.entry.Entry.TheVariants.{Recv, Clock, Send}
 use Rattle.secure_log.specs.LogEntries.Entry.{content, send_content, recv_content}
 use Rattle.secure_log.specs.LogEntries.Chain.{NoCollision, chain_text, hash_after, link_of, zeros, IsAmong}
+use Rattle.secure_log.specs.LogEntries.Chain.{without_gaps}
 use Rattle.secure_log.specs.LogEntries.Signatures.{signature_digest}
-use Rattle.witness_spec.specs.evidence_spec.Proving.{log_texts, signature_text}
+use Rattle.witness_spec.specs.evidence_spec.Proving.{log_texts, texts_of, signature_text}
 use Rattle.witness_spec.specs.Premises.{NoCollisionWith}
 use Rattle.witness_examples.specs.Signed.Served.{call, reply, call_signature, served, served_steps}
 use Rattle.witness_examples.proofs.OfSigned.Auditing.{in_both}
@@ -190,6 +191,7 @@ log_texts_differ : NoCollision (log_texts served)
 log_texts_differ = no_two (log_texts served) (ap all_differ first_bytes_are)
 
 -- no two texts of the log and of what was answered have one digest
-pub unlike : (secret : List ℕ) → NoCollisionWith served (served_steps secret)
+pub unlike : (secret : List ℕ) → NoCollisionWith (without_gaps served) (served_steps secret)
 unlike secret s t i j e =
-    log_texts_differ s t (in_both s (log_texts served) i) (in_both t (log_texts served) j) e
+    let texts = texts_of (without_gaps served) in
+    log_texts_differ s t (in_both s texts i) (in_both t texts j) e

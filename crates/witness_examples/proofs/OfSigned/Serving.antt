@@ -15,23 +15,25 @@ use Rattle.xdr.specs.Reading.{number_at, fixed_at, opaque_at, tested_at}
 use Rattle.merkle_keys.specs.Signing.{signature_item, signature_value}
 use Rattle.merkle_keys.specs.Tree.{root, path_end, parent_hash, inner_hash}
 use Rattle.merkle_keys.proofs.SignatureTexts.{parts_fit}
+use Rattle.authenticator.specs.declared.member.LogVersion.TheVariants.{One}
 use Rattle.authenticator.specs.Signing.{is_same}
 use Rattle.authenticator.specs.Signed.{IsSignedBy, signed_digest}
 use Rattle.authenticator.proofs.Signed.{list_same}
-use Rattle.secure_log.specs.LogEntries.Chain.{zeros, hash_after, link_of}
+use Rattle.secure_log.specs.LogEntries.Chain.{zeros, hash_after, link_of, without_gaps}
 use Rattle.secure_log.specs.declared.log_entries.entry.Entry.TheVariants.{Recv, Clock}
-use Rattle.secure_log.specs.Segment.{segment_pairs}
+use Rattle.secure_log.specs.Versioned.{segment_marks}
 use Rattle.state_spec.specs.server_spec.Replies.{reply_owed}
 use Rattle.state_spec.specs.State.{State, received_cmp, opening_server}
 use Rattle.replay_spec.specs.Opening.{opening_of}
 use Rattle.replay_spec.specs.Placed.{placed}
 use Rattle.replay_spec.specs.Steps.{received_message}
-use Rattle.replay_spec.specs.Replay.{Honest, found, Sound, segment_verdict}
-use Rattle.replay_spec.specs.HonestLogs.{IsHonestLog}
+use Rattle.replay_spec.specs.Placed.{places_in}
+use Rattle.replay_spec.specs.Replay.{Honest, found, Sound, verdict_of}
+use Rattle.replay_spec.specs.HonestLogs.{IsHonestLog, IsHonestWithGaps}
 use Rattle.replay_spec.specs.Laws.{SoundExactlyIf}
 use Rattle.replay_spec.specs.LogLaws.Laws.{HonestServersStay}
 use Rattle.replay_spec.specs.LogLaws.HonestServers.{MayHear, heard_entries}
-use Rattle.witness_spec.specs.evidence_spec.Proving.{IsLog}
+use Rattle.witness_spec.specs.evidence_spec.Proving.{IsLog, IsLogOf}
 use Rattle.witness_spec.specs.Refusals.{BadSignature}
 use Rattle.witness_spec.specs.Events.{IsEvent, IsClosedUnder, ItsIndication}
 use Rattle.witness_spec.specs.Events as events
@@ -136,6 +138,14 @@ served_log = record {
   few = omega arith;
 }
 
+-- so it is a log of version 1, where no number is skipped
+pub served_log_of : IsLogOf One (without_gaps served)
+served_log_of = record {
+  each = served_log.each;
+  bytes = served_log.bytes;
+  numbers = ((refl, (refl, (refl, tt))), omega arith);
+}
+
 -- ---- its hashes
 
 -- the hash after the call
@@ -174,6 +184,14 @@ module _ (secret : List ℕ) where
       (stays (server_and_caller secret) (opening_server 5) (opening_server 5) [] world_before 6 1 zeros call
       call_signature call_time (record { states = []; honest = tt; last = refl }) may_hear)
 
+  -- the same of the log with what is skipped before each entry, which is nothing
+  pub served_with_gaps : HonestServersStay
+      → IsHonestWithGaps (server_and_caller secret) (opening_of (server secret)) (without_gaps served)
+      state_after
+  served_with_gaps stays =
+      let h = served_honest stays in
+      record { states = h.states; honest = h.honest; last = h.last }
+
   shows : (ts : List State) → Honest (server_and_caller secret) (opening_server 5) (placed 1 zeros served) ts
       → found (opening_server 5) (placed 1 zeros served) ts ≡ caller_shown ∷ []
   shows [] h = absurd h
@@ -183,7 +201,7 @@ module _ (secret : List ℕ) where
 
   -- a replay of it finds the state after the reply, and the client's authenticator
   pub served_sound : SoundExactlyIf → HonestServersStay
-      → segment_verdict (server_and_caller secret) (opening_server 5) (served_segment secret)
+      → verdict_of (server_and_caller secret) (opening_server 5) (places_in (served_segment secret))
       ≡ Sound state_after (caller_shown ∷ [])
   served_sound sound stays =
       let h = served_honest stays in
@@ -203,8 +221,8 @@ module _ (secret : List ℕ) where
   -- the log, closed by that
   pub closed_is : IsClosedUnder (served_closed secret)
   closed_is = record {
-    text = (
-      (
+    fits = record {
+      text = (
         omega arith,
         (
           (omega arith, refl),
@@ -216,12 +234,20 @@ module _ (secret : List ℕ) where
             ),
           ),
         ),
-      ),
-      refl,
-    );
+      );
+      skips = (refl, (refl, (refl, tt)));
+      begins = tt;
+    };
+    whole = refl;
     closed = record {
       version = refl;
-      ends = record { node = refl; number = refl; hash = refl };
+      ends = record {
+        first = omega arith;
+        skips = (refl, (refl, (refl, tt)));
+        node = refl;
+        last = refl;
+        hash = refl;
+      };
       signed = leaf_signs secret 0 (signed_digest 5 3 served_hash) (omega arith);
     };
   }
@@ -244,7 +270,7 @@ module _ (secret : List ℕ) where
   opening_same zero low = refl
   opening_same (suc n) low = absurd (omega (arith, low))
 
-  on_log : OnLog hash_at 3 (segment_pairs (served_segment secret))
+  on_log : OnLog hash_at 3 (segment_marks (served_segment secret))
   on_log =
       (omega arith, refl, (omega arith, refl, (omega arith, refl, (omega arith, refl, tt))))
 
@@ -259,6 +285,7 @@ module _ (secret : List ℕ) where
       (caller_shown ∷ []) (record {
         job = refl;
         first = refl;
+        last = refl;
         above = omega arith;
         near = omega arith;
         few = omega arith;
@@ -337,7 +364,7 @@ module _ (secret : List ℕ) where
   own_all = ap (λ (x : Past). (Ask ItsIndication, Told Trusted) ∷ x) own_filed
 
   -- every signature among its steps is of the log's last place
-  pub unforged : Unforged roster served (served_steps secret)
+  pub unforged : Unforged roster (without_gaps served) (served_steps secret)
   unforged = (
     (λ of signed. inr (inr (inr (inl refl)))),
     ((λ of signed. inr (inr (inr (inl refl)))), tt),

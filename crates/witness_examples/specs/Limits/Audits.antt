@@ -11,7 +11,7 @@ use Rattle.authenticator.specs.declared.member.Member.{Member}
 use Rattle.secure_log.specs.LogEntries.Chain.{zeros, hash_after, link_of, links_from, last_hash}
 use Rattle.secure_log.specs.declared.log_entries.entry.Entry.{Entry}
 use Rattle.secure_log.specs.declared.log_entries.entry.Entry.TheVariants.{Clock, Recv}
-use Rattle.secure_log.specs.Segment.{SegmentParts}
+use Rattle.secure_log.specs.Versioned.{VersionedParts, of_plain}
 use Rattle.replay_spec.specs.Shown.{sender_shown}
 use Rattle.state_spec.specs.State.{State, opening_client}
 use Rattle.state_spec.specs.Steps.{having_received, having_read}
@@ -37,14 +37,14 @@ abbrev pub second_entries : List Entry
 second_entries = Clock 2 0 ∷ []
 
 -- it alone, closed
-abbrev pub second_segment : SegmentParts
-second_segment = record {
+abbrev pub second_segment : VersionedParts
+second_segment = of_plain (record {
   node = 5;
   first = 2;
   opening = read_hash;
   entries = second_entries;
   closing = learned 2 (last_hash read_hash (links_from 2 second_entries));
-}
+})
 
 -- it begins in the state where the first audit ended
 abbrev pub second_job : JobParts
@@ -81,14 +81,14 @@ hash_at zero = zeros
 hash_at (suc n) = hash_after (hash_at n) (link_of (suc n) tick)
 
 -- so many after an end, closed
-abbrev pub ticked : (end size : ℕ) → SegmentParts
-ticked end size = record {
+abbrev pub ticked : (end size : ℕ) → VersionedParts
+ticked end size = of_plain (record {
   node = 5;
   first = end + 1;
   opening = hash_at end;
   entries = ticks size;
   closing = learned (end + size) (hash_at (end + size));
-}
+})
 
 -- the secret of a client that sends to the one that is watched
 unfoldable pub its_secret : List ℕ
@@ -140,14 +140,14 @@ unfoldable pub heard_hash : (end : ℕ) → List ℕ
 heard_hash end = hash_after (hash_at end) (link_of (end + 1) receipt)
 
 -- a segment with it alone
-abbrev pub heard_segment : (end : ℕ) → SegmentParts
-heard_segment end = record {
+abbrev pub heard_segment : (end : ℕ) → VersionedParts
+heard_segment end = of_plain (record {
   node = 5;
   first = end + 1;
   opening = hash_at end;
   entries = receipt ∷ [];
   closing = learned (end + 1) (heard_hash end);
-}
+})
 
 -- the job of that segment
 abbrev pub heard_job : (number end : ℕ) → JobParts

@@ -7,7 +7,7 @@ use Rattle.authenticator.specs.declared.authenticator.Authenticator.{Authenticat
 use Rattle.secure_log.specs.LogEntries.Chain.{zeros, links_from, last_hash}
 use Rattle.secure_log.specs.declared.log_entries.entry.Entry.{Entry}
 use Rattle.secure_log.specs.declared.log_entries.entry.Entry.TheVariants.{Recv}
-use Rattle.secure_log.specs.Segment.{SegmentParts}
+use Rattle.secure_log.specs.Versioned.{VersionedParts, of_plain}
 use Rattle.replay_spec.specs.Shown.{sender_shown}
 use Rattle.state_spec.specs.State.{State, opening_client}
 use Rattle.state_spec.specs.Steps.{having_received}
@@ -36,14 +36,14 @@ abbrev pub both_receipts : List Entry
 both_receipts = receipt ∷ Recv 6 1 zeros (8 ∷ []) other_signature ∷ []
 
 -- all of it, closed
-abbrev pub both_segment : SegmentParts
-both_segment = record {
+abbrev pub both_segment : VersionedParts
+both_segment = of_plain (record {
   node = 5;
   first = 1;
   opening = zeros;
   entries = both_receipts;
   closing = learned 2 (last_hash zeros (links_from 1 both_receipts));
-}
+})
 
 -- the job of it
 abbrev pub both_job : JobParts

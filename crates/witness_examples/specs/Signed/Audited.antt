@@ -12,7 +12,7 @@ use Rattle.secure_log.specs.LogEntries.Chain.{zeros, links_from, last_hash}
 use Rattle.secure_log.specs.declared.log_entries.entry.Entry.{Entry}
 use Rattle.secure_log.specs.declared.log_entries.entry.Entry.TheVariants.{Clock}
 use Rattle.secure_log.specs.Log.{LogParts}
-use Rattle.secure_log.specs.Segment.{SegmentParts, ClosedParts}
+use Rattle.secure_log.specs.Versioned.{VersionedParts, ClosedVersionedParts, of_plain}
 use Rattle.state_spec.specs.State.{State, opening_client}
 use Rattle.state_spec.specs.Steps.{having_read}
 use Rattle.replay_spec.specs.Replay.{Sound}
@@ -64,17 +64,17 @@ abbrev pub signed_end : (secret : List ℕ) → Authenticator
 signed_end secret = signed secret 0 1 read_hash
 
 -- its whole log, closed by that authenticator
-abbrev pub signed_segment : (secret : List ℕ) → SegmentParts
-signed_segment secret = record {
+abbrev pub signed_segment : (secret : List ℕ) → VersionedParts
+signed_segment secret = of_plain (record {
   node = 5;
   first = 1;
   opening = zeros;
   entries = readings;
   closing = signed_end secret;
-}
+})
 
 -- the same under the client's roster
-abbrev pub signed_closed : (secret : List ℕ) → ClosedParts
+abbrev pub signed_closed : (secret : List ℕ) → ClosedVersionedParts
 signed_closed secret = record { segment = signed_segment secret; roster = alone secret }
 
 -- the job of replaying it

@@ -4,7 +4,7 @@ use Rattle.authenticator.specs.declared.authenticator.Authenticator.{Authenticat
 use Rattle.secure_log.specs.LogEntries.Chain.{zeros, links_from, last_hash}
 use Rattle.secure_log.specs.declared.log_entries.entry.Entry.{Entry}
 use Rattle.secure_log.specs.declared.log_entries.entry.Entry.TheVariants.{Clock}
-use Rattle.secure_log.specs.Segment.{SegmentParts, ClosedParts}
+use Rattle.secure_log.specs.Versioned.{VersionedParts, ClosedVersionedParts, of_plain}
 use Rattle.state_spec.specs.State.{opening_client}
 use Rattle.replay_spec.specs.Stepping.{ClockBack}
 use Rattle.replay_spec.specs.Replay.{Fault}
@@ -28,17 +28,17 @@ abbrev pub back_end : (secret : List ℕ) → Authenticator
 back_end secret = signed secret 0 2 back_hash
 
 -- its whole log, closed by that authenticator
-abbrev pub back_segment : (secret : List ℕ) → SegmentParts
-back_segment secret = record {
+abbrev pub back_segment : (secret : List ℕ) → VersionedParts
+back_segment secret = of_plain (record {
   node = 5;
   first = 1;
   opening = zeros;
   entries = back_readings;
   closing = back_end secret;
-}
+})
 
 -- the same under the client's roster
-abbrev pub back_closed : (secret : List ℕ) → ClosedParts
+abbrev pub back_closed : (secret : List ℕ) → ClosedVersionedParts
 back_closed secret = record { segment = back_segment secret; roster = alone secret }
 
 -- the job of replaying it

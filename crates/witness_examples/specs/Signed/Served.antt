@@ -15,7 +15,7 @@ use Rattle.secure_log.specs.LogEntries.Chain.{zeros, links_from, last_hash}
 use Rattle.secure_log.specs.LogEntries.Messages.{message_hash}
 use Rattle.secure_log.specs.declared.log_entries.entry.Entry.{Entry}
 use Rattle.secure_log.specs.declared.log_entries.entry.Entry.TheVariants.{Recv, Clock, Send}
-use Rattle.secure_log.specs.Segment.{SegmentParts, ClosedParts}
+use Rattle.secure_log.specs.Versioned.{VersionedParts, ClosedVersionedParts, of_plain}
 use Rattle.state_spec.specs.State.{State, opening_server}
 use Rattle.nfs_items.specs.Timeval.{Timeval}
 use Rattle.state_spec.specs.server_spec.World.{World, opening_world}
@@ -113,17 +113,17 @@ abbrev pub served_end : (secret : List ℕ) → Authenticator
 served_end secret = signed secret 0 3 served_hash
 
 -- its whole log, closed by that authenticator
-abbrev pub served_segment : (secret : List ℕ) → SegmentParts
-served_segment secret = record {
+abbrev pub served_segment : (secret : List ℕ) → VersionedParts
+served_segment secret = of_plain (record {
   node = 5;
   first = 1;
   opening = zeros;
   entries = served;
   closing = served_end secret;
-}
+})
 
 -- the same under the roster
-abbrev pub served_closed : (secret : List ℕ) → ClosedParts
+abbrev pub served_closed : (secret : List ℕ) → ClosedVersionedParts
 served_closed secret = record { segment = served_segment secret; roster = server_and_caller secret }
 
 -- the job of replaying it

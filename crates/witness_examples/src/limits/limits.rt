@@ -12,6 +12,7 @@ ghost use Rattle.witness_examples.specs.Worked.{five, node_five};
 ghost use Rattle.witness_examples.specs.Limits.Audits.{clients, rounds, sender, heard, with_learned};
 ghost use Rattle.witness_examples.specs.Limits.Audits.{forwarded_one};
 ghost use Rattle.witness_examples.specs.Limits.Audits.{second_state, filed_second};
+ghost use Rattle.secure_log.specs.LogEntries.Chain.{without_gaps};
 ghost use Rattle.secure_log.specs.declared.log_entries.entry.Entry.TheVariants.{Clock};
 ghost use Rattle.witness_examples.specs.Reaching.{Reaches};
 
@@ -28,7 +29,7 @@ pub fn the_first_audit()
 pub fn the_second_audit()
     ensures own { AreOwed node_five filed_second }
     ensures end { end_of node_five filed_second ≡ record { number = 2; state = second_state } }
-    ensures audited { audited node_five filed_second ≡ Clock 1 0 ∷ Clock 2 0 ∷ [] }
+    ensures audited { audited node_five filed_second ≡ without_gaps (Clock 1 0 ∷ Clock 2 0 ∷ []) }
 {}
 
 /// Sixteen audits of 4,096 readings of the clock each, all sound, end at 65,536. What is learned further on

@@ -2,11 +2,13 @@
 //! supposes holds of it.
 
 ghost use Rattle.std.specs.Prelude.{◌≡◌, ℕ, List, [], Some};
+ghost use Rattle.authenticator.specs.declared.member.LogVersion.TheVariants.{One};
 ghost use Rattle.authenticator.specs.Roster.{IsRoster, member_of};
+ghost use Rattle.secure_log.specs.LogEntries.Chain.{without_gaps};
 ghost use Rattle.state_spec.specs.server_spec.Replies.{reply_owed};
 ghost use Rattle.replay_spec.specs.Opening.{opening_of};
-ghost use Rattle.replay_spec.specs.HonestLogs.{IsHonestLog};
-ghost use Rattle.witness_spec.specs.evidence_spec.Proving.{IsLog};
+ghost use Rattle.replay_spec.specs.HonestLogs.{IsHonestWithGaps};
+ghost use Rattle.witness_spec.specs.evidence_spec.Proving.{IsLogOf};
 ghost use Rattle.witness_spec.specs.Events.{ItsIndication};
 ghost use Rattle.witness_spec.specs.Replies.{Noted, Asked, Accepted, Job, Filed, Forwarded, Told, Trusted};
 ghost use Rattle.witness_spec.specs.Watched.{watched};
@@ -77,14 +79,15 @@ pub fn histories_of_answers_are_possible()
 /// All that the law on honest nodes supposes holds of this history: the log is honest, no signature is
 /// forged, and no two texts have one digest, as the digests are worked out.
 pub fn premises_of_answers_are_possible()
-    ensures log { IsLog served }
+    ensures log { IsLogOf One (without_gaps served) }
     ensures honest { (secret : List ℕ) →
-        IsHonestLog (server_and_caller secret) (opening_of (server secret)) served state_after }
+        IsHonestWithGaps (server_and_caller secret) (opening_of (server secret)) (without_gaps served)
+        state_after }
     ensures unforged { (secret : List ℕ) →
-        Unforged (watched (server_and_caller secret) (server secret)) served
+        Unforged (watched (server_and_caller secret) (server secret)) (without_gaps served)
         (own (server_and_caller secret) 5 (served_events secret)) }
     ensures unlike { (secret : List ℕ) →
-        NoCollisionWith served (own (server_and_caller secret) 5 (served_events secret)) }
+        NoCollisionWith (without_gaps served) (own (server_and_caller secret) 5 (served_events secret)) }
 {
     the_call_is_owed_the_reply();
     honest_servers_replay();

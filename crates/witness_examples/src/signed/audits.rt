@@ -1,15 +1,16 @@
 //! A history of values that are really signed: what the laws on honest nodes suppose holds of it.
 
 ghost use Rattle.std.specs.Prelude.{◌≡◌, ℕ, List, [], Some, Ok};
+ghost use Rattle.authenticator.specs.declared.member.LogVersion.TheVariants.{One};
 ghost use Rattle.authenticator.specs.Roster.{IsRoster, member_of};
 ghost use Rattle.authenticator.specs.Signed.{IsSignedBy};
-ghost use Rattle.secure_log.specs.LogEntries.Chain.{zeros};
+ghost use Rattle.secure_log.specs.LogEntries.Chain.{zeros, without_gaps};
 ghost use Rattle.secure_log.specs.Log.{IsOfPlace};
 ghost use Rattle.secure_log.specs.Part.{GivesPart};
 ghost use Rattle.secure_log.specs.declared.open.OpenSegment.{OpenSegment};
 ghost use Rattle.replay_spec.specs.Opening.{opening_of};
-ghost use Rattle.replay_spec.specs.HonestLogs.{IsHonestLog};
-ghost use Rattle.witness_spec.specs.evidence_spec.Proving.{IsLog};
+ghost use Rattle.replay_spec.specs.HonestLogs.{IsHonestWithGaps};
+ghost use Rattle.witness_spec.specs.evidence_spec.Proving.{IsLogOf};
 ghost use Rattle.witness_spec.specs.Events.{ItsIndication};
 ghost use Rattle.witness_spec.specs.Replies.{Noted, Asked, Accepted, Job, Filed, Told, Trusted};
 ghost use Rattle.witness_spec.specs.Watched.{watched};
@@ -60,14 +61,14 @@ pub fn signed_histories_are_possible()
 /// All that the law on honest nodes supposes holds of this history: the log is honest, no signature is
 /// forged, and no two texts have one digest, as the digests are worked out.
 pub fn honest_premises_are_possible()
-    ensures log { IsLog readings }
+    ensures log { IsLogOf One (without_gaps readings) }
     ensures honest { (secret : List ℕ) →
-        IsHonestLog (alone secret) (opening_of (client secret)) readings state_read }
+        IsHonestWithGaps (alone secret) (opening_of (client secret)) (without_gaps readings) state_read }
     ensures unforged { (secret : List ℕ) →
-        Unforged (watched (alone secret) (client secret)) readings
+        Unforged (watched (alone secret) (client secret)) (without_gaps readings)
         (own (alone secret) 5 (audited_events secret)) }
     ensures unlike { (secret : List ℕ) →
-        NoCollisionWith readings (own (alone secret) 5 (audited_events secret)) }
+        NoCollisionWith (without_gaps readings) (own (alone secret) 5 (audited_events secret)) }
 {
     signed_histories_are_possible();
 }

@@ -2,7 +2,7 @@
 -- Serves: answers_are_accepted, acknowledgements_close, answers_close_challenges.
 use Rattle.std.proofs.Common.{◌≡◌, ◌↔◌, inl, inr, ℕ, Bool, true, false, cond, not, ◌==◌, ◌&&◌}
 use Rattle.std.proofs.Common.{List, [], ◌∷◌, ◌++◌, filter, IsSomeAnd, Ok, Err}
-use Rattle.std.proofs.Common.{refl, sym, ap, ap₂, subst, ◌∙◌, eq-eqb}
+use Rattle.std.proofs.Common.{refl, sym, ap, ap₂, subst, ◌∙◌, eq-eqb, arith, ◌<◌}
 use Rattle.std.proofs.lemmas.Bool.{and_from, or_left, or_right, true≢false}
 use Rattle.authenticator.specs.Roster.{member_of, is_of_version, kind_number, log_number, same_version}
 use Rattle.authenticator.specs.declared.member.LogVersion.TheVariants.{One}
@@ -11,8 +11,9 @@ use Rattle.authenticator.specs.declared.authenticator.Authenticator.{Authenticat
 use Rattle.authenticator.specs.declared.member.Member.{Member}
 use Rattle.secure_log.specs.LogEntries.Chain.{IsAmong}
 use Rattle.secure_log.specs.Log.{LogParts, IsOfPlace}
-use Rattle.secure_log.specs.Part.{GivesPart}
-use Rattle.secure_log.specs.Segment.{ClosedParts}
+use Rattle.secure_log.specs.Part.{GivesPart, with_closing}
+use Rattle.secure_log.specs.Segment.{IsClosed}
+use Rattle.secure_log.specs.Versioned.{ClosedVersionedParts}
 use Rattle.secure_log.specs.declared.open.OpenSegment.{OpenSegment}
 use Rattle.secure_log.proofs.Places.{closed_at_its_last}
 use Rattle.envelopes.specs.Envelope.{envelope_message}
@@ -34,6 +35,8 @@ use Rattle.witness_spec.specs.Standing.{open_challenges}
 use Rattle.witness_spec.specs.Owing.{reply_told, answer_reply, is_open, IsOut, Owes}
 use Rattle.witness_spec.specs.Histories.{History, OwesTo, IsOwed, own_of}
 use Rattle.witness_spec.specs.Laws.{AnswersAudit, answer_of, ClosesChallenge}
+use Rattle.witness_spec.specs.Pairs.{last_of}
+use Rattle.witness_spec.proofs.evidence_spec.WithoutGaps.{closed_plain}
 use Rattle.witness_laws.proofs.Replied.{one_reply}
 use Rattle.witness_laws.proofs.OwnSteps.{its_own}
 
@@ -109,22 +112,22 @@ only_reply w history e step good its none told reply =
 
 -- ---- answers
 
-answer_told : (stage : Stage) (c : ClosedParts) (first last : ℕ) → stage ≡ Wanted first last
-    → c.segment.first ≡ first → c.segment.closing.word ≡ last → Accepted ≡ answer_reply stage c
+answer_told : (stage : Stage) (c : ClosedVersionedParts) (first last : ℕ) → stage ≡ Wanted first last
+    → c.segment.first ≡ first → last_of c.segment ≡ last → Accepted ≡ answer_reply stage c
 answer_told stage c first last is e f =
     sym (ap (λ s. answer_reply s c) is
     ∙ ap (λ b. cond b Accepted (Refused NotAsked))
-    (and_from (c.segment.first == first) (c.segment.closing.word == last)
-    (eq-eqb c.segment.first first e) (eq-eqb c.segment.closing.word last f)))
+    (and_from (c.segment.first == first) (last_of c.segment == last)
+    (eq-eqb c.segment.first first e) (eq-eqb (last_of c.segment) last f)))
 
 module _ (w : Watched) (history : History) (is : IsInRoster w) where
-  answer_its : (c : ClosedParts) → c.roster ≡ w.roster → c.segment.closing.node ≡ w.member.node
+  answer_its : (c : ClosedVersionedParts) → c.roster ≡ w.roster → c.segment.closing.node ≡ w.member.node
       → whose w.roster (events.Answer c) ≡ Ok (record { member = w.member; step = Answer c })
   answer_its c roster node =
       ap₂ (λ x b. closed_step x b (Answer c)) (ap (member_of w.roster) node ∙ is)
       (ap (λ r. same_roster r w.roster) roster ∙ roster_self w.roster)
 
-  answer_closes : (c : ClosedParts)
+  answer_closes : (c : ClosedVersionedParts)
       → whose w.roster (events.Answer c) ≡ Ok (record { member = w.member; step = Answer c })
       → (first last : ℕ)
       → ¬ IsAmong (AuditOf first last)
@@ -144,18 +147,21 @@ module _ (w : Watched) (history : History) (is : IsInRoster w) where
       → GivesPart log first last (Ok s) → IsOfPlace log last closing → IsSignedBy w.member closing
       → AnswersAudit w history (answer_of w.roster s closing)
   answers log first last s closing node version stage part place signed =
-      let c : ClosedParts = answer_of w.roster s closing in
+      let c : ClosedVersionedParts = answer_of w.roster s closing in
       let here : closing.node ≡ w.member.node = place.node ∙ node in
       let its = answer_its c refl here in
+      let plain = with_closing s closing in
       let ends = (closed_at_its_last log first last s part.0 part.2 closing).1 place in
+      let some : 0 < plain.first = omega (arith, part.2.number, part.0.some) in
+      let closed : IsClosed w.roster plain = record {
+        version = ap (is_of_version One) (ap (member_of w.roster) (sym ends.node ∙ here) ∙ is)
+            ∙ ap (λ v. same_version v One) version;
+        ends = ends;
+        signed = subst (λ x. IsSomeAnd x (λ n. IsSignedBy n closing))
+            (sym (ap (member_of w.roster) here ∙ is)) signed;
+      } in
       record {
-        closed = record {
-          version = ap (is_of_version One) (ap (member_of w.roster) (sym ends.node ∙ here) ∙ is)
-              ∙ ap (λ v. same_version v One) version;
-          ends = ends;
-          signed = subst (λ x. IsSomeAnd x (λ n. IsSignedBy n closing))
-              (sym (ap (member_of w.roster) here ∙ is)) signed;
-        };
+        closed = (closed_plain plain some w.roster).0 closed;
         its = its;
         reply = only_reply w history (events.Answer c) (Answer c) Accepted its (λ h. h)
             (answer_told (stage_of (own_of w history)) c first last stage part.2.number place.number);

@@ -1,18 +1,19 @@
 -- A segment that was accepted closes the audit and each challenge with a message whose RECV it has.
 -- Serves: answers_close_challenges.
 use Rattle.std.proofs.Common.{◌≡◌, inl, inr, ℕ, Bool, true, false, cond, not, ◌==◌, ◌&&◌, ◌||◌, List}
-use Rattle.std.proofs.Common.{[], ◌∷◌, ◌++◌, filter, Ok, refl, sym, ap, ap₂, subst, ◌∙◌, eq-eqb, eqb-true}
+use Rattle.std.proofs.Common.{[], ◌∷◌, ◌++◌, filter, map, Ok, refl, sym, ap, ap₂, subst, ◌∙◌, eq-eqb}
+use Rattle.std.proofs.Common.{eqb-true}
 use Rattle.std.specs.List.{list_any}
 use Rattle.std.proofs.lemmas.Bool.{and_parts, or_left, or_right, true≢false}
 use Rattle.authenticator.specs.Signing.{is_same}
 use Rattle.authenticator.proofs.Signed.{same_list}
 use Rattle.secure_log.specs.declared.log_entries.entry.Entry.{Entry}
 use Rattle.secure_log.specs.declared.log_entries.entry.Entry.TheVariants as entries
-use Rattle.secure_log.specs.Segment.{SegmentParts, ClosedParts}
+use Rattle.secure_log.specs.Versioned.{VersionedParts, ClosedVersionedParts}
 use Rattle.envelopes.specs.Envelope.{envelope_message}
 use Rattle.envelopes.specs.declared.envelope.Envelope.{Envelope}
 use Rattle.envelopes.specs.declared.message.Message.{Message}
-use Rattle.secure_log.specs.LogEntries.Chain.{IsAmong}
+use Rattle.secure_log.specs.LogEntries.Chain.{IsAmong, Logged}
 use Rattle.witness_spec.specs.Events as events
 use Rattle.witness_spec.specs.Replies.{Accepted, Challenge, AuditOf, SendOf}
 use Rattle.witness_spec.specs.Watched.{Watched}
@@ -61,15 +62,19 @@ same_is x y h =
     ∙ ap₂ (λ n h. record y { seq = n; hash = h }) (eqb-true x.seq y.seq two.0)
     (same_list x.hash y.hash two.1)
 
-module _ (s : SegmentParts) (message : Message) where
+module _ (s : VersionedParts) (message : Message) where
   -- the segment with other entries
-  abbrev with_entries : List Entry → SegmentParts
-  with_entries es = record s { entries = es }
+  abbrev with_entries : List Logged → VersionedParts
+  with_entries ls = record s { entries = ls }
+
+  -- whether an entry of a log is a RECV of the message
+  abbrev is_recv : Logged → Bool
+  is_recv l = is_recv_of s.node message l.entry
 
   -- a RECV further on is one of the segment
-  further : (x : Entry) (es : List Entry) → HasRecv (with_entries es) message
-      → HasRecv (with_entries (x ∷ es)) message
-  further x es r = record {
+  further : (l : Logged) (ls : List Logged) → HasRecv (with_entries ls) message
+      → HasRecv (with_entries (l ∷ ls)) message
+  further l ls r = record {
     from = r.from;
     seq = r.seq;
     prev = r.prev;
@@ -80,47 +85,43 @@ module _ (s : SegmentParts) (message : Message) where
   }
 
   -- an entry that passes the test is a RECV of the message
-  found_here : (x : Entry) (es : List Entry) → is_recv_of s.node message x ≡ true
-      → HasRecv (with_entries (x ∷ es)) message
-  found_here (entries.Send to body) es h = absurd (true≢false (sym h))
-  found_here (entries.Recv from seq prev body signature) es h = record {
+  found_here : (l : Logged) (ls : List Logged) (e : Entry) → l.entry ≡ e → is_recv_of s.node message e ≡ true
+      → HasRecv (with_entries (l ∷ ls)) message
+  found_here l ls (entries.Send to body) is h = absurd (true≢false (sym h))
+  found_here l ls (entries.Recv from seq prev body signature) is h = record {
     from = from;
     seq = seq;
     prev = prev;
     body = body;
     signature = signature;
-    among = inl refl;
+    among = inl (sym is);
     is = same_is message _ h;
   }
-  found_here (entries.Ack to seq mine number prev signature) es h = absurd (true≢false (sym h))
-  found_here (entries.Clock seconds microseconds) es h = absurd (true≢false (sym h))
-  found_here (entries.Check digest) es h = absurd (true≢false (sym h))
+  found_here l ls (entries.Ack to seq mine number prev signature) is h = absurd (true≢false (sym h))
+  found_here l ls (entries.Clock seconds microseconds) is h = absurd (true≢false (sym h))
+  found_here l ls (entries.Check digest) is h = absurd (true≢false (sym h))
 
   -- where the test finds one, there is one
-  found : (es : List Entry) → list_any (is_recv_of s.node message) es ≡ true
-      → HasRecv (with_entries es) message
+  found : (ls : List Logged) → list_any is_recv ls ≡ true → HasRecv (with_entries ls) message
   found [] h = absurd (true≢false (sym h))
-  found (x ∷ es) h = by (is_recv_of s.node message x) refl h (found es)
+  found (l ∷ ls) h = by (is_recv l) refl h (found ls)
     where
-      by : (b : Bool) → is_recv_of s.node message x ≡ b
-          → (b || list_any (is_recv_of s.node message) es) ≡ true
-          → (list_any (is_recv_of s.node message) es ≡ true → HasRecv (with_entries es) message)
-          → HasRecv (with_entries (x ∷ es)) message
-      by true e h rest = found_here x es e
-      by false e h rest = further x es (rest h)
+      by : (b : Bool) → is_recv l ≡ b → (b || list_any is_recv ls) ≡ true
+          → (list_any is_recv ls ≡ true → HasRecv (with_entries ls) message)
+          → HasRecv (with_entries (l ∷ ls)) message
+      by true e h rest = found_here l ls l.entry refl e
+      by false e h rest = further l ls (rest h)
 
   -- and where there is one, the test finds it
-  finds : (x : Entry) (es : List Entry) → is_recv_of s.node message x ≡ true → IsAmong x es
-      → list_any (is_recv_of s.node message) es ≡ true
-  finds x [] h i = absurd i
-  finds x (y ∷ es) h (inl same) =
-      or_left (is_recv_of s.node message y) (list_any (is_recv_of s.node message) es)
-      (ap (is_recv_of s.node message) (sym same) ∙ h)
-  finds x (y ∷ es) h (inr i) =
-      or_right (is_recv_of s.node message y) (list_any (is_recv_of s.node message) es) (finds x es h i)
+  finds : (e : Entry) (ls : List Logged) → is_recv_of s.node message e ≡ true
+      → IsAmong e (map (λ (l : Logged). l.entry) ls) → list_any is_recv ls ≡ true
+  finds e [] h i = absurd i
+  finds e (l ∷ ls) h (inl same) =
+      or_left (is_recv l) (list_any is_recv ls) (ap (is_recv_of s.node message) (sym same) ∙ h)
+  finds e (l ∷ ls) h (inr i) = or_right (is_recv l) (list_any is_recv ls) (finds e ls h i)
 
   -- a RECV of the message is found
-  answered : HasRecv s message → list_any (is_recv_of s.node message) s.entries ≡ true
+  answered : HasRecv s message → list_any is_recv s.entries ≡ true
   answered r =
       finds (entries.Recv r.from r.seq r.prev r.body r.signature) s.entries
       (message_same message _ r.is) r.among
@@ -136,7 +137,7 @@ true_not : (b : Bool) → ¬ (b ≡ true) → not b ≡ true
 true_not true h = absurd (h refl)
 true_not false h = refl
 
-module _ (w : Watched) (history : History) (c : ClosedParts)
+module _ (w : Watched) (history : History) (c : ClosedVersionedParts)
     (its : whose w.roster (events.Answer c) ≡ Ok (record { member = w.member; step = Answer c })) where
   -- what is open before the answer
   abbrev before : List Challenge

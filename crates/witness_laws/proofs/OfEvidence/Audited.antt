@@ -1,160 +1,233 @@
 -- While a node isn't exposed, all audited entries are an honest log up to the end; so a segment in which a
 -- replay finds a fault is one after them, from the first entry on.
 -- Serves: evidence_where_exposed, evidence_proves.
-use Rattle.std.proofs.Common.{◌≡◌, inl, inr, ℕ, ◌+◌, ◌-◌, ◌^◌, ◌<◌, false, List, [], ◌∷◌, ◌++◌, map}
-use Rattle.std.proofs.Common.{length, Some, refl, sym, ap, subst, ◌∙◌, arith, length-append}
-use Rattle.std.proofs.Common.{append_assoc, append-nil}
-use Rattle.std.specs.Prelude.{IsTrue}
+use Rattle.std.proofs.Common.{◌≡◌, ℕ, ◌+◌, ◌-◌, ◌^◌, ◌<◌, Bool, true, false, not, ◌==◌, nat_lt, List}
+use Rattle.std.proofs.Common.{[], ◌∷◌, ◌++◌, length, Some, refl, sym, ap, subst, ◌∙◌, arith}
+use Rattle.std.proofs.Common.{append_assoc, append-nil, eq-eqb}
 use Rattle.std.specs.List.{AllByRecursion}
-use Rattle.std.proofs.lemmas.List.{length-map}
+use Rattle.std.proofs.lemmas.Bool.{and_parts, true≢false, ltb-true, ltb-false}
 use Rattle.xdr.specs.Item.{Fits}
-use Rattle.authenticator.specs.Roster.{keeps_version}
+use Rattle.authenticator.specs.Numbers.{number_item}
 use Rattle.authenticator.specs.declared.authenticator.Authenticator.{Authenticator}
-use Rattle.authenticator.specs.declared.member.LogVersion.TheVariants.{One}
+use Rattle.authenticator.specs.declared.member.LogVersion.{LogVersion}
+use Rattle.authenticator.specs.declared.member.LogVersion.TheVariants.{One, Two}
 use Rattle.authenticator.specs.declared.member.Member.{Member}
-use Rattle.secure_log.specs.declared.log_entries.entry.Entry.{Entry}
-use Rattle.secure_log.specs.LogEntries.Entry.{entry_item, entry_value}
-use Rattle.secure_log.specs.LogEntries.Chain.{Link, zeros, pairs, hash_after, last_hash, links_from, IsAmong}
-use Rattle.secure_log.proofs.OfLogEntries.Pairs.{last_hash-parts}
-use Rattle.secure_log.specs.Segment.{SegmentParts, ClosedParts, FitsWithin, segment_pairs}
-use Rattle.secure_log.specs.Versioned.{of_plain}
+use Rattle.secure_log.specs.LogEntries.Chain.{Link, Logged, zeros, last_hash, logged_link}
+use Rattle.secure_log.specs.LogEntries.Chain.{logged_links, span, IsAmong}
+use Rattle.secure_log.specs.LogEntries.Words.{ClosesAt, MaySkip, last_word}
+use Rattle.secure_log.specs.Versioned.{VersionedParts, ClosedVersionedParts, logged_item, logged_values}
+use Rattle.secure_log.specs.Versioned.{segment_marks, start_number, versioned_links, versioned_value}
+use Rattle.secure_log.proofs.Gaps.{length-logged_links}
+use Rattle.secure_log.proofs.VersionedTexts.{length-values, whole_is}
 use Rattle.witness_spec.specs.state_spec.State.{State}
 use Rattle.witness_spec.specs.replay_spec.Opening.{opening_of}
-use Rattle.witness_spec.specs.replay_spec.Placed.{Placed, placed, placed_in}
+use Rattle.witness_spec.specs.replay_spec.Placed.{Placed, logged_places, places_from, places_in}
 use Rattle.witness_spec.specs.replay_spec.Stepping.{ReplayFault, step}
 use Rattle.witness_spec.specs.replay_spec.Replay.{Sound, Fault, Honest, last_state, verdict_of}
-use Rattle.witness_spec.proofs.replay_spec.Places.{places_joined}
 use Rattle.witness_spec.proofs.replay_spec.Runs.{is_sound, first_fault, is_fault, joined, last_joined}
-use Rattle.witness_spec.specs.evidence_spec.Evidence.{MAX_AUDITED, Replay, replay_item}
-use Rattle.witness_spec.specs.evidence_spec.Laws.{FindsFault}
+use Rattle.witness_spec.specs.evidence_spec.Evidence.{AcceptsReplay, Replay, replay_item}
 use Rattle.witness_spec.proofs.evidence_spec.Chained.{zeros-length}
-use Rattle.witness_spec.proofs.evidence_spec.Places.{AreNumbered, entries_numbered, length-links}
-use Rattle.witness_spec.proofs.evidence_spec.WithoutGaps.{accepted_plain, text_plain}
+use Rattle.witness_spec.proofs.evidence_spec.Reached.{hash_joined, logged_joined, places_logged, span-append}
 use Rattle.witness_spec.specs.Events.{JobParts}
 use Rattle.witness_spec.specs.Replies.{Reply}
 use Rattle.witness_spec.specs.Watched.{Watched, IsInRoster}
 use Rattle.witness_spec.specs.Steps.{Step, Past}
-use Rattle.witness_spec.specs.Pairs.{Pair}
+use Rattle.witness_spec.specs.Pairs.{Pair, last_of}
 use Rattle.witness_spec.specs.Done.{noted, accepted, filed}
 use Rattle.witness_spec.specs.Standing.{End, end_of, end_after, moved_by, verdict_on, sound_entries}
 use Rattle.witness_spec.specs.Standing.{entries_filed}
 use Rattle.witness_spec.specs.Standing.{audited, pairs_noted, pairs_accepted, shown, is_exposed}
 use Rattle.witness_spec.specs.Exposing.{audited_with}
-use Rattle.witness_laws.proofs.OfEvidence.Audits.{IsGoodSegment, IsNext}
-use Rattle.witness_laws.proofs.OfEvidence.Before.{on_right, one_shown, accepted_shown, first_some}
-use Rattle.witness_laws.proofs.OfEvidence.Charges.{IsGoodCharge, first_shown}
+use Rattle.witness_laws.proofs.OfEvidence.Audits.{IsGoodSegment, its_log_version, last_is, IsNext}
+use Rattle.witness_laws.proofs.OfEvidence.Before.{on_right, one_shown, accepted_shown}
+use Rattle.witness_laws.proofs.OfEvidence.Charges.{IsGoodCharge, first_shown, its_version, replay_fits}
+use Rattle.witness_laws.proofs.OfEvidence.Marks.{few_spans, last_spans, last_there, opening_there}
 
--- ---- chains
+-- ---- entries in two parts
 
-abbrev EachFits : List Entry → Type 0
-EachFits es = AllByRecursion (Fits entry_item) (map entry_value es)
+-- each of some entries after a number has a spelling
+abbrev pub EachFits : LogVersion → (before : ℕ) → List Logged → Type 0
+EachFits v before ls = AllByRecursion (Fits (logged_item v)) (logged_values v before ls)
 
-each_joined : (xs ys : List Entry) → EachFits xs → EachFits ys → EachFits (xs ++ ys)
-each_joined [] ys a b = b
-each_joined (x ∷ xs) ys a b = (a.0, each_joined xs ys a.1 b)
+-- each may be skipped to
+abbrev pub EachMaySkip : LogVersion → (before : ℕ) → List Logged → Type 0
+EachMaySkip v before ls = AllByRecursion (MaySkip v) (logged_links before ls)
 
-opening_there : (before : ℕ) (opening : List ℕ) (links : List Link)
-    → IsAmong (before, opening) (pairs before opening links)
-opening_there before opening [] = inl refl
-opening_there before opening (l ∷ links) = inl refl
+each_joined : (v : LogVersion) (before : ℕ) (xs ys : List Logged) → EachFits v before xs
+    → EachFits v (before + span xs) ys → EachFits v before (xs ++ ys)
+each_joined v before [] ys a b =
+    let same : before + 0 ≡ before = omega arith in subst (λ n. EachFits v n ys) same b
+each_joined v before (x ∷ xs) ys a b =
+    let n = before + 1 + x.skipped in
+    let same : before + span (x ∷ xs) ≡ n + span xs = omega arith in
+    (a.0, each_joined v n xs ys a.1 (subst (λ m. EachFits v m ys) same b))
 
-last_there : (before : ℕ) (opening : List ℕ) (links : List Link) (n : ℕ) → AreNumbered (before + 1) links
-    → n ≡ before + length links → IsAmong (n, last_hash opening links) (pairs before opening links)
-last_there before opening [] n are h =
-    let same : n ≡ before = omega (arith, h) in inl (ap (λ (k : ℕ). (k, opening)) same)
-last_there before opening (l ∷ links) n are h =
-    inr (last_there l.number (hash_after opening l) links n
-    (subst (λ k. AreNumbered (k + 1) links) (sym are.0) are.1)
-    (omega (arith, h, are.0)))
+skips_joined : (v : LogVersion) (before : ℕ) (xs ys : List Logged) → EachMaySkip v before xs
+    → EachMaySkip v (before + span xs) ys → EachMaySkip v before (xs ++ ys)
+skips_joined v before [] ys a b =
+    let same : before + 0 ≡ before = omega arith in subst (λ n. EachMaySkip v n ys) same b
+skips_joined v before (x ∷ xs) ys a b =
+    let n = before + 1 + x.skipped in
+    let same : before + span (x ∷ xs) ≡ n + span xs = omega arith in
+    (a.0, skips_joined v n xs ys a.1 (subst (λ m. EachMaySkip v m ys) same b))
+
+links_joined : (before : ℕ) (xs ys : List Logged)
+    → logged_links before (xs ++ ys) ≡ logged_links before xs ++ logged_links (before + span xs) ys
+links_joined before [] ys =
+    let same : before ≡ before + 0 = omega arith in ap (λ n. logged_links n ys) same
+links_joined before (x ∷ xs) ys =
+    let n = before + 1 + x.skipped in
+    let same : n + span xs ≡ before + span (x ∷ xs) = omega arith in
+    ap (λ (ls : List Link). logged_link n x ∷ ls)
+    (links_joined n xs ys ∙ ap (λ m. logged_links n xs ++ logged_links m ys) same)
+
+word_behind : (k : Link) (ks : List Link) (l : Link) (ls : List Link)
+    → last_word k (ks ++ l ∷ ls) ≡ last_word l ls
+word_behind k [] l ls = refl
+word_behind k (m ∷ ks) l ls = word_behind m ks l ls
+
+-- a word that closes links closes them after others
+closes_after : (v : LogVersion) (before other : ℕ) (ks ls : List Link) (closing : ℕ) → 0 < length ls
+    → ClosesAt v other ls closing → ClosesAt v before (ks ++ ls) closing
+closes_after v before other ks [] closing some h = absurd (omega (arith, some))
+closes_after v before other [] (l ∷ ls) closing some h = h
+closes_after v before other (k ∷ ks) (l ∷ ls) closing some h = h ∙ sym (word_behind k ks l ls)
+
+not_none : (n : ℕ) → not (n == 0) ≡ true → 0 < n
+not_none n h = by (nat_lt 0 n) refl
+  where
+    by : (b : Bool) → nat_lt 0 n ≡ b → 0 < n
+    by true e = ltb-true 0 n e
+    by false e =
+        let zero_is : n ≡ 0 = omega (arith, ltb-false 0 n e) in
+        absurd (true≢false (sym h ∙ ap not (eq-eqb n 0 zero_is)))
+
+-- a good segment has an entry
+has_entry : (w : Watched) (s : VersionedParts) → IsGoodSegment w s → 0 < length s.entries
+has_entry w s good =
+    let both = and_parts (nat_lt 0 s.first) (not (length s.entries == 0))
+    (whole_is s.log_version s good.fits.skips good.fits.begins ∙ good.whole) in
+    not_none (length s.entries) both.1
 
 -- ---- what is audited
 
 -- all audited entries are an honest log up to the end, and its last pair was shown
 pub record IsAudited (w : Watched) (past : Past) : Type 0 where
-  -- as many entries were audited as the end says
-  pub count : length (audited w past) ≡ (end_of w past).number
+  -- they take up as many numbers as the end says
+  pub count : span (audited w past) ≡ (end_of w past).number
   -- the pair after the last of them was shown
-  pub there : IsAmong ((end_of w past).number, last_hash zeros (links_from 1 (audited w past)))
+  pub there : IsAmong ((end_of w past).number, last_hash zeros (logged_links 0 (audited w past)))
       (shown w past)
   -- each has a text
-  pub each : AllByRecursion (Fits entry_item) (map entry_value (audited w past))
+  pub each : EachFits w.member.log_version 0 (audited w past)
+  -- each may be skipped to
+  pub skips : EachMaySkip w.member.log_version 0 (audited w past)
   -- the state after each entry
   pub states : List State
   -- the entries are honest from the state that the member begins with
-  pub honest : Honest w.roster (opening_of w.member) (placed 1 zeros (audited w past)) states
+  pub honest : Honest w.roster (opening_of w.member) (logged_places 0 zeros (audited w past)) states
   -- the last state is that of the end
   pub last : last_state (opening_of w.member) states ≡ (end_of w past).state
 
 -- before any step nothing is audited, and the end is at 0, with the state that the node begins with
 pub none_audited : (w : Watched) → IsAudited w []
-none_audited w =
-    record { count = refl; there = first_shown w []; each = tt; states = []; honest = tt; last = refl }
+none_audited w = record {
+  count = refl;
+  there = first_shown w [];
+  each = tt;
+  skips = tt;
+  states = [];
+  honest = tt;
+  last = refl;
+}
 
 -- a segment after the audited entries, with them
-record IsJoined (w : Watched) (past : Past) (s : SegmentParts) : Type 0 where
-  count : length (audited w past ++ s.entries) ≡ s.closing.word
-  hash : last_hash zeros (links_from 1 (audited w past ++ s.entries)) ≡ s.closing.hash
-  each : EachFits (audited w past ++ s.entries)
-  places : placed 1 zeros (audited w past ++ s.entries) ≡ placed 1 zeros (audited w past) ++ placed_in s
+record IsJoined (w : Watched) (past : Past) (s : VersionedParts) : Type 0 where
+  count : span (audited w past ++ s.entries) ≡ last_of s
+  hash : last_hash zeros (logged_links 0 (audited w past ++ s.entries)) ≡ s.closing.hash
+  each : EachFits w.member.log_version 0 (audited w past ++ s.entries)
+  skips : EachMaySkip w.member.log_version 0 (audited w past ++ s.entries)
+  closes : ClosesAt w.member.log_version 0 (logged_links 0 (audited w past ++ s.entries)) s.closing.word
+  places : logged_places 0 zeros (audited w past ++ s.entries)
+      ≡ logged_places 0 zeros (audited w past) ++ places_in s
 
-is_joined : (w : Watched) (past : Past) (c : ClosedParts) → is_exposed w past ≡ false
+is_joined : (w : Watched) (past : Past) (c : ClosedVersionedParts) → IsInRoster w → is_exposed w past ≡ false
     → IsAudited w past → IsNext w past c → IsGoodSegment w c.segment → IsJoined w past c.segment
-is_joined w past c e a next good =
+is_joined w past c member e a next good =
     let s = c.segment in
-    let some = first_some w s good in
+    let v = w.member.log_version in
+    let es = s.entries in
+    let word = s.closing.word in
+    let ends = good.closed.ends in
     let front = audited w past in
     let end = (end_of w past).number in
-    let before : s.first - 1 ≡ end = omega (arith, next.first, some) in
+    let hash = last_hash zeros (logged_links 0 front) in
+    let version : s.log_version ≡ v = its_log_version w s member good in
+    let before : s.first - 1 ≡ end = omega (arith, next.first) in
     let opened : IsAmong (end, s.opening) (shown w past) =
     subst (λ k. IsAmong (k, s.opening) (shown w past)) before
     (accepted_shown w past s (s.first - 1, s.opening) next.among
-    (opening_there (s.first - 1) s.opening (links_from s.first s.entries))) in
-    let opening : last_hash zeros (links_from 1 front) ≡ s.opening =
-    one_shown w past e end (last_hash zeros (links_from 1 front)) s.opening a.there opened in
-    let place : s.first ≡ 1 + length front = omega (arith, next.first, a.count) in
+    (opening_there (s.first - 1) s.opening (versioned_links s))) in
+    let opening : hash ≡ s.opening = one_shown w past e end hash s.opening a.there opened in
+    let place : 0 + span front ≡ s.first - 1 = omega (arith, a.count, before) in
+    let spans : last_of s ≡ s.first - 1 + span es = last_is w s good ∙ last_spans (s.first - 1) es in
+    let back : s.first ≡ s.first - 1 + 1 = omega (arith, ends.first) in
+    let own : places_in s ≡ logged_places (s.first - 1) s.opening es =
+    ap (λ n. places_from n s.opening es) back ∙ places_logged (s.first - 1) s.opening es in
+    let last : ClosesAt v (s.first - 1) (logged_links (0 + span front) es) word =
+    subst (λ n. ClosesAt v (s.first - 1) (logged_links n es) word) (sym place)
+    (subst (λ u. ClosesAt u (s.first - 1) (versioned_links s) word) version ends.last) in
     record {
-      count = omega (arith, length-append front s.entries, next.first, a.count, good.closed.ends.number);
-      hash = last_hash-parts zeros 1 front s.entries s.first place
-          ∙ (ap (λ h. last_hash h (links_from s.first s.entries)) opening ∙ sym good.closed.ends.hash);
-      each = each_joined front s.entries a.each good.text.0.1.1.1.0.2;
-      places = places_joined 1 zeros front s.entries
-          ∙ (ap (λ k. placed 1 zeros front ++ placed k (last_hash zeros (links_from 1 front)) s.entries)
-          (sym place)
-          ∙ ap (λ h. placed 1 zeros front ++ placed s.first h s.entries) opening);
+      count = omega (arith, span-append front es, a.count, before, spans);
+      hash = hash_joined 0 zeros front es
+          ∙ ap (λ n. last_hash hash (logged_links n es)) place
+          ∙ ap (λ h. last_hash h (versioned_links s)) opening
+          ∙ sym ends.hash;
+      each = each_joined v 0 front es a.each
+          (subst (λ n. EachFits v n es) (sym place)
+          (subst (λ u. EachFits u (s.first - 1) es) version good.fits.text.1.1.1.0.2));
+      skips = skips_joined v 0 front es a.skips
+          (subst (λ n. EachMaySkip v n es) (sym place)
+          (subst (λ u. EachMaySkip u (s.first - 1) es) version ends.skips));
+      closes = subst (λ ls. ClosesAt v 0 ls word) (sym (links_joined 0 front es))
+          (closes_after v 0 (s.first - 1) (logged_links 0 front) (logged_links (0 + span front) es) word
+          (omega (arith, length-logged_links (0 + span front) es, has_entry w s good)) last);
+      places = logged_joined 0 zeros front es
+          ∙ ap (λ n. logged_places 0 zeros front ++ logged_places n hash es) place
+          ∙ ap (λ h. logged_places 0 zeros front ++ logged_places (s.first - 1) h es) opening
+          ∙ ap (λ ps. logged_places 0 zeros front ++ ps) (sym own);
     }
 
 -- its last pair was shown
-last_shown : (w : Watched) (past : Past) (c : ClosedParts) → IsNext w past c
+last_shown : (w : Watched) (past : Past) (c : ClosedVersionedParts) → IsNext w past c
     → IsGoodSegment w c.segment
-    → IsAmong (c.segment.closing.word, c.segment.closing.hash) (shown w past)
+    → IsAmong (last_of c.segment, c.segment.closing.hash) (shown w past)
 last_shown w past c next good =
     let s = c.segment in
-    let some = first_some w s good in
-    let back : s.first ≡ s.first - 1 + 1 = omega (arith, some) in
-    let links = links_from s.first s.entries in
-    accepted_shown w past s (s.closing.word, s.closing.hash) next.among
-    (subst (λ h. IsAmong (s.closing.word, h) (segment_pairs s)) (sym good.closed.ends.hash)
-    (last_there (s.first - 1) s.opening links s.closing.word
-    (subst (λ k. AreNumbered k links) back (entries_numbered s.first s.entries))
-    (omega (arith, good.closed.ends.number, some, length-links s.first s.entries))))
+    let links = versioned_links s in
+    accepted_shown w past s (last_of s, s.closing.hash) next.among
+    (subst (λ h. IsAmong (last_of s, h) (segment_marks s)) (sym good.closed.ends.hash)
+    (subst (λ n. IsAmong (n, last_hash s.opening links) (segment_marks s)) (sym (last_is w s good))
+    (last_there (s.first - 1) s.opening links)))
 
 module _ (w : Watched) (past : Past) (p : Step × Reply) where
   shown_stays : (q : Pair) → IsAmong q (shown w past) → IsAmong q (shown w (p ∷ past))
   shown_stays q i =
-      on_right q (pairs_noted (is_exposed w past) (noted p.0 p.1))
+      on_right q (pairs_noted w.member.log_version (is_exposed w past) (noted p.0 p.1))
       (pairs_accepted (accepted p.0 p.1) ++ shown w past)
       (on_right q (pairs_accepted (accepted p.0 p.1)) (shown w past) i)
 
   -- the invariant in words that a step changes
-  record Are (number : ℕ) (state : State) (es : List Entry) : Type 0 where
-    count : length es ≡ number
-    there : IsAmong (number, last_hash zeros (links_from 1 es)) (shown w (p ∷ past))
-    each : EachFits es
+  record Are (number : ℕ) (state : State) (es : List Logged) : Type 0 where
+    count : span es ≡ number
+    there : IsAmong (number, last_hash zeros (logged_links 0 es)) (shown w (p ∷ past))
+    each : EachFits w.member.log_version 0 es
+    skips : EachMaySkip w.member.log_version 0 es
     states : List State
-    honest : Honest w.roster (opening_of w.member) (placed 1 zeros es) states
+    honest : Honest w.roster (opening_of w.member) (logged_places 0 zeros es) states
     last : last_state (opening_of w.member) states ≡ state
 
-  from_are : (end : End) (es : List Entry) → end_of w (p ∷ past) ≡ end → audited w (p ∷ past) ≡ es
+  from_are : (end : End) (es : List Logged) → end_of w (p ∷ past) ≡ end → audited w (p ∷ past) ≡ es
       → Are end.number end.state es → IsAudited w (p ∷ past)
   from_are end es is_end is_es a =
       let b : Are (end_of w (p ∷ past)).number (end_of w (p ∷ past)).state (audited w (p ∷ past)) =
@@ -164,6 +237,7 @@ module _ (w : Watched) (past : Past) (p : Step × Reply) where
         count = b.count;
         there = b.there;
         each = b.each;
+        skips = b.skips;
         states = b.states;
         honest = b.honest;
         last = b.last;
@@ -179,44 +253,47 @@ module _ (w : Watched) (past : Past) (p : Step × Reply) where
         count = a.count;
         there = shown_stays (
           (end_of w past).number,
-          last_hash zeros (links_from 1 (audited w past)),
+          last_hash zeros (logged_links 0 (audited w past)),
         ) a.there;
         each = a.each;
+        skips = a.skips;
         states = a.states;
         honest = a.honest;
         last = a.last;
       })
 
   -- a segment that was found sound is audited
-  pub audited_on : (j : JobParts) (t : State) (found : List Authenticator) → is_exposed w past ≡ false
-      → filed p.0 p.1 ≡ Some j → verdict_on w.roster (end_of w past).state j ≡ Sound t found
+  pub audited_on : (j : JobParts) (t : State) (found : List Authenticator) → IsInRoster w
+      → is_exposed w past ≡ false → filed p.0 p.1 ≡ Some j
+      → verdict_on w.roster (end_of w past).state j ≡ Sound t found
       → IsNext w past j.segment → IsGoodSegment w j.segment.segment → IsAudited w past
       → IsAudited w (p ∷ past)
-  audited_on j t found e is v next good a =
+  audited_on j t found member e is v next good a =
       let s = j.segment.segment in
       let state = (end_of w past).state in
-      let k = is_joined w past j.segment e a next good in
-      let run = is_sound w.roster state (placed_in s) t found v in
-      from_are (record { number = s.closing.word; state = t }) (audited w past ++ s.entries)
-      (ap (end_after w.roster (end_of w past)) is ∙ ap (moved_by (end_of w past) s.closing.word) v)
+      let k = is_joined w past j.segment member e a next good in
+      let run = is_sound w.roster state (places_in s) t found v in
+      from_are (record { number = last_of s; state = t }) (audited w past ++ s.entries)
+      (ap (end_after w.roster (end_of w past)) is ∙ ap (moved_by (end_of w past) (last_of s)) v)
       (ap (λ x. audited w past ++ entries_filed w.roster state x) is
       ∙ ap (λ x. audited w past ++ sound_entries s.entries x) v)
       (record {
         count = k.count;
         there = shown_stays (
-          s.closing.word,
+          last_of s,
           last_hash zeros
-              (links_from 1 (audited w past ++ s.entries)),
+              (logged_links 0 (audited w past ++ s.entries)),
         )
-            (subst (λ h. IsAmong (s.closing.word, h) (shown w past)) (sym k.hash)
+            (subst (λ h. IsAmong (last_of s, h) (shown w past)) (sym k.hash)
             (last_shown w past j.segment next good));
         each = k.each;
+        skips = k.skips;
         states = a.states ++ run.states;
         honest =
             subst (λ ps. Honest w.roster (opening_of w.member) ps (a.states ++ run.states)) (sym k.places)
-            (joined w.roster (opening_of w.member) (placed 1 zeros (audited w past))
-            (placed_in s) a.states run.states a.honest
-            (subst (λ x. Honest w.roster x (placed_in s) run.states) (sym a.last) run.honest));
+            (joined w.roster (opening_of w.member) (logged_places 0 zeros (audited w past))
+            (places_in s) a.states run.states a.honest
+            (subst (λ x. Honest w.roster x (places_in s) run.states) (sym a.last) run.honest));
         last = last_joined (opening_of w.member) a.states run.states
             ∙ (ap (λ x. last_state x run.states) a.last ∙ run.last);
       })
@@ -242,57 +319,70 @@ fault_behind ms o s ps qs ts fault number honest last v =
       there = f.there;
     })
 
+start_fits : (v : LogVersion) → Fits number_item (start_number v 1)
+start_fits One = (omega arith, refl)
+start_fits Two = (omega arith, refl)
+
 -- A segment in which a replay finds a fault after the end, with all that was audited, is a charge.
 pub replay_charge : (w : Watched) (past : Past) (j : JobParts) (fault : ReplayFault)
     (number : ℕ)
     → IsInRoster w → is_exposed w past ≡ false → IsAudited w past
     → IsNext w past j.segment → IsGoodSegment w j.segment.segment
     → verdict_on w.roster (end_of w past).state j ≡ Fault fault number
-    → IsGoodCharge w (Replay (of_plain (audited_with w past j.segment.segment)))
-replay_charge w past j fault number is e a next good v =
+    → IsGoodCharge w (Replay (audited_with w past j.segment.segment))
+replay_charge w past j fault number is e a next good verdict =
     let s = j.segment.segment in
+    let v = w.member.log_version in
     let all = audited_with w past s in
-    let k = is_joined w past j.segment e a next good in
-    let values = length-map (audited w past ++ s.entries) entry_value in
-    let node : w.member.node < 2 ^ 32 = omega (arith, good.text.0.0, good.closed.ends.node, good.node) in
-    let version : IsTrue (keeps_version w.roster w.member.node One) =
-    subst (λ n. IsTrue (keeps_version w.roster n One)) (sym good.closed.ends.node ∙ good.node)
-    good.closed.version in
-    let finds : FindsFault w.roster w.member.node all = record {
+    let k = is_joined w past j.segment is e a next good in
+    let values = length-values v 0 all.entries in
+    let few = few_spans all.entries in
+    let node : w.member.node < 2 ^ 32 = omega (arith, good.fits.text.0, good.closed.ends.node, good.node) in
+    let accepts : AcceptsReplay w.roster w.member.node all = record {
       of_node = refl;
       first = refl;
       opening = refl;
       closed = record {
-        version = version;
-        ends = record { node = good.node; number = omega (arith, k.count); hash = sym k.hash };
+        version = its_version w is;
+        ends = record {
+          first = omega arith;
+          skips = k.skips;
+          node = good.node;
+          last = k.closes;
+          hash = sym k.hash;
+        };
         signed = good.closed.signed;
       };
       member = w.member;
       is_member = is;
       fault = fault;
       number = number;
-      found = ap (verdict_of w.roster (opening_of w.member)) k.places
+      found = ap (verdict_of w.roster (opening_of w.member)) (places_logged 0 zeros all.entries ∙ k.places)
           ∙ fault_behind w.roster (opening_of w.member) (end_of w past).state
-          (placed 1 zeros (audited w past))
-          (placed_in s)
-          a.states fault number a.honest a.last v;
+          (logged_places 0 zeros (audited w past))
+          (places_in s)
+          a.states fault number a.honest a.last verdict;
     } in
-    let fits : FitsWithin MAX_AUDITED all = (
+    let fits : Fits (replay_item v) (versioned_value v all) = (
       node,
       (
-        (omega arith, refl),
+        start_fits v,
         (
           zeros-length,
           (
-            (omega (arith, values, k.count, next.last), omega (arith, values, k.count, next.last), k.each),
-            good.text.0.1.1.1.1,
+            (
+              omega (arith, values, few, k.count, next.last),
+              omega (arith, values, few, k.count, next.last),
+              k.each,
+            ),
+            good.fits.text.1.1.1.1,
           ),
         ),
       ),
     ) in
     record {
       small = node;
-      version = version;
-      accepted = (accepted_plain w.roster w.member.node all).0 finds;
-      text = (omega arith, refl, subst (Fits (replay_item One)) (sym (text_plain all)) fits);
+      version = its_version w is;
+      accepted = accepts;
+      text = replay_fits v all fits;
     }

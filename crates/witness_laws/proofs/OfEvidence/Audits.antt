@@ -2,14 +2,21 @@
 -- hold all numbers up to the end.
 -- Serves: evidence_where_exposed, evidence_proves.
 use Rattle.std.proofs.Common.{◌≡◌, ◌⊎◌, inl, inr, ℕ, ◌+◌, ◌≤◌, Bool, true, false, nat_lt, [], ◌∷◌, ◌++◌}
-use Rattle.std.proofs.Common.{Option, Some, None, refl, sym, ap, subst, ◌∙◌, arith}
+use Rattle.std.proofs.Common.{Option, Some, None, refl, sym, ap, subst, ◌∙◌, arith, eqb-true}
+use Rattle.std.specs.Prelude.{◌-◌, IsTrue}
 use Rattle.std.proofs.lemmas.Bool.{ltb-true, ltb-false}
+use Rattle.authenticator.specs.Roster.{member_of, log_number, is_of_version}
 use Rattle.secure_log.specs.LogEntries.Chain.{IsAmong}
-use Rattle.secure_log.specs.Segment.{SegmentParts, ClosedParts, HasText, IsClosed}
+use Rattle.secure_log.specs.LogEntries.Chain.{AreNumbered, last_number}
+use Rattle.secure_log.specs.declared.segment.TheConstants.{MAX_ENTRIES}
+use Rattle.secure_log.specs.Versioned.{VersionedParts, ClosedVersionedParts, FitsVersion, IsClosedIn}
+use Rattle.secure_log.specs.Versioned.{is_whole_in, versioned_links, versioned_value}
+use Rattle.secure_log.proofs.Gaps.{closing_number, logged_after, rise}
+use Rattle.witness_spec.specs.Pairs.{last_of}
 use Rattle.witness_spec.specs.replay_spec.Replay.{Verdict, Sound, Fault}
 use Rattle.witness_spec.specs.Events.{JobParts}
 use Rattle.witness_spec.specs.Replies.{Reply}
-use Rattle.witness_spec.specs.Watched.{Watched}
+use Rattle.witness_spec.specs.Watched.{Watched, IsInRoster}
 use Rattle.witness_spec.specs.Steps.{Step, Past}
 use Rattle.witness_spec.specs.evidence_spec.Evidence.{MAX_AUDITED}
 use Rattle.witness_spec.specs.Done.{accepted, filed}
@@ -17,45 +24,79 @@ use Rattle.witness_spec.specs.Standing.{End, end_of, end_after, moved_by, verdic
 use Rattle.witness_spec.specs.Standing.{Given}
 use Rattle.witness_spec.specs.Standing.{Out, stage_after, stage_of, segment_of, all_accepted}
 use Rattle.witness_spec.specs.Histories.{AreOwed}
-use Rattle.witness_laws.proofs.Checked.{IsGiven, IsCheckedStep, AreChecked}
+use Rattle.witness_laws.proofs.Checked.{version_same, IsGiven, IsCheckedStep, AreChecked}
 use Rattle.witness_laws.proofs.Doing.{Did, Doing, Nothing, Notes, Accepts, Asks, Begins, Files, PutsBack}
 use Rattle.witness_laws.proofs.Doing.{doing}
 
 -- ---- what holds
 
 -- a segment of the node's log, with a text, closed by it
-pub record IsGoodSegment (w : Watched) (s : SegmentParts) : Type 0 where
+pub record IsGoodSegment (w : Watched) (s : VersionedParts) : Type 0 where
   -- it has a text
-  pub text : HasText s
+  pub fits : FitsVersion MAX_ENTRIES s
+  -- with that it is whole
+  pub whole : IsTrue (is_whole_in s.log_version (versioned_value s.log_version s))
   -- it is closed
-  pub closed : IsClosed w.roster s
+  pub closed : IsClosedIn w.roster s
   -- its closing authenticator is of the node
   pub node : s.closing.node ≡ w.member.node
 
 -- a segment that a checked answer gives is one of the node's, closed, with a text
-pub good_given : (w : Watched) (c : ClosedParts) → IsGiven w c
+pub good_given : (w : Watched) (c : ClosedVersionedParts) → IsGiven w c
     → IsGoodSegment w c.segment
-good_given w c given = record { text = given.text; closed = given.closed; node = given.node }
+good_given w c given =
+    record { fits = given.fits; whole = given.whole; closed = given.closed; node = given.node }
+
+-- where a segment is good, it is of a log of its member's version
+pub its_log_version : (w : Watched) (s : VersionedParts) → IsInRoster w → IsGoodSegment w s
+    → s.log_version ≡ w.member.log_version
+its_log_version w s is good =
+    let node : s.node ≡ w.member.node = sym good.closed.ends.node ∙ good.node in
+    let told : is_of_version s.log_version (Some w.member) ≡ true =
+    sym (ap (is_of_version s.log_version) (ap (member_of w.roster) node ∙ is)) ∙ good.closed.version in
+    sym (version_same w.member.log_version s.log_version
+    (eqb-true (log_number w.member.log_version) (log_number s.log_version) told))
+
+-- its links are numbered after the number before its first
+pub are_numbered : (s : VersionedParts) → AreNumbered (s.first - 1) (versioned_links s)
+are_numbered s = logged_after (s.first - 1) s.entries
+
+-- its last number is that of the last of them
+pub last_is : (w : Watched) (s : VersionedParts) → IsGoodSegment w s
+    → last_of s ≡ last_number (s.first - 1) (versioned_links s)
+last_is w s good =
+    closing_number s.log_version (s.first - 1) (versioned_links s) s.closing.word good.closed.ends.skips
+    good.closed.ends.last
+
+-- it is one before its first at least
+pub last_low : (w : Watched) (s : VersionedParts) → IsGoodSegment w s → s.first ≤ last_of s + 1
+last_low w s good =
+    omega (
+      arith,
+      last_is w s good,
+      rise (s.first - 1) (versioned_links s) (are_numbered s),
+      good.closed.ends.first,
+    )
 
 -- a number lies in an accepted segment
 pub record IsHeld (past : Past) (number : ℕ) : Type 0 where
   -- the segment
-  pub segment : SegmentParts
+  pub segment : VersionedParts
   -- it was accepted
   pub among : IsAmong segment (all_accepted past)
   -- the number is not before its first
   pub from : segment.first ≤ number
   -- nor past its last
-  pub to : number ≤ segment.closing.word
+  pub to : number ≤ last_of segment
 
 -- a segment that was accepted lies after the end
-pub record IsNext (w : Watched) (past : Past) (c : ClosedParts) : Type 0 where
+pub record IsNext (w : Watched) (past : Past) (c : ClosedVersionedParts) : Type 0 where
   -- it was accepted
   pub among : IsAmong c.segment (all_accepted past)
   -- its first number is the one after the end
   pub first : c.segment.first ≡ (end_of w past).number + 1
   -- its last number is one that may be audited
-  pub last : c.segment.closing.word ≤ MAX_AUDITED
+  pub last : last_of c.segment ≤ MAX_AUDITED
 
 -- an audit is of the part that follows the end
 abbrev pub IsAt : Watched → Past → Stage → Type 0
@@ -65,7 +106,7 @@ IsAt w past (Given c) = IsNext w past c
 IsAt w past (Out c) = IsNext w past c
 
 -- an accepted segment is good, and begins at the place after the end at most
-pub record IsAfter (w : Watched) (past : Past) (s : SegmentParts) : Type 0 where
+pub record IsAfter (w : Watched) (past : Past) (s : VersionedParts) : Type 0 where
   -- it is good
   pub good : IsGoodSegment w s
   -- it begins at the place after the end at most
@@ -76,7 +117,7 @@ pub record Stand (w : Watched) (past : Past) : Type 0 where
   -- the audit is where its stage says
   pub stage : IsAt w past (stage_of past)
   -- each accepted segment is good, and leaves no gap
-  pub segments : (s : SegmentParts) → IsAmong s (all_accepted past) → IsAfter w past s
+  pub segments : (s : VersionedParts) → IsAmong s (all_accepted past) → IsAfter w past s
   -- each number up to the end lies in one
   pub held : (n : ℕ) → 1 ≤ n → n ≤ (end_of w past).number → IsHeld past n
 
@@ -88,11 +129,11 @@ module _ (w : Watched) (past : Past) (p : Step × Reply) where
   end_stays h = ap (end_after w.roster (end_of w past)) h
 
   -- what was accepted stays so
-  pub accepted_stays : (s : SegmentParts) → IsAmong s (all_accepted past)
+  pub accepted_stays : (s : VersionedParts) → IsAmong s (all_accepted past)
       → IsAmong s (all_accepted (p ∷ past))
   accepted_stays s i = by (accepted p.0 p.1)
     where
-      by : (o : Option ClosedParts) → IsAmong s (segment_of o ++ all_accepted past)
+      by : (o : Option ClosedVersionedParts) → IsAmong s (segment_of o ++ all_accepted past)
       by None = i
       by (Some c) = inr i
 
@@ -100,7 +141,7 @@ module _ (w : Watched) (past : Past) (p : Step × Reply) where
   held_stays n h =
       record { segment = h.segment; among = accepted_stays h.segment h.among; from = h.from; to = h.to }
 
-  next_stays : (c : ClosedParts) → filed p.0 p.1 ≡ None → IsNext w past c → IsNext w (p ∷ past) c
+  next_stays : (c : ClosedVersionedParts) → filed p.0 p.1 ≡ None → IsNext w past c → IsNext w (p ∷ past) c
   next_stays c h k = record {
     among = accepted_stays c.segment k.among;
     first = k.first ∙ ap (λ (e : End). e.number + 1) (sym (end_stays h));
@@ -113,14 +154,14 @@ module _ (w : Watched) (past : Past) (p : Step × Reply) where
   at_stays (Given c) h k = next_stays c h k
   at_stays (Out c) h k = next_stays c h k
 
-  after_stays : (s : SegmentParts) → filed p.0 p.1 ≡ None → IsAfter w past s → IsAfter w (p ∷ past) s
+  after_stays : (s : VersionedParts) → filed p.0 p.1 ≡ None → IsAfter w past s → IsAfter w (p ∷ past) s
   after_stays s h k = record {
     good = k.good;
     first = subst (λ (e : End). s.first ≤ e.number + 1) (sym (end_stays h)) k.first;
   }
 
   -- nothing is accepted: the segments are those of before
-  same_accepted : (s : SegmentParts) → accepted p.0 p.1 ≡ None → IsAmong s (all_accepted (p ∷ past))
+  same_accepted : (s : VersionedParts) → accepted p.0 p.1 ≡ None → IsAmong s (all_accepted (p ∷ past))
       → IsAmong s (all_accepted past)
   same_accepted s h i = subst (λ o. IsAmong s (segment_of o ++ all_accepted past)) h i
 
@@ -139,11 +180,11 @@ module _ (w : Watched) (past : Past) (p : Step × Reply) where
   }
 
   -- a segment is accepted
-  gives : (c : ClosedParts) → IsGoodSegment w c.segment
-      → stage_of past ≡ Wanted c.segment.first c.segment.closing.word
+  gives : (c : ClosedVersionedParts) → IsGoodSegment w c.segment
+      → stage_of past ≡ Wanted c.segment.first (last_of c.segment)
       → Did past p None (Some c) None (Given c) → Stand w past → Stand w (p ∷ past)
   gives c good wanted did k =
-      let at : IsAt w past (Wanted c.segment.first c.segment.closing.word) =
+      let at : IsAt w past (Wanted c.segment.first (last_of c.segment)) =
       subst (IsAt w past) wanted k.stage in
       let there : IsAmong c.segment (all_accepted (p ∷ past)) =
       subst (λ o. IsAmong c.segment (segment_of o ++ all_accepted past)) (sym did.accepts) (inl refl) in
@@ -159,7 +200,7 @@ module _ (w : Watched) (past : Past) (p : Step × Reply) where
         held = numbers_stay did.files k.held;
       }
     where
-      by : (s : SegmentParts) → (s ≡ c.segment) ⊎ IsAmong s (all_accepted past)
+      by : (s : VersionedParts) → (s ≡ c.segment) ⊎ IsAmong s (all_accepted past)
           → c.segment.first ≤ (end_of w (p ∷ past)).number + 1 → IsAfter w (p ∷ past) s
       by s (inl is) low =
           subst (IsAfter w (p ∷ past)) (sym is) (record { good = good; first = low })
@@ -169,10 +210,10 @@ module _ (w : Watched) (past : Past) (p : Step × Reply) where
 
   moved_to : (j : JobParts) (v : Verdict) → verdict_on w.roster (end_of w past).state j ≡ v
       → filed p.0 p.1 ≡ Some j
-      → end_of w (p ∷ past) ≡ moved_by (end_of w past) j.segment.segment.closing.word v
+      → end_of w (p ∷ past) ≡ moved_by (end_of w past) (last_of j.segment.segment) v
   moved_to j v is h =
       ap (end_after w.roster (end_of w past)) h
-      ∙ ap (moved_by (end_of w past) j.segment.segment.closing.word) is
+      ∙ ap (moved_by (end_of w past) (last_of j.segment.segment)) is
 
   moves : (j : JobParts) → IsNext w past j.segment → Did past p None None (Some j) NoAudit
       → Stand w past → (v : Verdict) → verdict_on w.roster (end_of w past).state j ≡ v → Stand w (p ∷ past)
@@ -188,10 +229,9 @@ module _ (w : Watched) (past : Past) (p : Step × Reply) where
   moves j next did k (Sound t found) is =
       let c = j.segment.segment in
       let good : IsGoodSegment w c = (k.segments c next.among).good in
-      let same : (end_of w (p ∷ past)).number ≡ c.closing.word =
+      let same : (end_of w (p ∷ past)).number ≡ last_of c =
       ap (λ (e : End). e.number) (moved_to j (Sound t found) is did.files) in
-      let more : (end_of w past).number ≤ c.closing.word =
-      omega (arith, next.first, good.closed.ends.number) in
+      let more : (end_of w past).number ≤ last_of c = omega (arith, next.first, last_low w c good) in
       record {
         stage = subst (IsAt w (p ∷ past)) (sym did.stage) tt;
         segments = λ s i.
@@ -203,7 +243,7 @@ module _ (w : Watched) (past : Past) (p : Step × Reply) where
       }
     where
       by : (n : ℕ) (b : Bool) → nat_lt (end_of w past).number n ≡ b → 1 ≤ n
-          → n ≤ j.segment.segment.closing.word
+          → n ≤ last_of j.segment.segment
           → j.segment.segment.first ≡ (end_of w past).number + 1 → IsHeld (p ∷ past) n
       by n true e low high first = record {
         segment = j.segment.segment;

@@ -1,29 +1,26 @@
 -- While a node isn't exposed, each pair that it showed, but that at 0, is one of a learned authenticator that
 -- is kept, or of an accepted segment.
 -- Serves: evidence_where_exposed, evidence_proves.
-use Rattle.std.proofs.Common.{◌≡◌, ◌⊎◌, inl, inr, ℕ, ◌+◌, ◌-◌, ◌<◌, ◌≤◌, Bool, true, false, cond, ◌==◌}
-use Rattle.std.proofs.Common.{nat_lt, nat_le, List, [], ◌∷◌, ◌++◌, filter, length, Option, Some, None, refl}
+use Rattle.std.proofs.Common.{◌≡◌, ◌⊎◌, inl, inr, ℕ, ◌+◌, ◌-◌, ◌≤◌, Bool, true, false, cond, ◌==◌}
+use Rattle.std.proofs.Common.{nat_lt, nat_le, List, [], ◌∷◌, ◌++◌, filter, Option, Some, None, refl}
 use Rattle.std.proofs.Common.{sym, ap}
-use Rattle.std.proofs.Common.{subst, ◌∙◌, arith, eqb-true, eq-eqb, length-append, map}
+use Rattle.std.proofs.Common.{subst, ◌∙◌, arith, eqb-true, eq-eqb}
 use Rattle.std.specs.Prelude.{find, ◌&&◌}
 use Rattle.std.proofs.lemmas.Bool.{and_parts, and_from, true≢false, ltb-true, ltb-false, leb-true, le-leb}
 use Rattle.std.proofs.lemmas.Option.{same_Some}
 use Rattle.authenticator.specs.declared.authenticator.Authenticator.{Authenticator}
-use Rattle.authenticator.specs.declared.member.LogVersion.TheVariants.{One}
-use Rattle.secure_log.specs.LogEntries.Entry.{entry_value}
-use Rattle.secure_log.specs.LogEntries.Chain.{Link, pairs, hash_after, links_from, IsAmong}
-use Rattle.secure_log.specs.Segment.{SegmentParts, ClosedParts, segment_pairs}
+use Rattle.secure_log.specs.LogEntries.Chain.{IsAmong}
+use Rattle.secure_log.specs.Versioned.{VersionedParts, ClosedVersionedParts, segment_marks, versioned_links}
 use Rattle.authenticator.specs.Signing.{is_same}
 use Rattle.authenticator.proofs.Signed.{same_list, list_same, is_false}
 use Rattle.witness_spec.specs.evidence_spec.Showing.{ShowingParts}
-use Rattle.witness_spec.specs.evidence_spec.Showing.{authenticator_showing, segment_showing}
+use Rattle.witness_spec.specs.evidence_spec.Showing.{authenticator_showing, versioned_showing}
 use Rattle.witness_spec.specs.evidence_spec.Laws.{ShowsMarks}
-use Rattle.witness_spec.proofs.evidence_spec.Closed.{one_pair, own_pairs}
-use Rattle.witness_spec.proofs.evidence_spec.Places.{AreNumbered, entries_numbered, length-links, behind}
+use Rattle.witness_spec.proofs.evidence_spec.Closed.{one_pair, own_marks}
 use Rattle.witness_spec.specs.Replies.{Reply}
-use Rattle.witness_spec.specs.Watched.{Watched}
+use Rattle.witness_spec.specs.Watched.{Watched, IsInRoster}
 use Rattle.witness_spec.specs.Steps.{Step, Learn, Past}
-use Rattle.witness_spec.specs.Pairs.{Pair, pair_of, first_pair}
+use Rattle.witness_spec.specs.Pairs.{Pair, number_of, pair_of, first_pair, last_of}
 use Rattle.witness_spec.specs.Done.{noted, accepted}
 use Rattle.witness_spec.specs.Standing.{end_of, pairs_noted, pairs_accepted, shown, is_exposed}
 use Rattle.witness_spec.specs.Standing.{unless_exposed}
@@ -34,7 +31,9 @@ use Rattle.witness_spec.specs.Laws.{HasTwoHashes}
 use Rattle.witness_laws.proofs.Exposing.{exposed_is, why_exposed, exposed_further}
 use Rattle.witness_laws.proofs.Doing.{Doing, Nothing, Notes, Accepts, Asks, Begins, Files, PutsBack, doing}
 use Rattle.witness_laws.proofs.Checked.{IsLearned, IsCheckedStep, AreChecked}
-use Rattle.witness_laws.proofs.OfEvidence.Audits.{IsGoodSegment, IsHeld, Stand}
+use Rattle.witness_laws.proofs.OfEvidence.Audits.{IsGoodSegment, its_log_version, are_numbered, last_is}
+use Rattle.witness_laws.proofs.OfEvidence.Audits.{IsHeld, Stand}
+use Rattle.witness_laws.proofs.OfEvidence.Marks.{has_mark, mark_within}
 
 -- ---- lists
 
@@ -100,37 +99,11 @@ passing test (x ∷ xs) y (inr i) h = by (test x) (passing test xs y i h)
     by true rest = inr rest
     by false rest = rest
 
--- ---- a place of a chain has a pair
-
--- a pair at a number is among these
-pub record HasHash (ps : List Pair) (number : ℕ) : Type 0 where
-  -- its hash
-  pub hash : List ℕ
-  -- it is there
-  pub there : IsAmong (number, hash) ps
-
-pub has_hash : (before : ℕ) (opening : List ℕ) (links : List Link) (n : ℕ) → AreNumbered (before + 1) links
-    → before ≤ n → n ≤ before + length links → HasHash (pairs before opening links) n
-has_hash before opening [] n are low high =
-    let same : n ≡ before = omega (arith, low, high) in
-    record { hash = opening; there = inl (ap (λ (k : ℕ). (k, opening)) same) }
-has_hash before opening (l ∷ links) n are low high =
-    by (nat_lt before n) refl
-    (λ more less. has_hash l.number (hash_after opening l) links n
-    (subst (λ k. AreNumbered (k + 1) links) (sym are.0) are.1) more less)
-  where
-    by : (b : Bool) → nat_lt before n ≡ b
-        → (l.number ≤ n → n ≤ l.number + length links
-        → HasHash (pairs l.number (hash_after opening l) links) n)
-        → HasHash (pairs before opening (l ∷ links)) n
-    by false e next =
-        let same : n ≡ before = omega (arith, low, ltb-false before n e) in
-        record { hash = opening; there = inl (ap (λ (k : ℕ). (k, opening)) same) }
-    by true e next =
-        let rest = next (omega (arith, are.0, ltb-true before n e)) (omega (arith, are.0, high)) in
-        record { hash = rest.hash; there = inr rest.there }
-
 module _ (w : Watched) where
+  -- the pair of an authenticator in the node's log
+  abbrev own_pair : Authenticator → Pair
+  own_pair a = pair_of w.member.log_version a
+
   -- ---- what is shown
 
   -- one hash is shown at each number
@@ -157,21 +130,21 @@ module _ (w : Watched) where
       is_false (is_exposed w past) (λ h. true≢false (sym (exposed_further w (p ∷ []) past h) ∙ e))
 
   -- a good segment that was accepted showed its pairs
-  pub accepted_shown : (past : Past) (s : SegmentParts) (q : Pair) → IsAmong s (all_accepted past)
-      → IsAmong q (segment_pairs s) → IsAmong q (shown w past)
+  pub accepted_shown : (past : Past) (s : VersionedParts) (q : Pair) → IsAmong s (all_accepted past)
+      → IsAmong q (segment_marks s) → IsAmong q (shown w past)
   accepted_shown [] s q i j = absurd i
   accepted_shown (p ∷ past) s q i j =
-      on_right q (pairs_noted (is_exposed w past) (noted p.0 p.1))
+      on_right q (pairs_noted w.member.log_version (is_exposed w past) (noted p.0 p.1))
       (pairs_accepted (accepted p.0 p.1) ++ shown w past)
       (by (accepted p.0 p.1) i (λ k. accepted_shown past s q k j))
     where
-      by : (o : Option ClosedParts) → IsAmong s (segment_of o ++ all_accepted past)
+      by : (o : Option ClosedVersionedParts) → IsAmong s (segment_of o ++ all_accepted past)
           → (IsAmong s (all_accepted past) → IsAmong q (shown w past))
           → IsAmong q (pairs_accepted o ++ shown w past)
       by None i rest = rest i
       by (Some c) (inl e) rest =
-          on_left q (segment_pairs c.segment) (shown w past) (subst (λ t. IsAmong q (segment_pairs t)) e j)
-      by (Some c) (inr i) rest = on_right q (segment_pairs c.segment) (shown w past) (rest i)
+          on_left q (segment_marks c.segment) (shown w past) (subst (λ t. IsAmong q (segment_marks t)) e j)
+      by (Some c) (inr i) rest = on_right q (segment_marks c.segment) (shown w past) (rest i)
 
   -- what was noted is that of a Learn
   noted_step : (past : Past) (p : Step × Reply) (a : Authenticator) → Doing w past p
@@ -202,41 +175,43 @@ module _ (w : Watched) where
           subst (IsLearned w) (sym e) (subst (IsCheckedStep w) is checked.0)
 
   noted_shown : (past : Past) (a : Authenticator) → is_exposed w past ≡ false
-      → IsAmong a (noted_before w past) → IsAmong (pair_of a) (shown w past)
+      → IsAmong a (noted_before w past) → IsAmong (own_pair a) (shown w past)
   noted_shown [] a e i = absurd i
   noted_shown (p ∷ past) a e i =
       by (noted p.0 p.1) refl
       (subst (λ b. IsAmong a (unless_exposed b (noted p.0 p.1) ++ noted_before w past)) e i)
       (λ k. noted_shown past a (was_not p past e) k)
     where
-      earlier : IsAmong (pair_of a) (shown w past) → IsAmong (pair_of a) (shown w (p ∷ past))
+      earlier : IsAmong (own_pair a) (shown w past) → IsAmong (own_pair a) (shown w (p ∷ past))
       earlier i =
-          on_right (pair_of a) (pairs_noted (is_exposed w past) (noted p.0 p.1))
+          on_right (own_pair a) (pairs_noted w.member.log_version (is_exposed w past) (noted p.0 p.1))
           (pairs_accepted (accepted p.0 p.1) ++ shown w past)
-          (on_right (pair_of a) (pairs_accepted (accepted p.0 p.1)) (shown w past) i)
+          (on_right (own_pair a) (pairs_accepted (accepted p.0 p.1)) (shown w past) i)
 
       by : (o : Option Authenticator) → noted p.0 p.1 ≡ o
           → IsAmong a (unless_exposed false o ++ noted_before w past)
-          → (IsAmong a (noted_before w past) → IsAmong (pair_of a) (shown w past))
-          → IsAmong (pair_of a) (shown w (p ∷ past))
+          → (IsAmong a (noted_before w past) → IsAmong (own_pair a) (shown w past))
+          → IsAmong (own_pair a) (shown w (p ∷ past))
       by None h i rest = earlier (rest i)
       by (Some c) h (inr i) rest = earlier (rest i)
       by (Some c) h (inl same) rest =
-          subst (λ b. IsAmong (pair_of a)
-          (pairs_noted b (noted p.0 p.1) ++ (pairs_accepted (accepted p.0 p.1) ++ shown w past)))
+          subst (λ b. IsAmong (own_pair a)
+          (pairs_noted w.member.log_version b (noted p.0 p.1)
+          ++ (pairs_accepted (accepted p.0 p.1) ++ shown w past)))
           (sym (was_not p past e))
-          (subst (λ o. IsAmong (pair_of a)
-          (pairs_noted false o ++ (pairs_accepted (accepted p.0 p.1) ++ shown w past))) (sym h)
-          (inl (ap pair_of same)))
+          (subst (λ o. IsAmong (own_pair a)
+          (pairs_noted w.member.log_version false o
+          ++ (pairs_accepted (accepted p.0 p.1) ++ shown w past))) (sym h)
+          (inl (ap own_pair same)))
 
   -- ---- where it is shown
 
   -- a pair that was shown is the first pair, of an authenticator that was noted, or of an accepted segment
   pub data Source (past : Past) (n : ℕ) (x : List ℕ) : Type 0 where
     AtFirst : ◌≡◌ {A = Pair} (n, x) first_pair → Source past n x
-    OfNoted : (a : Authenticator) → IsAmong a (noted_before w past) → ◌≡◌ {A = Pair} (n, x) (pair_of a)
-        → Source past n x
-    OfAccepted : (s : SegmentParts) → IsAmong s (all_accepted past) → IsAmong (n, x) (segment_pairs s)
+    OfNoted : (a : Authenticator) → IsAmong a (noted_before w past)
+        → ◌≡◌ {A = Pair} (n, x) (own_pair a) → Source past n x
+    OfAccepted : (s : VersionedParts) → IsAmong s (all_accepted past) → IsAmong (n, x) (segment_marks s)
         → Source past n x
 
   sourced : (past : Past) (n : ℕ) (x : List ℕ) → is_exposed w past ≡ false
@@ -245,7 +220,7 @@ module _ (w : Watched) where
   sourced [] n x e (inl same) = AtFirst same
   sourced [] n x e (inr i) = absurd i
   sourced (p ∷ past) n x e i =
-      let new = pairs_noted (is_exposed w past) (noted p.0 p.1) in
+      let new = pairs_noted w.member.log_version (is_exposed w past) (noted p.0 p.1) in
       let given = pairs_accepted (accepted p.0 p.1) in
       by (split (n, x) new (given ++ shown w past) i)
       (λ k. older (sourced past n x (was_not p past e) k))
@@ -259,8 +234,8 @@ module _ (w : Watched) where
       older (OfAccepted s i j) =
           OfAccepted s (on_right s (segment_of (accepted p.0 p.1)) (all_accepted past) i) j
 
-      by_noted : (b : Bool) (o : Option Authenticator) → noted p.0 p.1 ≡ o → IsAmong (n, x) (pairs_noted b o)
-          → Source (p ∷ past) n x
+      by_noted : (b : Bool) (o : Option Authenticator) → noted p.0 p.1 ≡ o
+          → IsAmong (n, x) (pairs_noted w.member.log_version b o) → Source (p ∷ past) n x
       by_noted b None h i = absurd i
       by_noted true (Some a) h i = absurd i
       by_noted false (Some a) h (inr i) = absurd i
@@ -270,14 +245,15 @@ module _ (w : Watched) where
           (subst (λ o. IsAmong a (unless_exposed false o ++ noted_before w past)) (sym h) (inl refl)))
           same
 
-      by_accepted : (o : Option ClosedParts) → accepted p.0 p.1 ≡ o → IsAmong (n, x) (pairs_accepted o)
+      by_accepted : (o : Option ClosedVersionedParts) → accepted p.0 p.1 ≡ o
+          → IsAmong (n, x) (pairs_accepted o)
           → Source (p ∷ past) n x
       by_accepted None h i = absurd i
       by_accepted (Some c) h i =
           OfAccepted c.segment (subst (λ o. IsAmong c.segment (segment_of o ++ all_accepted past)) (sym h)
           (inl refl)) i
 
-      by : IsAmong (n, x) (pairs_noted (is_exposed w past) (noted p.0 p.1))
+      by : IsAmong (n, x) (pairs_noted w.member.log_version (is_exposed w past) (noted p.0 p.1))
           ⊎ IsAmong (n, x) (pairs_accepted (accepted p.0 p.1) ++ shown w past)
           → (IsAmong (n, x) (shown w past) → Source (p ∷ past) n x) → Source (p ∷ past) n x
       by (inl i) rest = by_noted (is_exposed w past) (noted p.0 p.1) refl i
@@ -289,30 +265,26 @@ module _ (w : Watched) where
 
 -- ---- what shows it
 
--- a showing of the node, closed, with a text, of these pairs
+-- a showing of the node, in a log of the version of its log, closed, with a text, of these pairs
 pub record IsGoodShowing (w : Watched) (s : ShowingParts) (ps : List Pair) : Type 0 where
   -- it is of the node
   pub node : s.node ≡ w.member.node
   -- it is closed, has a text, and shows these pairs
-  pub shows : ShowsMarks One w.roster s ps
+  pub shows : ShowsMarks w.member.log_version w.roster s ps
 
 -- a learned authenticator of the node, alone, shows its own pair
 pub good_authenticator : (w : Watched) (a : Authenticator) → IsLearned w a
-    → IsGoodShowing w (authenticator_showing One a) (pair_of a ∷ [])
-good_authenticator w a good = record { node = good.node; shows = one_pair One w.roster a good.text good.signed }
+    → IsGoodShowing w (authenticator_showing w.member.log_version a) (pair_of w.member.log_version a ∷ [])
+good_authenticator w a good =
+    record { node = good.node; shows = one_pair w.member.log_version w.roster a good.text good.signed }
 
--- its first number is at least 1
-pub first_some : (w : Watched) (s : SegmentParts) → IsGoodSegment w s → 0 < s.first
-first_some w s good =
-    let both = and_parts (nat_lt 0 s.first) (nat_lt 0 (length (map entry_value s.entries))) good.text.1 in
-    ltb-true 0 s.first both.0
-
--- a good segment of the node, without its entries, shows all its pairs
-pub good_segment : (w : Watched) (s : SegmentParts) → IsGoodSegment w s
-    → IsGoodShowing w (segment_showing s) (segment_pairs s)
-good_segment w s good = record {
+-- a good segment of the node, without its entries, shows all its marks
+pub good_segment : (w : Watched) (s : VersionedParts) → IsInRoster w → IsGoodSegment w s
+    → IsGoodShowing w (versioned_showing s) (segment_marks s)
+good_segment w s is good = record {
   node = sym good.closed.ends.node ∙ good.node;
-  shows = own_pairs w.roster s good.text.0 (first_some w s good) good.closed;
+  shows = subst (λ v. ShowsMarks v w.roster (versioned_showing s) (segment_marks s))
+      (its_log_version w s is good) (own_marks w.roster s good.fits good.closed);
 }
 
 -- what is kept shows a hash at a number
@@ -320,7 +292,7 @@ pub record IsShownBefore (w : Watched) (past : Past) (n : ℕ) (x : List ℕ) : 
   -- the showing
   pub showing : ShowingParts
   -- it is the one that is looked up for the number
-  pub is : showing_before (kept w past) (all_accepted past) n ≡ Some showing
+  pub is : showing_before w.member.log_version (kept w past) (all_accepted past) n ≡ Some showing
   -- the pairs that it shows
   pub ps : List Pair
   -- it is closed and has a text
@@ -329,11 +301,15 @@ pub record IsShownBefore (w : Watched) (past : Past) (n : ℕ) (x : List ℕ) : 
   pub there : IsAmong (n, x) ps
 
 module _ (w : Watched) (past : Past) (n : ℕ) (x : List ℕ) where
-  abbrev at_number : Authenticator → Bool
-  at_number a = a.word == n
+  -- the number of an authenticator in the node's log
+  abbrev own_number : Authenticator → ℕ
+  own_number a = number_of w.member.log_version a
 
-  abbrev holds : SegmentParts → Bool
-  holds s = nat_le s.first n && nat_le n s.closing.word
+  abbrev at_number : Authenticator → Bool
+  at_number a = own_number a == n
+
+  abbrev holds : VersionedParts → Bool
+  holds s = nat_le s.first n && nat_le n (last_of s)
 
   -- a kept one has this hash
   by_kept : (a : Authenticator) → AreOwed w past → AreChecked w past → is_exposed w past ≡ false
@@ -341,45 +317,41 @@ module _ (w : Watched) (past : Past) (n : ℕ) (x : List ℕ) where
       → IsShownBefore w past n x
   by_kept a owed checked e i is =
       let f = found at_number (kept w past) a is in
-      let before = filtered (λ (b : Authenticator). nat_lt (end_of w past).number b.word)
+      let before = filtered (λ (b : Authenticator). nat_lt (end_of w past).number (own_number b))
       (noted_before w past) a f.0 in
-      let number : a.word ≡ n = eqb-true a.word n f.1 in
+      let number : own_number a ≡ n = eqb-true (own_number a) n f.1 in
       let there : IsAmong (n, a.hash) (shown w past) =
       subst (λ k. IsAmong (k, a.hash) (shown w past)) number (noted_shown w past a e before) in
       let hash : x ≡ a.hash = one_shown w past e n x a.hash i there in
       record {
-        showing = authenticator_showing One a;
-        is = ap (λ o. or_segment o (segment_holding n (all_accepted past))) is;
-        ps = pair_of a ∷ [];
+        showing = authenticator_showing w.member.log_version a;
+        is = ap (λ o. or_segment w.member.log_version o (segment_holding n (all_accepted past))) is;
+        ps = pair_of w.member.log_version a ∷ [];
         good = good_authenticator w a (noted_good w past a owed checked before);
-        there = inl (ap (λ (k : ℕ). (k, x)) (sym number) ∙ ap (λ (y : List ℕ). (a.word, y)) hash);
+        there = inl (ap (λ (k : ℕ). (k, x)) (sym number) ∙ ap (λ (y : List ℕ). (own_number a, y)) hash);
       }
 
   -- a segment that holds the number shows this hash
-  by_segment : (s : SegmentParts) → Stand w past → is_exposed w past ≡ false
+  by_segment : (s : VersionedParts) → IsInRoster w → Stand w past → is_exposed w past ≡ false
       → IsAmong (n, x) (shown w past) → find at_number (kept w past) ≡ None
       → find holds (all_accepted past) ≡ Some s → IsShownBefore w past n x
-  by_segment s stand e i none is =
+  by_segment s member stand e i none is =
       let f = found holds (all_accepted past) s is in
       let good = (stand.segments s f.0).good in
-      let both = and_parts (nat_le s.first n) (nat_le n s.closing.word) f.1 in
+      let both = and_parts (nat_le s.first n) (nat_le n (last_of s)) f.1 in
       let low : s.first ≤ n = leb-true s.first n both.0 in
-      let high : n ≤ s.closing.word = leb-true n s.closing.word both.1 in
-      let some : 0 < s.first = first_some w s good in
-      let back : s.first ≡ s.first - 1 + 1 = omega (arith, some) in
-      let links = links_from s.first s.entries in
-      let has = has_hash (s.first - 1) s.opening links n
-      (subst (λ k. AreNumbered k links) back (entries_numbered s.first s.entries)) (omega (arith, low))
-      (omega (arith, high, some, good.closed.ends.number, length-links s.first s.entries)) in
-      let hash : has.hash ≡ x =
-      one_shown w past e n has.hash x (accepted_shown w past s (n, has.hash) f.0 has.there) i in
+      let high : n ≤ last_of s = leb-true n (last_of s) both.1 in
+      let has = has_mark (s.first - 1) s.opening (versioned_links s) n (are_numbered s) (omega (arith, low))
+      (omega (arith, high, last_is w s good)) in
+      let same : has.mark ≡ x =
+      one_shown w past e n has.mark x (accepted_shown w past s (n, has.mark) f.0 has.there) i in
       record {
-        showing = segment_showing s;
-        is = ap (λ o. or_segment o (segment_holding n (all_accepted past))) none
-            ∙ ap (λ o. or_segment None o) is;
-        ps = segment_pairs s;
-        good = good_segment w s good;
-        there = subst (λ y. IsAmong (n, y) (segment_pairs s)) hash has.there;
+        showing = versioned_showing s;
+        is = ap (λ o. or_segment w.member.log_version o (segment_holding n (all_accepted past))) none
+            ∙ ap (λ o. or_segment w.member.log_version None o) is;
+        ps = segment_marks s;
+        good = good_segment w s member good;
+        there = subst (λ y. IsAmong (n, y) (segment_marks s)) same has.there;
       }
 
   -- where none is kept at the number, a segment holds it
@@ -387,71 +359,54 @@ module _ (w : Watched) (past : Past) (n : ℕ) (x : List ℕ) where
       → IsHeld past n
   held stand some none (AtFirst same) =
       let zero_is : n ≡ 0 = ap (λ (q : Pair). q.0) same in absurd (omega (arith, some, zero_is))
-  held stand some none (OfNoted a i same) = by (nat_lt (end_of w past).number a.word) refl
+  held stand some none (OfNoted a i same) = by (nat_lt (end_of w past).number (own_number a)) refl
     where
-      number : n ≡ a.word
+      number : n ≡ own_number a
       number = ap (λ (q : Pair). q.0) same
 
-      by : (b : Bool) → nat_lt (end_of w past).number a.word ≡ b → IsHeld past n
+      by : (b : Bool) → nat_lt (end_of w past).number (own_number a) ≡ b → IsHeld past n
       by false e =
-          stand.held n some (omega (
-            arith,
-            ap (λ (q : Pair). q.0) same,
-            ltb-false (end_of w past).number a.word e,
-          ))
+          stand.held n some (omega (arith, number, ltb-false (end_of w past).number (own_number a) e))
       by true e =
-          absurd (true≢false (sym (eq-eqb a.word n (sym (ap (λ (q : Pair). q.0) same)))
+          absurd (true≢false (sym (eq-eqb (own_number a) n (sym number))
           ∙ not_found at_number (kept w past) a none
-          (passing (λ (b : Authenticator). nat_lt (end_of w past).number b.word)
+          (passing (λ (b : Authenticator). nat_lt (end_of w past).number (own_number b))
           (noted_before w past) a i e)))
   held stand some none (OfAccepted s i j) = by (nat_lt n s.first) refl
     where
       by : (b : Bool) → nat_lt n s.first ≡ b → IsHeld past n
       by b e =
           let k = stand.segments s i in
-          let first : 0 < s.first = first_some w s k.good in
-          let back : s.first ≡ s.first - 1 + 1 = omega (arith, first) in
-          let links = links_from s.first s.entries in
-          let h = behind (s.first - 1) s.opening links n x
-          (subst (λ k. AreNumbered k links) back (entries_numbered s.first s.entries)) j in
-          let high : n ≤ s.closing.word =
-          omega (
-            arith,
-            h.count,
-            ap length h.whole,
-            length-append h.front h.rest,
-            first,
-            k.good.closed.ends.number,
-            length-links s.first s.entries,
-          ) in
-          let low : s.first ≤ n + 1 = omega (arith, h.count, first) in
+          let h = mark_within (s.first - 1) s.opening (versioned_links s) n x (are_numbered s) j in
+          let high : n ≤ last_of s = omega (arith, h.1, last_is w s k.good) in
+          let low : s.first ≤ n + 1 = omega (arith, h.0) in
           at b e low high k.first
         where
-          at : (b : Bool) → nat_lt n s.first ≡ b → s.first ≤ n + 1 → n ≤ s.closing.word
+          at : (b : Bool) → nat_lt n s.first ≡ b → s.first ≤ n + 1 → n ≤ last_of s
               → s.first ≤ (end_of w past).number + 1 → IsHeld past n
           at true e low high first = stand.held n some (omega (arith, low, first, ltb-true n s.first e))
           at false e low high first =
               record { segment = s; among = i; from = omega (arith, ltb-false n s.first e); to = high }
 
-  by_held : (o : Option SegmentParts) → Stand w past → is_exposed w past ≡ false
+  by_held : (o : Option VersionedParts) → IsInRoster w → Stand w past → is_exposed w past ≡ false
       → IsAmong (n, x) (shown w past) → find at_number (kept w past) ≡ None
       → IsHeld past n → find holds (all_accepted past) ≡ o → IsShownBefore w past n x
-  by_held (Some s) stand e i none h is = by_segment s stand e i none is
-  by_held None stand e i none h is =
-      absurd (true≢false (sym (and_from (nat_le h.segment.first n) (nat_le n h.segment.closing.word)
-      (le-leb h.segment.first n h.from) (le-leb n h.segment.closing.word h.to))
+  by_held (Some s) member stand e i none h is = by_segment s member stand e i none is
+  by_held None member stand e i none h is =
+      absurd (true≢false (sym (and_from (nat_le h.segment.first n) (nat_le n (last_of h.segment))
+      (le-leb h.segment.first n h.from) (le-leb n (last_of h.segment) h.to))
       ∙ not_found holds (all_accepted past) h.segment is h.among))
 
-  by_number : (o : Option Authenticator) → AreOwed w past → AreChecked w past → Stand w past
-      → is_exposed w past ≡ false → 1 ≤ n → IsAmong (n, x) (shown w past)
+  by_number : (o : Option Authenticator) → IsInRoster w → AreOwed w past → AreChecked w past
+      → Stand w past → is_exposed w past ≡ false → 1 ≤ n → IsAmong (n, x) (shown w past)
       → find at_number (kept w past) ≡ o → IsShownBefore w past n x
-  by_number (Some a) owed checked stand e some i is = by_kept a owed checked e i is
-  by_number None owed checked stand e some i is =
-      by_held (find holds (all_accepted past)) stand e i is
+  by_number (Some a) member owed checked stand e some i is = by_kept a owed checked e i is
+  by_number None member owed checked stand e some i is =
+      by_held (find holds (all_accepted past)) member stand e i is
       (held stand some is (sourced w past n x e i)) refl
 
   -- Each pair that was shown, but that at 0, is shown by what is kept.
-  pub shown_before : AreOwed w past → AreChecked w past → Stand w past → is_exposed w past ≡ false
-      → 1 ≤ n → IsAmong (n, x) (shown w past) → IsShownBefore w past n x
-  shown_before owed checked stand e some i =
-      by_number (find at_number (kept w past)) owed checked stand e some i refl
+  pub shown_before : IsInRoster w → AreOwed w past → AreChecked w past → Stand w past
+      → is_exposed w past ≡ false → 1 ≤ n → IsAmong (n, x) (shown w past) → IsShownBefore w past n x
+  shown_before member owed checked stand e some i =
+      by_number (find at_number (kept w past)) member owed checked stand e some i refl

@@ -1,35 +1,38 @@
 -- A step that exposes a node brings a charge that is accepted, and has a text; another brings none.
 -- Serves: evidence_where_exposed, evidence_proves.
-use Rattle.std.proofs.Common.{◌≡◌, ◌≢◌, ◌⊎◌, inl, inr, ℕ, ◌+◌, ◌-◌, ◌^◌, ◌<◌, ◌≤◌, Bool, true, false, cond}
+use Rattle.std.proofs.Common.{◌≡◌, ◌≢◌, ◌⊎◌, inl, inr, ℕ, ◌-◌, ◌^◌, ◌<◌, ◌≤◌, Bool, true, false, cond}
 use Rattle.std.proofs.Common.{◌||◌, ◌==◌}
-use Rattle.std.proofs.Common.{List, [], ◌∷◌, ◌++◌, length, Option, Some, None, refl, sym, ap, ap₂, subst, ◌∙◌}
-use Rattle.std.proofs.Common.{arith, eqb-true, length-append, not, zero, suc}
-use Rattle.std.specs.Prelude.{option_map, option_and_then, IsTrue}
+use Rattle.std.proofs.Common.{List, [], ◌∷◌, ◌++◌, Option, Some, None, refl, sym, ap, ap₂, subst, ◌∙◌}
+use Rattle.std.proofs.Common.{arith, eqb-true, eq-eqb, not, zero, suc}
+use Rattle.std.specs.Prelude.{option_map, option_and_then, IsTrue, ◌%◌}
 use Rattle.std.proofs.lemmas.Bool.{and_parts, or_cases, or_right, true≢false, ltb-true, lt-ltb}
 use Rattle.std.proofs.lemmas.Option.{same_Some}
 use Rattle.xdr.specs.Item.{Fits, choice}
-use Rattle.authenticator.specs.Numbers.{number_item}
-use Rattle.authenticator.specs.Roster.{keeps_version}
+use Rattle.authenticator.specs.Numbers.{number_item, number_in}
+use Rattle.authenticator.specs.Roster.{keeps_version, is_of_version, log_number}
 use Rattle.authenticator.specs.declared.authenticator.Authenticator.{Authenticator}
-use Rattle.authenticator.specs.declared.member.LogVersion.TheVariants.{One}
-use Rattle.secure_log.specs.LogEntries.Chain.{zeros, links_from, IsAmong}
-use Rattle.secure_log.specs.Segment.{SegmentParts, ClosedParts, segment_pairs}
-use Rattle.secure_log.specs.Versioned.{of_plain}
+use Rattle.authenticator.specs.declared.member.LogVersion.{LogVersion}
+use Rattle.authenticator.specs.declared.member.LogVersion.TheVariants.{One, Two}
+use Rattle.secure_log.specs.LogEntries.Chain.{zeros, IsAmong}
+use Rattle.secure_log.specs.Versioned.{VersionedParts, ClosedVersionedParts, segment_marks, versioned_links}
+use Rattle.secure_log.specs.Versioned.{versioned_value}
+use Rattle.secure_log.proofs.OfLogEntries.Marks.{one_mark}
 use Rattle.authenticator.specs.Signing.{is_same}
 use Rattle.witness_spec.specs.replay_spec.Replay.{Verdict, Sound, Fault}
 use Rattle.witness_spec.specs.replay_spec.Stepping.{ReplayFault}
 use Rattle.authenticator.proofs.Signed.{is_false, list_same}
 use Rattle.witness_spec.specs.evidence_spec.Showing.{ShowingParts, authenticator_showing}
-use Rattle.witness_spec.specs.evidence_spec.Showing.{segment_showing}
+use Rattle.witness_spec.specs.evidence_spec.Showing.{versioned_showing}
 use Rattle.witness_spec.specs.evidence_spec.Evidence.{Charge, Fork, Replay, AcceptsCharge, is_charge}
+use Rattle.witness_spec.specs.evidence_spec.Evidence.{ForkParts, fork_item, fork_value, fork_charge}
 use Rattle.witness_spec.specs.evidence_spec.Evidence.{charge_item, charge_value, charge_version}
-use Rattle.witness_spec.proofs.evidence_spec.Places.{AreNumbered, entries_numbered, length-links, behind}
-use Rattle.witness_spec.proofs.evidence_spec.Places.{one_hash}
+use Rattle.witness_spec.specs.evidence_spec.Evidence.{replay_charge, replay_item}
 use Rattle.witness_spec.specs.Events.{JobParts}
 use Rattle.witness_spec.specs.Replies.{Reply}
-use Rattle.witness_spec.specs.Watched.{Watched}
+use Rattle.witness_spec.specs.Watched.{Watched, IsInRoster}
 use Rattle.witness_spec.specs.Steps.{Step, Past}
-use Rattle.witness_spec.specs.Pairs.{Pair, pair_of, first_pair, differ, is_fork, has_fork, first_fork}
+use Rattle.witness_spec.specs.Pairs.{Pair, pair_of, first_pair, last_of, differ, is_fork, has_fork}
+use Rattle.witness_spec.specs.Pairs.{first_fork}
 use Rattle.witness_spec.specs.Done.{noted, accepted, filed}
 use Rattle.witness_spec.specs.Standing.{end_of, verdict_on, finds_fault, has_fault, pairs_noted}
 use Rattle.witness_spec.specs.Standing.{pairs_accepted, shown}
@@ -44,10 +47,11 @@ use Rattle.witness_laws.proofs.Exposing.{fork_at, of_file, exposed_is, is_expose
 use Rattle.witness_laws.proofs.Exposing.{why_exposed}
 use Rattle.witness_laws.proofs.Doing.{Did, Doing, Nothing, Notes, Accepts, Asks, Begins, Files, PutsBack}
 use Rattle.witness_laws.proofs.Checked.{IsLearned, IsCheckedStep, AreChecked}
-use Rattle.witness_laws.proofs.OfEvidence.Audits.{IsGoodSegment, good_given, Stand}
+use Rattle.witness_laws.proofs.OfEvidence.Audits.{IsGoodSegment, good_given, are_numbered, last_is, Stand}
+use Rattle.witness_laws.proofs.OfEvidence.Marks.{mark_within}
 use Rattle.witness_laws.proofs.OfEvidence.Before.{split, on_left, on_right, one_shown, IsGoodShowing}
 use Rattle.witness_laws.proofs.OfEvidence.Before.{good_authenticator}
-use Rattle.witness_laws.proofs.OfEvidence.Before.{first_some, good_segment, shown_before}
+use Rattle.witness_laws.proofs.OfEvidence.Before.{good_segment, shown_before}
 
 -- ---- forks between new pairs and old
 
@@ -135,7 +139,23 @@ positive : (n : ℕ) → (n == 0) ≡ false → 1 ≤ n
 positive zero h = absurd (true≢false h)
 positive (suc n) h = omega arith
 
+number_fits : (v : LogVersion) (word : ℕ) → Fits number_item word → Fits number_item (number_in v word)
+number_fits One word h = h
+number_fits Two word h = (omega arith, lt-ltb (word % 2 ^ 32) (2 ^ 64 - 1) (omega arith))
+
 -- ---- charges
+
+-- a fork has a text as a charge where it has one by itself
+fork_fits : (v : LogVersion) (f : ForkParts) → Fits (fork_item v) (fork_value v f)
+    → Fits (choice is_charge charge_item) (fork_charge v f)
+fork_fits One f h = (omega arith, refl, h)
+fork_fits Two f h = (omega arith, refl, h)
+
+-- so has a replay
+pub replay_fits : (v : LogVersion) (s : VersionedParts) → Fits (replay_item v) (versioned_value v s)
+    → Fits (choice is_charge charge_item) (replay_charge v s)
+replay_fits One s h = (omega arith, refl, h)
+replay_fits Two s h = (omega arith, refl, h)
 
 -- it is accepted against the node, and has a text with it
 pub record IsGoodCharge (w : Watched) (g : Charge) : Type 0 where
@@ -157,75 +177,72 @@ pub data Charging (w : Watched) (past : Past) (p : Step × Reply) : Type 0 where
 -- what is shown anew: a showing with its pairs, of one hash at each number
 record IsNew (w : Watched) (new : ShowingParts) (ps : List Pair) : Type 0 where
   good : IsGoodShowing w new ps
-  version : IsTrue (keeps_version w.roster w.member.node One)
   one : (n : ℕ) (x y : List ℕ) → IsAmong (n, x) ps → IsAmong (n, y) ps → x ≡ y
   few : (n : ℕ) (x : List ℕ) → IsAmong (n, x) ps → Fits number_item n
 
 new_authenticator : (w : Watched) (a : Authenticator) → IsLearned w a
-    → IsNew w (authenticator_showing One a) (pair_of a ∷ [])
+    → IsNew w (authenticator_showing w.member.log_version a) (pair_of w.member.log_version a ∷ [])
 new_authenticator w a good = record {
   good = good_authenticator w a good;
-  version = good.version;
   one = λ n x y i j. its x n i ∙ sym (its y n j);
   few = λ n x i. number n x i;
 }
   where
-    its : (x : List ℕ) (n : ℕ) → IsAmong (n, x) (pair_of a ∷ []) → x ≡ a.hash
+    its : (x : List ℕ) (n : ℕ) → IsAmong (n, x) (pair_of w.member.log_version a ∷ []) → x ≡ a.hash
     its x n (inl e) = ap (λ (q : Pair). q.1) e
     its x n (inr i) = absurd i
 
-    number : (n : ℕ) (x : List ℕ) → IsAmong (n, x) (pair_of a ∷ []) → Fits number_item n
-    number n x (inl e) = subst (Fits number_item) (sym (ap (λ (q : Pair). q.0) e)) good.text.1.0
+    number : (n : ℕ) (x : List ℕ) → IsAmong (n, x) (pair_of w.member.log_version a ∷ [])
+        → Fits number_item n
+    number n x (inl e) =
+        subst (Fits number_item) (sym (ap (λ (q : Pair). q.0) e))
+        (number_fits w.member.log_version a.word good.text.1.0)
     number n x (inr i) = absurd i
 
-new_segment : (w : Watched) (s : SegmentParts) → IsGoodSegment w s
-    → IsNew w (segment_showing s) (segment_pairs s)
-new_segment w s good =
-    let some : 0 < s.first = first_some w s good in
-    let back : s.first ≡ s.first - 1 + 1 = omega (arith, some) in
-    let links = links_from s.first s.entries in
-    let are : AreNumbered (s.first - 1 + 1) links =
-    subst (λ k. AreNumbered k links) back (entries_numbered s.first s.entries) in
+new_segment : (w : Watched) (s : VersionedParts) → IsInRoster w → IsGoodSegment w s
+    → IsNew w (versioned_showing s) (segment_marks s)
+new_segment w s is good =
+    let links = versioned_links s in
     record {
-      good = good_segment w s good;
-      version = subst (λ n. IsTrue (keeps_version w.roster n One)) (sym good.closed.ends.node ∙ good.node)
-          good.closed.version;
-      one = λ n x y i j. one_hash (s.first - 1) s.opening links n x y are i j;
+      good = good_segment w s is good;
+      one = λ n x y i j. one_mark (s.first - 1) s.opening links n x y (are_numbered s) i j;
       few = λ n x i.
-          let h = behind (s.first - 1) s.opening links n x are i in
-          lower_fits n s.closing.word
+          lower_fits n (last_of s)
           (omega (
             arith,
-            h.count,
-            ap length h.whole,
-            length-append h.front h.rest,
-            some,
-            good.closed.ends.number,
-            length-links s.first s.entries,
-          )) good.text.0.1.1.1.1.1.0;
+            (mark_within (s.first - 1) s.opening links n x (are_numbered s) i).1,
+            last_is w s good,
+          )) (number_fits s.log_version s.closing.word good.fits.text.1.1.1.1.1.0);
     }
 
 -- the pair before the first entry is always among those that were shown
 pub first_shown : (w : Watched) (past : Past) → IsAmong first_pair (shown w past)
 first_shown w [] = inl refl
 first_shown w (p ∷ past) =
-    on_right first_pair (pairs_noted (is_exposed w past) (noted p.0 p.1))
+    on_right first_pair (pairs_noted w.member.log_version (is_exposed w past) (noted p.0 p.1))
     (pairs_accepted (accepted p.0 p.1) ++ shown w past)
     (on_right first_pair (pairs_accepted (accepted p.0 p.1)) (shown w past) (first_shown w past))
 
-module _ (w : Watched) (past : Past) (p : Step × Reply) (owed : AreOwed w past)
+-- a member's log is of the version that the roster gives it
+pub its_version : (w : Watched) → IsInRoster w
+    → IsTrue (keeps_version w.roster w.member.node w.member.log_version)
+its_version w is =
+    ap (is_of_version w.member.log_version) is
+    ∙ eq-eqb (log_number w.member.log_version) (log_number w.member.log_version) refl
+
+module _ (w : Watched) (past : Past) (p : Step × Reply) (member : IsInRoster w) (owed : AreOwed w past)
     (checked : AreChecked w past) (stand : Stand w past) (e : is_exposed w past ≡ false) where
   -- ---- a fork
 
   -- the charge of a fork at 0
   at_zero : (new : ShowingParts) (ps : List Pair) → IsNew w new ps → Forks ps (shown w past) 0
-      → IsGoodCharge w (Fork (record { log_version = One; at = 0; a = new; b = None }))
+      → IsGoodCharge w (Fork (record { log_version = w.member.log_version; at = 0; a = new; b = None }))
   at_zero new ps is f =
       let zero_is : f.other ≡ zeros =
       one_shown w past e 0 f.other zeros f.other_old (first_shown w past) in
       record {
         small = omega (arith, is.good.shows.text.0, is.good.node);
-        version = is.version;
+        version = its_version w member;
         accepted = record {
           a_node = is.good.node;
           closed = is.good.shows.closed;
@@ -233,16 +250,18 @@ module _ (w : Watched) (past : Past) (p : Step × Reply) (owed : AreOwed w past)
           shown = subst (IsAmong (0, f.one)) (sym is.good.shows.is) f.one_new;
           differs = λ h. f.differs (h ∙ sym zero_is);
         };
-        text = (omega arith, refl, (zero_fits, (is.good.shows.text, tt)));
+        text = fork_fits w.member.log_version
+            (record { log_version = w.member.log_version; at = 0; a = new; b = None })
+            (zero_fits, (is.good.shows.text, tt));
       }
 
   -- the charge of a fork after 0, with what showed the other hash
   at_number : (n : ℕ) (new old : ShowingParts) (ps qs : List Pair) → IsNew w new ps
       → IsGoodShowing w old qs → (f : Forks ps (shown w past) n) → IsAmong (n, f.other) qs
-      → IsGoodCharge w (Fork (record { log_version = One; at = n; a = old; b = Some new }))
+      → IsGoodCharge w (Fork (record { log_version = w.member.log_version; at = n; a = old; b = Some new }))
   at_number n new old ps qs is before f there = record {
     small = omega (arith, is.good.shows.text.0, is.good.node);
-    version = is.version;
+    version = its_version w member;
     accepted = record {
       a_node = before.node;
       b_node = is.good.node;
@@ -254,7 +273,9 @@ module _ (w : Watched) (past : Past) (p : Step × Reply) (owed : AreOwed w past)
       other_shown = subst (IsAmong (n, f.one)) (sym is.good.shows.is) f.one_new;
       differ = λ h. f.differs (sym h);
     };
-    text = (omega arith, refl, (is.few n f.one f.one_new, (before.shows.text, is.good.shows.text)));
+    text = fork_fits w.member.log_version
+        (record { log_version = w.member.log_version; at = n; a = old; b = Some new })
+        (is.few n f.one f.one_new, (before.shows.text, is.good.shows.text));
   }
 
   -- new pairs of a showing, as they are shown after the step, and charged
@@ -310,47 +331,55 @@ module _ (w : Watched) (past : Past) (p : Step × Reply) (owed : AreOwed w past)
         differ = f.differs;
       } in exposed_is w (p ∷ past) (why_exposed w (p ∷ past) (inl two))
 
+  -- the fork of a new showing at a number, with what is kept
+  abbrev fork_with : ShowingParts → (number : ℕ) → Option Charge
+  fork_with new = fork_of w.member.log_version (kept w past) (all_accepted past) new
+
   charged_at : (new : ShowingParts) (ps : List Pair) (n : ℕ) (b : Bool) → ShowsNew new ps
       → first_fork ps (shown w past) ≡ Some n → (n == 0) ≡ b → Charging w past p
   charged_at new ps n true s is z =
       let f = first_is ps (shown w past) n is in
       let zero_is : n ≡ 0 = eqb-true n 0 z in
-      Charged (Fork (record { log_version = One; at = 0; a = new; b = None }))
-      (s.charge_is ∙ (ap (option_and_then (fork_of (kept w past) (all_accepted past) new)) is
-      ∙ ap (fork_of (kept w past) (all_accepted past) new) zero_is))
+      Charged (Fork (record { log_version = w.member.log_version; at = 0; a = new; b = None }))
+      (s.charge_is ∙ (ap (option_and_then (fork_with new)) is ∙ ap (fork_with new) zero_is))
       (fork_exposes new ps n s f) (at_zero new ps s.is (subst (Forks ps (shown w past)) zero_is f))
   charged_at new ps n false s is z =
       let f = first_is ps (shown w past) n is in
-      let old = shown_before w past n f.other owed checked stand e (positive n z) f.other_old in
-      Charged (Fork (record { log_version = One; at = n; a = old.showing; b = Some new }))
-      (s.charge_is ∙ (ap (option_and_then (fork_of (kept w past) (all_accepted past) new)) is
-      ∙ (ap (λ b. cond b (Some (Fork (record { log_version = One; at = 0; a = new; b = None })))
-      (option_map (λ x. Fork (record { log_version = One; at = n; a = x; b = Some new }))
-      (showing_before (kept w past) (all_accepted past) n))) z
-      ∙ ap (option_map (λ x. Fork (record { log_version = One; at = n; a = x; b = Some new }))) old.is)))
+      let old = shown_before w past n f.other member owed checked stand e (positive n z) f.other_old in
+      let v = w.member.log_version in
+      Charged (Fork (record { log_version = v; at = n; a = old.showing; b = Some new }))
+      (s.charge_is ∙ (ap (option_and_then (fork_with new)) is
+      ∙ (ap (λ b. cond b (Some (Fork (record { log_version = v; at = 0; a = new; b = None })))
+      (option_map (λ x. Fork (record { log_version = v; at = n; a = x; b = Some new }))
+      (showing_before v (kept w past) (all_accepted past) n))) z
+      ∙ ap (option_map (λ x. Fork (record { log_version = v; at = n; a = x; b = Some new }))) old.is)))
       (fork_exposes new ps n s f) (at_number n new old.showing ps old.ps s.is old.good f old.there)
 
   shows_new : (new : ShowingParts) (ps : List Pair) (o : Option ℕ) → ShowsNew new ps
       → first_fork ps (shown w past) ≡ o → Charging w past p
   shows_new new ps None s is =
-      Uncharged (s.charge_is ∙ ap (option_and_then (fork_of (kept w past) (all_accepted past) new)) is)
+      Uncharged (s.charge_is ∙ ap (option_and_then (fork_with new)) is)
       (is_false (is_exposed w (p ∷ past)) (none_exposes new ps s is))
   shows_new new ps (Some n) s is = charged_at new ps n (n == 0) s is refl
 
   -- ---- what a step does
 
-  shown_by : (a : Option Authenticator) (c : Option ClosedParts) → noted p.0 p.1 ≡ a → accepted p.0 p.1 ≡ c
-      → shown w (p ∷ past) ≡ pairs_noted false a ++ (pairs_accepted c ++ shown w past)
+  shown_by : (a : Option Authenticator) (c : Option ClosedVersionedParts) → noted p.0 p.1 ≡ a
+      → accepted p.0 p.1 ≡ c
+      → shown w (p ∷ past)
+      ≡ pairs_noted w.member.log_version false a ++ (pairs_accepted c ++ shown w past)
   shown_by a c is_a is_c =
-      ap (λ b. pairs_noted b (noted p.0 p.1) ++ (pairs_accepted (accepted p.0 p.1) ++ shown w past)) e
-      ∙ (ap (λ x. pairs_noted false x ++ (pairs_accepted (accepted p.0 p.1) ++ shown w past)) is_a
-      ∙ ap (λ x. pairs_noted false a ++ (pairs_accepted x ++ shown w past)) is_c)
+      let v = w.member.log_version in
+      ap (λ b. pairs_noted v b (noted p.0 p.1) ++ (pairs_accepted (accepted p.0 p.1) ++ shown w past)) e
+      ∙ (ap (λ x. pairs_noted v false x ++ (pairs_accepted (accepted p.0 p.1) ++ shown w past)) is_a
+      ∙ ap (λ x. pairs_noted v false a ++ (pairs_accepted x ++ shown w past)) is_c)
 
   fault_by : (j : Option JobParts) → filed p.0 p.1 ≡ j
       → has_fault w (p ∷ past) ≡ (finds_fault w.roster (end_of w past).state j || has_fault w past)
   fault_by j is = ap (λ x. finds_fault w.roster (end_of w past).state x || has_fault w past) is
 
-  charge_by : (a : Option Authenticator) (c : Option ClosedParts) (j : Option JobParts) → noted p.0 p.1 ≡ a
+  charge_by : (a : Option Authenticator) (c : Option ClosedVersionedParts) (j : Option JobParts)
+      → noted p.0 p.1 ≡ a
       → accepted p.0 p.1 ≡ c → filed p.0 p.1 ≡ j → new_charge w past p.0 p.1 ≡ charge_of w past a c j
   charge_by a c j is_a is_c is_j =
       ap (λ x. charge_of w past x (accepted p.0 p.1) (filed p.0 p.1)) is_a
@@ -367,7 +396,7 @@ module _ (w : Watched) (past : Past) (p : Step × Reply) (owed : AreOwed w past)
   files : (j : JobParts) (v : Verdict) → Did past p None None (Some j) NoAudit
       → verdict_on w.roster (end_of w past).state j ≡ v
       → ((fault : ReplayFault) (number : ℕ) → v ≡ Fault fault number
-      → IsGoodCharge w (Replay (of_plain (audited_with w past j.segment.segment)))) → Charging w past p
+      → IsGoodCharge w (Replay (audited_with w past j.segment.segment))) → Charging w past p
   files j (Sound t found) did is good =
       Uncharged
       (charge_by None None (Some j) did.notes did.accepts did.files
@@ -375,7 +404,7 @@ module _ (w : Watched) (past : Past) (p : Step × Reply) (owed : AreOwed w past)
       (ap₂ (λ ps b. has_fork ps || b) (shown_by None None did.notes did.accepts)
       (fault_by (Some j) did.files ∙ ap (λ v. is_fault v || has_fault w past) is) ∙ e)
   files j (Fault fault number) did is good =
-      Charged (Replay (of_plain (audited_with w past j.segment.segment)))
+      Charged (Replay (audited_with w past j.segment.segment))
       (charge_by None None (Some j) did.notes did.accepts did.files
       ∙ ap (replay_of w past j.segment.segment) is)
       (or_right (has_fork (shown w (p ∷ past))) (has_fault w (p ∷ past))
@@ -386,10 +415,11 @@ module _ (w : Watched) (past : Past) (p : Step × Reply) (owed : AreOwed w past)
   pub charging : Doing w past p → IsCheckedStep w p.0
       → ((j : JobParts) (fault : ReplayFault) (number : ℕ) → stage_of past ≡ Out j.segment
       → verdict_on w.roster (end_of w past).state j ≡ Fault fault number
-      → IsGoodCharge w (Replay (of_plain (audited_with w past j.segment.segment)))) → Charging w past p
+      → IsGoodCharge w (Replay (audited_with w past j.segment.segment))) → Charging w past p
   charging (Nothing did) c faulty = shows_nothing (stage_of past) did
   charging (Notes a is did) c faulty =
-      shows_new (authenticator_showing One a) (pair_of a ∷ []) (first_fork (pair_of a ∷ []) (shown w past))
+      shows_new (authenticator_showing w.member.log_version a) (pair_of w.member.log_version a ∷ [])
+      (first_fork (pair_of w.member.log_version a ∷ []) (shown w past))
       (record {
         is = new_authenticator w a (subst (IsCheckedStep w) is c);
         shown_is = shown_by (Some a) None did.notes did.accepts;
@@ -397,10 +427,10 @@ module _ (w : Watched) (past : Past) (p : Step × Reply) (owed : AreOwed w past)
         charge_is = charge_by (Some a) None None did.notes did.accepts did.files;
       }) refl
   charging (Accepts d is wanted did) c faulty =
-      shows_new (segment_showing d.segment) (segment_pairs d.segment)
-      (first_fork (segment_pairs d.segment) (shown w past))
+      shows_new (versioned_showing d.segment) (segment_marks d.segment)
+      (first_fork (segment_marks d.segment) (shown w past))
       (record {
-        is = new_segment w d.segment (good_given w d (subst (IsCheckedStep w) is c));
+        is = new_segment w d.segment member (good_given w d (subst (IsCheckedStep w) is c));
         shown_is = shown_by None (Some d) did.notes did.accepts;
         fault_is = fault_by None did.files;
         charge_is = charge_by None (Some d) None did.notes did.accepts did.files;

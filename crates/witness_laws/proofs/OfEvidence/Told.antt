@@ -56,14 +56,14 @@ module _ (w : Watched) (past : Past) (p : Step × Reply) where
   good_filed j stand next = (stand.segments j.segment.segment next.among).good
 
   -- a File finds no fault where the node isn't exposed after it
-  no_fault : (j : JobParts) (v : Verdict) → filed p.0 p.1 ≡ Some j
+  no_fault : (j : JobParts) (v : Verdict) → IsInRoster w → filed p.0 p.1 ≡ Some j
       → verdict_on w.roster (end_of w past).state j ≡ v
       → is_exposed w (p ∷ past) ≡ false → Stand w past → stage_of past ≡ Out j.segment
       → is_exposed w past ≡ false → IsAudited w past → IsAudited w (p ∷ past)
-  no_fault j (Sound t found) is v e stand out was a =
+  no_fault j (Sound t found) member is v e stand out was a =
       let next = next_filed j stand out in
-      audited_on w past p j t found was is v next (good_filed j stand next) a
-  no_fault j (Fault fault number) is v e stand out was a =
+      audited_on w past p j t found member was is v next (good_filed j stand next) a
+  no_fault j (Fault fault number) member is v e stand out was a =
       let faulty : has_fault w (p ∷ past) ≡ true =
       ap (λ x. finds_fault w.roster (end_of w past).state x || has_fault w past) is
       ∙ ap (λ x. is_fault x || has_fault w past) v in
@@ -74,22 +74,22 @@ module _ (w : Watched) (past : Past) (p : Step × Reply) where
   unfiled h a =
       audited_stays w past p (ap (entries_filed w.roster (end_of w past).state) h) (end_stays w past p h) a
 
-  audited_further : Doing w past p → is_exposed w (p ∷ past) ≡ false → Stand w past
+  audited_further : IsInRoster w → Doing w past p → is_exposed w (p ∷ past) ≡ false → Stand w past
       → is_exposed w past ≡ false → IsAudited w past → IsAudited w (p ∷ past)
-  audited_further (Nothing did) e stand was a = unfiled did.files a
-  audited_further (Notes x is did) e stand was a = unfiled did.files a
-  audited_further (Accepts c is wanted did) e stand was a = unfiled did.files a
-  audited_further (Asks first last is few did) e stand was a = unfiled did.files a
-  audited_further (Begins c is did) e stand was a = unfiled did.files a
-  audited_further (PutsBack c is did) e stand was a = unfiled did.files a
-  audited_further (Files j is did) e stand was a =
-      no_fault j (verdict_on w.roster (end_of w past).state j) did.files refl e stand is was a
+  audited_further member (Nothing did) e stand was a = unfiled did.files a
+  audited_further member (Notes x is did) e stand was a = unfiled did.files a
+  audited_further member (Accepts c is wanted did) e stand was a = unfiled did.files a
+  audited_further member (Asks first last is few did) e stand was a = unfiled did.files a
+  audited_further member (Begins c is did) e stand was a = unfiled did.files a
+  audited_further member (PutsBack c is did) e stand was a = unfiled did.files a
+  audited_further member (Files j is did) e stand was a =
+      no_fault j (verdict_on w.roster (end_of w past).state j) member did.files refl e stand is was a
 
-  told_by : Doing w past p → Stand w past → is_exposed w past ≡ false → IsAudited w past
+  told_by : IsInRoster w → Doing w past p → Stand w past → is_exposed w past ≡ false → IsAudited w past
       → Charging w past p → Told w (p ∷ past)
-  told_by d stand was a (Uncharged none e) =
-      Without (evidence_by false None was none) e (audited_further d e stand was a)
-  told_by d stand was a (Charged g is e good) = With g (evidence_by false (Some g) was is) e good
+  told_by member d stand was a (Uncharged none e) =
+      Without (evidence_by false None was none) e (audited_further member d e stand was a)
+  told_by member d stand was a (Charged g is e good) = With g (evidence_by false (Some g) was is) e good
 
   told_on : IsInRoster w → AreOwed w (p ∷ past) → AreChecked w (p ∷ past)
       → Told w past → Told w (p ∷ past)
@@ -99,8 +99,8 @@ module _ (w : Watched) (past : Past) (p : Step × Reply) where
   told_on member owed checked (Without none was a) =
       let stand = stands w past owed.1 checked.1 in
       let d = doing w past p.0 p.1 owed.0 in
-      told_by d stand was a
-      (charging w past p owed.1 checked.1 stand was d checked.0
+      told_by member d stand was a
+      (charging w past p member owed.1 checked.1 stand was d checked.0
       (λ j fault number out v.
       let next = next_filed j stand out in
       replay_charge w past j fault number member was a next (good_filed j stand next) v))

@@ -1,37 +1,38 @@
--- Pairs of one log have no fork.
+-- Marks of one log have no fork.
 -- Serves: honest_is_never_exposed.
 use Rattle.std.proofs.Common.{◌≡◌, ◌⊎◌, inl, inr, Bool, true, false, not, ◌==◌, ◌&&◌, List, [], ◌∷◌}
 use Rattle.std.proofs.Common.{◌++◌, refl, sym, ap, subst, eqb-true}
 use Rattle.std.proofs.lemmas.Bool.{or_from}
 use Rattle.authenticator.proofs.Signed.{list_same}
-use Rattle.secure_log.specs.LogEntries.Chain.{IsAmong}
-use Rattle.secure_log.specs.declared.log_entries.entry.Entry.{Entry}
-use Rattle.secure_log.specs.Log.{log_pairs}
-use Rattle.witness_spec.specs.evidence_spec.Laws.{OneHashAtANumber}
+use Rattle.secure_log.specs.LogEntries.Chain.{Logged, IsAmong, zeros}
+use Rattle.secure_log.proofs.Gaps.{logged_after}
+use Rattle.secure_log.proofs.OfLogEntries.Marks.{one_mark}
+use Rattle.witness_spec.specs.evidence_spec.Proving.{log_links, marks_of}
 use Rattle.authenticator.specs.Signing.{is_same}
 use Rattle.witness_spec.specs.Pairs.{Pair, differ, is_fork, has_fork}
 
-module _ (log : List Entry) (one : OneHashAtANumber) where
-  no_difference : (p q : Pair) → IsAmong p (log_pairs log) → IsAmong q (log_pairs log) → differ p q ≡ false
+module _ (log : List Logged) where
+  no_difference : (p q : Pair) → IsAmong p (marks_of log) → IsAmong q (marks_of log) → differ p q ≡ false
   no_difference p q i j = by (p.0 == q.0) refl
     where
       by : (b : Bool) → (p.0 == q.0) ≡ b → (b && not (is_same p.1 q.1)) ≡ false
       by false e = refl
       by true e =
           let same : p.0 ≡ q.0 = eqb-true p.0 q.0 e in
-          let there : IsAmong (p.0, q.1) (log_pairs log) =
-          subst (λ n. IsAmong (n, q.1) (log_pairs log)) (sym same) j in
-          ap not (list_same p.1 q.1 (one log p.0 p.1 q.1 i there))
+          let there : IsAmong (p.0, q.1) (marks_of log) =
+          subst (λ n. IsAmong (n, q.1) (marks_of log)) (sym same) j in
+          ap not (list_same p.1 q.1
+          (one_mark 0 zeros (log_links log) p.0 p.1 q.1 (logged_after 0 log) i there))
 
-  no_fork_at : (p : Pair) (qs : List Pair) → IsAmong p (log_pairs log)
-      → ((q : Pair) → IsAmong q qs → IsAmong q (log_pairs log)) → is_fork p qs ≡ false
+  no_fork_at : (p : Pair) (qs : List Pair) → IsAmong p (marks_of log)
+      → ((q : Pair) → IsAmong q qs → IsAmong q (marks_of log)) → is_fork p qs ≡ false
   no_fork_at p [] i all = refl
   no_fork_at p (q ∷ qs) i all =
       or_from (differ p q) (is_fork p qs) (no_difference p q i (all q (inl refl)))
       (no_fork_at p qs i (λ r j. all r (inr j)))
 
-  -- pairs that are all of one log have no fork
-  pub no_fork : (ps : List Pair) → ((q : Pair) → IsAmong q ps → IsAmong q (log_pairs log))
+  -- pairs that are all marks of one log have no fork
+  pub no_fork : (ps : List Pair) → ((q : Pair) → IsAmong q ps → IsAmong q (marks_of log))
       → has_fork ps ≡ false
   no_fork [] all = refl
   no_fork (p ∷ ps) all =

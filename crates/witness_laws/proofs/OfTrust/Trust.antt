@@ -1,35 +1,38 @@
 -- What stands after a node's own steps while its log is honest: all that was shown is of the log, and the end
 -- lies in it, with the log's state there.
 -- Serves: honest_is_never_exposed.
-use Rattle.std.proofs.Common.{◌≡◌, inl, inr, ℕ, ◌+◌, ◌-◌, ◌<◌, ◌≤◌, Bool, true, false, ◌||◌, List, [], ◌∷◌}
-use Rattle.std.proofs.Common.{◌++◌, Option, Some, None, refl, sym, ap, ap₂, subst, ◌∙◌}
-use Rattle.std.proofs.Common.{arith}
+use Rattle.std.proofs.Common.{◌≡◌, inl, inr, ℕ, ◌+◌, ◌-◌, Bool, true, false, ◌||◌, List, [], ◌∷◌}
+use Rattle.std.proofs.Common.{◌++◌, Option, Some, None, refl, sym, ap, ap₂, subst, ◌∙◌, arith}
 use Rattle.std.specs.List.{AllByRecursion, flat_map}
-use Rattle.std.proofs.lemmas.Bool.{and_parts, or_from, ltb-true}
+use Rattle.std.proofs.lemmas.Bool.{or_from}
+use Rattle.xdr.specs.Item.{Fits}
 use Rattle.authenticator.specs.declared.authenticator.Authenticator.{Authenticator}
-use Rattle.secure_log.specs.LogEntries.Chain.{links_from, zeros}
-use Rattle.secure_log.specs.LogEntries.Chain.{NoCollision, IsAmong}
-use Rattle.secure_log.specs.declared.log_entries.entry.Entry.{Entry}
-use Rattle.secure_log.specs.Log.{log_pairs}
-use Rattle.secure_log.specs.Segment.{SegmentParts, ClosedParts, FitsWithin, HasText, segment_pairs}
-use Rattle.witness_spec.specs.evidence_spec.Laws.{OneHashAtANumber, Reached, IsNextIn}
+use Rattle.secure_log.specs.LogEntries.Chain.{zeros, Logged, NoCollision, IsAmong, span}
+use Rattle.secure_log.specs.declared.segment.TheConstants.{MAX_ENTRIES}
+use Rattle.secure_log.specs.Versioned.{VersionedParts, ClosedVersionedParts, FitsVersion, segment_marks}
+use Rattle.secure_log.specs.Versioned.{versioned_value}
+use Rattle.witness_spec.specs.evidence_spec.Laws.{Reached, IsNextIn}
 use Rattle.witness_spec.proofs.evidence_spec.Places.{head_among}
-use Rattle.witness_spec.proofs.evidence_spec.Shown.{segment_in_log, segment_is_part}
 use Rattle.witness_spec.proofs.evidence_spec.Reached.{reached_first, goes_on}
+use Rattle.witness_spec.proofs.evidence_spec.Shown.{segment_in_log, segment_is_part, segment_opens}
+use Rattle.witness_spec.proofs.evidence_spec.ShownMarks.{pair_is_mark}
 use Rattle.secure_log.proofs.OfLogEntries.FewerTexts.{Within, fewer, left, right, both}
 use Rattle.witness_spec.specs.state_spec.State.{State}
 use Rattle.witness_spec.specs.replay_spec.Opening.{opening_of}
-use Rattle.witness_spec.specs.replay_spec.Placed.{placed}
-use Rattle.witness_spec.specs.replay_spec.Replay.{Honest}
-use Rattle.witness_spec.specs.evidence_spec.Evidence.{MAX_AUDITED}
-use Rattle.witness_spec.specs.evidence_spec.Proving.{IsLog, IsUnforged, log_texts, segment_texts}
+use Rattle.witness_spec.specs.replay_spec.Placed.{logged_places}
+use Rattle.witness_spec.specs.replay_spec.Replay.{Honest, Sound}
+use Rattle.witness_spec.specs.evidence_spec.Evidence.{replay_item}
+use Rattle.witness_spec.specs.evidence_spec.Proving.{IsLogOf, IsUnforgedIn, log_links, marks_of, pairs_of}
+use Rattle.witness_spec.specs.evidence_spec.Proving.{texts_of}
+use Rattle.witness_spec.specs.evidence_spec.Proving.{versioned_texts}
 use Rattle.witness_spec.specs.Events.{JobParts}
 use Rattle.witness_spec.specs.Replies.{Reply}
-use Rattle.witness_spec.specs.Watched.{Watched}
-use Rattle.witness_spec.specs.Steps.{Step, Past}
-use Rattle.witness_spec.specs.Pairs.{Pair, pair_of, has_fork}
+use Rattle.witness_spec.specs.Watched.{Watched, IsInRoster}
+use Rattle.witness_spec.specs.Steps.{Step, Answer, Past}
+use Rattle.witness_spec.specs.Pairs.{Pair, pair_of, has_fork, last_of}
 use Rattle.witness_spec.specs.Done.{noted, accepted}
 use Rattle.witness_spec.specs.Standing.{End, end_of, end_after, moved_by, is_fault, finds_fault, has_fault}
+use Rattle.witness_spec.specs.Standing.{verdict_on}
 use Rattle.witness_spec.specs.Standing.{pairs_noted, pairs_accepted, shown, is_exposed, Stage, NoAudit}
 use Rattle.witness_spec.specs.Standing.{Wanted, Given}
 use Rattle.witness_spec.specs.Standing.{Out, stage_of}
@@ -38,27 +41,22 @@ use Rattle.witness_spec.specs.Premises.{authenticators_in, texts_in}
 use Rattle.witness_laws.proofs.Checked.{IsLearned, IsGiven, IsCheckedStep, AreChecked}
 use Rattle.witness_laws.proofs.Doing.{Did, Doing, Nothing, Notes, Accepts, Asks, Begins, Files, PutsBack}
 use Rattle.witness_laws.proofs.Doing.{doing}
+use Rattle.witness_laws.proofs.OfEvidence.Audits.{IsGoodSegment, good_given, its_log_version, last_is}
+use Rattle.witness_laws.proofs.OfEvidence.Marks.{last_spans}
 use Rattle.witness_laws.proofs.OfTrust.Pairs.{no_fork, among_parts}
 
--- ---- segments that have texts
-
 -- a segment that has a text has one as audited entries too
-audited_fits : (s : SegmentParts) → HasText s → FitsWithin MAX_AUDITED s
-audited_fits s t =
-    let f = t.0 in
+audited_fits : (s : VersionedParts) → FitsVersion MAX_ENTRIES s
+    → Fits (replay_item s.log_version) (versioned_value s.log_version s)
+audited_fits s fits =
+    let f = fits.text in
     (f.0, (f.1.0, (f.1.1.0, ((f.1.1.1.0.0, omega (arith, f.1.1.1.0.1), f.1.1.1.0.2), f.1.1.1.1))))
 
-first_is : (s : SegmentParts) → HasText s → 0 < s.first
-first_is s t = ltb-true 0 s.first (and_parts _ _ t.1).0
-
-none_some : {A : Type 0} (x : A) → ◌≡◌ {A = Option A} None (Some x) → ⊥
-none_some x h = cc
-
-module _ (w : Watched) (log : List Entry) (one : OneHashAtANumber) (is : IsLog log)
-    (all : List (List ℕ)) (unlike : NoCollision all) (log_within : Within (log_texts log) all) where
-  -- all of these pairs are the log's
+module _ (w : Watched) (member : IsInRoster w) (log : List Logged) (is : IsLogOf w.member.log_version log)
+    (all : List (List ℕ)) (unlike : NoCollision all) (log_within : Within (texts_of log) all) where
+  -- all of these pairs are marks of the log
   abbrev pub InLog : List Pair → Type 0
-  InLog ps = (q : Pair) → IsAmong q ps → IsAmong q (log_pairs log)
+  InLog ps = (q : Pair) → IsAmong q ps → IsAmong q (marks_of log)
 
   -- the log has reached the end's state at its number
   abbrev pub IsReached : End → Type 0
@@ -82,30 +80,41 @@ module _ (w : Watched) (log : List Entry) (one : OneHashAtANumber) (is : IsLog l
     -- what is under way is the log's part after the end
     pub stage : StageFits (end_of w past) (stage_of past)
 
+  -- none of these signatures of the node is forged
+  abbrev pub AreUnforged : List Authenticator → Type 0
+  AreUnforged = AllByRecursion (IsUnforgedIn w.member.log_version w.roster w.member.node log)
+
   -- ---- what is shown
 
-  noted_in : (b : Bool) (a : Authenticator) → IsAmong (pair_of a) (log_pairs log)
-      → InLog (pairs_noted b (Some a))
+  noted_in : (b : Bool) (a : Authenticator) → IsAmong (pair_of w.member.log_version a) (pairs_of log)
+      → InLog (pairs_noted w.member.log_version b (Some a))
   noted_in true a i q j = absurd j
-  noted_in false a i q (inl e) = subst (λ r. IsAmong r (log_pairs log)) (sym e) i
+  noted_in false a i q (inl e) =
+      subst (λ r. IsAmong r (marks_of log)) (sym e)
+      (pair_is_mark 0 zeros (log_links log) (pair_of w.member.log_version a) i)
   noted_in false a i q (inr j) = absurd j
 
   joined_in : (xs ys : List Pair) → InLog xs → InLog ys → InLog (xs ++ ys)
   joined_in xs ys h k q i = elim (among_parts q xs ys i) [ inl a ↦ h q a | inr b ↦ k q b ]
 
-  shown_is : (past : Past) (p : Step × Reply) (learned : Option Authenticator) (answer : Option ClosedParts)
+  shown_is : (past : Past) (p : Step × Reply) (learned : Option Authenticator)
+      (answer : Option ClosedVersionedParts)
       → noted p.0 p.1 ≡ learned → accepted p.0 p.1 ≡ answer
       → shown w (p ∷ past)
-      ≡ pairs_noted (is_exposed w past) learned ++ (pairs_accepted answer ++ shown w past)
+      ≡ pairs_noted w.member.log_version (is_exposed w past) learned
+      ++ (pairs_accepted answer ++ shown w past)
   shown_is past p learned answer e f =
-      ap₂ (λ n a. pairs_noted (is_exposed w past) n ++ (pairs_accepted a ++ shown w past)) e f
+      ap₂ (λ n a. pairs_noted w.member.log_version (is_exposed w past) n
+      ++ (pairs_accepted a ++ shown w past)) e f
 
-  shown_on : (past : Past) (p : Step × Reply) (learned : Option Authenticator) (answer : Option ClosedParts)
+  shown_on : (past : Past) (p : Step × Reply) (learned : Option Authenticator)
+      (answer : Option ClosedVersionedParts)
       → noted p.0 p.1 ≡ learned → accepted p.0 p.1 ≡ answer
-      → InLog (pairs_noted (is_exposed w past) learned) → InLog (pairs_accepted answer)
+      → InLog (pairs_noted w.member.log_version (is_exposed w past) learned) → InLog (pairs_accepted answer)
       → InLog (shown w past) → InLog (shown w (p ∷ past))
   shown_on past p learned answer e f h k g q i =
-      joined_in (pairs_noted (is_exposed w past) learned) (pairs_accepted answer ++ shown w past) h
+      joined_in (pairs_noted w.member.log_version (is_exposed w past) learned)
+      (pairs_accepted answer ++ shown w past) h
       (joined_in (pairs_accepted answer) (shown w past) k g) q
       (subst (IsAmong q) (shown_is past p learned answer e f) i)
 
@@ -114,9 +123,9 @@ module _ (w : Watched) (log : List Entry) (one : OneHashAtANumber) (is : IsLog l
 
   -- ---- a step that files nothing
 
-  unfiled : (past : Past) (p : Step × Reply) (learned : Option Authenticator) (answer : Option ClosedParts)
-      (to : Stage) → Did past p learned answer None to
-      → InLog (pairs_noted (is_exposed w past) learned) → InLog (pairs_accepted answer)
+  unfiled : (past : Past) (p : Step × Reply) (learned : Option Authenticator)
+      (answer : Option ClosedVersionedParts) (to : Stage) → Did past p learned answer None to
+      → InLog (pairs_noted w.member.log_version (is_exposed w past) learned) → InLog (pairs_accepted answer)
       → StageFits (end_of w past) to → Trusted past → Trusted (p ∷ past)
   unfiled past p learned answer to did h k fits g =
       let same : end_of w past ≡ end_of w (p ∷ past) =
@@ -132,28 +141,33 @@ module _ (w : Watched) (log : List Entry) (one : OneHashAtANumber) (is : IsLog l
 
   -- ---- a segment is accepted
 
-  next_in : (end : End) (c : ClosedParts) → IsGiven w c
-      → IsAmong (pair_of c.segment.closing) (log_pairs log)
-      → Within (segment_texts c.segment) all → c.segment.first ≡ end.number + 1
-      → IsNextIn log end.number c.segment × InLog (segment_pairs c.segment)
+  next_in : (end : End) (c : ClosedVersionedParts) → IsGiven w c
+      → IsAmong (pair_of w.member.log_version c.segment.closing) (pairs_of log)
+      → Within (texts_in (Answer c)) all → c.segment.first ≡ end.number + 1
+      → IsNextIn log end.number c.segment × InLog (segment_marks c.segment)
   next_in end c given i within first =
-      let fits = audited_fits c.segment given.text in
-      let some : 1 ≤ c.segment.first = omega (arith, first_is c.segment given.text) in
-      let apart = fewer (log_texts log ++ segment_texts c.segment) all
-      (both (log_texts log) (segment_texts c.segment) all log_within within) unlike in
-      let in_log : InLog (segment_pairs c.segment) =
-      λ q j. segment_in_log w.roster log c.segment is fits some given.closed i apart q.0 q.1 j in
-      let place : c.segment.first - 1 ≡ end.number = omega (arith, first) in (
+      let s = c.segment in
+      let good : IsGoodSegment w s = good_given w c given in
+      let version : w.member.log_version ≡ s.log_version = sym (its_log_version w s member good) in
+      let own : IsLogOf s.log_version log = subst (λ v. IsLogOf v log) version is in
+      let closing : IsAmong (pair_of s.log_version s.closing) (pairs_of log) =
+      subst (λ v. IsAmong (pair_of v s.closing) (pairs_of log)) version i in
+      let fits = audited_fits s given.fits in
+      let spans : last_of s ≡ s.first - 1 + span s.entries =
+      last_is w s good ∙ last_spans (s.first - 1) s.entries in
+      let texts = versioned_texts s in
+      let apart =
+      fewer (texts_of log ++ texts) all (both (texts_of log) texts all log_within within) unlike in
+      let place : s.first - 1 ≡ end.number = omega (arith, first) in (
         record {
           first = first;
-          last = given.closed.ends.number;
-          part = segment_is_part w.roster log c.segment is fits some given.closed i apart;
-          opening = subst (λ n. IsAmong (n, c.segment.opening) (log_pairs log)) place
-              (in_log (c.segment.first - 1, c.segment.opening)
-              (head_among (c.segment.first - 1) c.segment.opening
-              (links_from c.segment.first c.segment.entries)));
+          last = omega (arith, spans, first);
+          part = segment_is_part w.roster log s own fits given.closed closing apart;
+          opening = subst (λ n. IsAmong (n, s.opening) (pairs_of log)) place
+              (segment_opens w.roster log s own fits given.closed closing apart);
         },
-        in_log,
+        λ q j.
+            segment_in_log w.roster log s own fits given.closed closing apart q.0 q.1 j,
       )
 
   -- ---- a segment is filed
@@ -162,15 +176,17 @@ module _ (w : Watched) (log : List Entry) (one : OneHashAtANumber) (is : IsLog l
       → Did past p None None (Some j) NoAudit → Trusted past → Trusted (p ∷ past)
   files_on past p j out did g =
       let end : End = end_of w past in
-      let f = goes_on w.roster log end.number end.state j.segment.segment g.reached
+      let s = j.segment.segment in
+      let f = goes_on w.roster log end.number end.state s g.reached
       (subst (StageFits end) out g.stage) in
+      let verdict : verdict_on w.roster end.state j ≡ Sound f.after f.found = f.sound in
       let moved : end_of w (p ∷ past)
-      ≡ record { number = j.segment.segment.closing.word; state = f.after } =
-      ap (end_after w.roster end) did.files ∙ ap (moved_by end j.segment.segment.closing.word) f.sound in
+      ≡ record { number = last_of s; state = f.after } =
+      ap (end_after w.roster end) did.files ∙ ap (moved_by end (last_of s)) verdict in
       record {
         shown_in = shown_on past p None None did.notes did.accepts nothing_in nothing_in g.shown_in;
         no_fault = ap (λ x. finds_fault w.roster end.state x || has_fault w past) did.files
-            ∙ (ap (λ v. is_fault v || has_fault w past) f.sound ∙ g.no_fault);
+            ∙ (ap (λ v. is_fault v || has_fault w past) verdict ∙ g.no_fault);
         reached = subst IsReached (sym moved) f.reached;
         stage = subst (StageFits (end_of w (p ∷ past))) (sym did.stage) tt;
       }
@@ -178,7 +194,7 @@ module _ (w : Watched) (log : List Entry) (one : OneHashAtANumber) (is : IsLog l
   -- ---- all steps
 
   one_step : (past : Past) (p : Step × Reply) → Doing w past p → IsCheckedStep w p.0
-      → AllByRecursion (IsUnforged w.roster w.member.node log) (authenticators_in p.0)
+      → AreUnforged (authenticators_in p.0)
       → Within (texts_in p.0) all
       → Trusted past → Trusted (p ∷ past)
   one_step past p (Nothing did) checked unforged within g =
@@ -186,17 +202,13 @@ module _ (w : Watched) (log : List Entry) (one : OneHashAtANumber) (is : IsLog l
   one_step past p (Notes a same did) checked unforged within g =
       let learned : IsLearned w a = subst (IsCheckedStep w) same checked in
       let free =
-      subst
-      (λ s. AllByRecursion (IsUnforged w.roster w.member.node log)
-      (authenticators_in s)) same unforged in
+      subst (λ s. AreUnforged (authenticators_in s)) same unforged in
       unfiled past p (Some a) None (stage_of past) did
       (noted_in (is_exposed w past) a (free.0 learned.node learned.signed)) nothing_in g.stage g
   one_step past p (Accepts c same wanted did) checked unforged within g =
       let given : IsGiven w c = subst (IsCheckedStep w) same checked in
       let free =
-      subst
-      (λ s. AllByRecursion (IsUnforged w.roster w.member.node log)
-      (authenticators_in s)) same unforged in
+      subst (λ s. AreUnforged (authenticators_in s)) same unforged in
       let first : c.segment.first ≡ (end_of w past).number + 1 =
       subst (StageFits (end_of w past)) wanted g.stage in
       let next = next_in (end_of w past) c given (free.0 given.node given.closed.signed)
@@ -218,13 +230,14 @@ module _ (w : Watched) (log : List Entry) (one : OneHashAtANumber) (is : IsLog l
   all_parts P (x ∷ xs) ys h = let k = all_parts P xs ys h.1 in ((h.0, k.0), k.1)
 
   trusted : (past : Past) (states : List State)
-      → Honest w.roster (opening_of w.member) (placed 1 zeros log) states
+      → Honest w.roster (opening_of w.member) (logged_places 0 zeros log) states
       → AreOwed w past → AreChecked w past
-      → AllByRecursion (IsUnforged w.roster w.member.node log) (flat_map (λ p. authenticators_in p.0) past)
+      → AreUnforged (flat_map (λ p. authenticators_in p.0) past)
       → Within (flat_map (λ p. texts_in p.0) past) all → Trusted past
   trusted [] states honest owed checked unforged within = record {
     shown_in = λ q i. elim i [
-      | inl e ↦ subst (λ r. IsAmong r (log_pairs log)) (sym e) (head_among 0 zeros (links_from 1 log))
+      | inl e ↦ subst (λ r. IsAmong r (marks_of log)) (sym e)
+          (pair_is_mark 0 zeros (log_links log) (0, zeros) (head_among 0 zeros (log_links log)))
       | inr j ↦ absurd j
     ];
     no_fault = refl;
@@ -232,7 +245,8 @@ module _ (w : Watched) (log : List Entry) (one : OneHashAtANumber) (is : IsLog l
     stage = tt;
   }
   trusted (p ∷ past) states honest owed checked unforged within =
-      let parts = all_parts (IsUnforged w.roster w.member.node log) (authenticators_in p.0)
+      let parts = all_parts (IsUnforgedIn w.member.log_version w.roster w.member.node log)
+      (authenticators_in p.0)
       (flat_map (λ q. authenticators_in q.0) past) unforged in
       let texts = flat_map (λ (q : Step × Reply). texts_in q.0) past in
       one_step past p (doing w past p.0 p.1 owed.0) checked.0 parts.0
@@ -242,11 +256,11 @@ module _ (w : Watched) (log : List Entry) (one : OneHashAtANumber) (is : IsLog l
 
   -- it isn't exposed
   pub not_exposed : (past : Past) (states : List State)
-      → Honest w.roster (opening_of w.member) (placed 1 zeros log) states
+      → Honest w.roster (opening_of w.member) (logged_places 0 zeros log) states
       → AreOwed w past → AreChecked w past
-      → AllByRecursion (IsUnforged w.roster w.member.node log) (flat_map (λ p. authenticators_in p.0) past)
+      → AreUnforged (flat_map (λ p. authenticators_in p.0) past)
       → Within (flat_map (λ p. texts_in p.0) past) all → is_exposed w past ≡ false
   not_exposed past states honest owed checked unforged within =
       let g = trusted past states honest owed checked unforged within in
       or_from (has_fork (shown w past)) (has_fault w past)
-      (no_fork log one (shown w past) g.shown_in) g.no_fault
+      (no_fork log (shown w past) g.shown_in) g.no_fault

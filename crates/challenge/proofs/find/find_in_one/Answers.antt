@@ -1,6 +1,6 @@
 use Rattle.std.proofs.Common.{◌≡◌, true, false, refl, sym, ◌∙◌, inr}
 use Rattle.secure_log.specs.LogEntries.Chain.{zeros}
-use Rattle.evidence_showings.specs.Marks.{mark_in}
+use Rattle.secure_log.specs.Marks.{mark_in}
 use Rattle.challenge.proofs.Found.{no_hash, same_zeros, accepts_one}
 use Rattle.challenge.proofs.find.find_in_one.Goals as goal
 

@@ -1,5 +1,5 @@
 use Rattle.std.proofs.Common.{◌≡◌, true, false, refl, sym, ◌∙◌, inr}
-use Rattle.evidence_showings.specs.Marks.{mark_in}
+use Rattle.secure_log.specs.Marks.{mark_in}
 use Rattle.challenge.proofs.Found.{no_first, no_second, same_marks, accepts_two}
 use Rattle.challenge.proofs.find.find_in_two.Goals as goal
 

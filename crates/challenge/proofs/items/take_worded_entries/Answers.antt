@@ -6,7 +6,7 @@ use Rattle.authenticator.specs.declared.member.LogVersion.TheVariants.{Two}
 use Rattle.secure_log.specs.LogEntries.Entry.{entry_value}
 use Rattle.secure_log.specs.Versioned.{logged_item, worded_values}
 use Rattle.evidence_showings.specs.evidence_spec.Evidence.{MAX_AUDITED}
-use Rattle.challenge.proofs.Logs.{worded_more}
+use Rattle.secure_log.proofs.VersionedTexts.{worded_more}
 use Rattle.challenge.proofs.items.take_worded_entries.Goals as goal
 
 pub returns-in_err-word-clause-text : goal.returns-in_err-word-clause-text

@@ -5,8 +5,8 @@ use Rattle.authenticator.specs.Signed.{authenticator_value}
 use Rattle.secure_log.specs.LogEntries.Entry.{entry_value}
 use Rattle.secure_log.specs.Segment.{SegmentParts, bounded_item, segment_value}
 use Rattle.secure_log.proofs.Entries.{read_fits}
+use Rattle.secure_log.proofs.VersionedTexts.{plain_text}
 use Rattle.evidence_showings.specs.evidence_spec.Evidence.{MAX_AUDITED}
-use Rattle.challenge.proofs.Logs.{plain_text}
 use Rattle.challenge.proofs.read.take_log.Goals as goal
 
 -- what was taken has spellings

@@ -2,8 +2,8 @@ use Rattle.std.proofs.Common.{◌≡◌, Ok, rules, arith}
 use Rattle.xdr.specs.Reading.{read_at}
 use Rattle.authenticator.specs.declared.member.LogVersion.TheVariants.{Two}
 use Rattle.secure_log.specs.Versioned.{WordedParts, worded_value}
-use Rattle.evidence_showings.specs.evidence_spec.Evidence.{replay_item}
-use Rattle.challenge.proofs.Logs.{words_fit}
+use Rattle.evidence_showings.specs.evidence_spec.Evidence.{MAX_AUDITED, replay_item}
+use Rattle.secure_log.proofs.VersionedTexts.{words_fit}
 use Rattle.challenge.proofs.read.take_worded_log.Goals as goal
 
 -- what was taken has spellings
@@ -21,6 +21,6 @@ new-requires c =
       omega arith,
       (
         c.in_ok-words.ensures.count,
-        words_fit c.args.source.now c.take_authenticator.new.source w (rw c.rest.ensures at c.are_bytes.ensures) whole,
+        words_fit MAX_AUDITED c.args.source.now c.take_authenticator.new.source w (rw c.rest.ensures at c.are_bytes.ensures) whole,
       ),
     )

@@ -6,7 +6,7 @@ returns-clause-showing c = λ v ms log s number mark is fits closed i unlike.
     showing_in_log v ms log s is fits closed i unlike number mark
 
 pub returns-clause-segment : goal.returns-clause-segment
-returns-clause-segment c = λ ms log s is fits some closed i unlike. (
-  segment_is_part ms log s is fits some closed i unlike,
-  segment_in_log ms log s is fits some closed i unlike,
+returns-clause-segment c = λ ms log s is fits closed i unlike. (
+  segment_is_part ms log s is fits.text closed i unlike,
+  segment_in_log ms log s is fits.text closed i unlike,
 )

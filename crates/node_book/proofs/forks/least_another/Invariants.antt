@@ -4,5 +4,5 @@ use Rattle.node_book.proofs.forks.least_another.Given as goal
 
 abbrev pub invariant-loop-authenticator : goal.invariant-loop-authenticator
 invariant-loop-authenticator l =
-    least_from l.closed.segment l.least (drop l.authenticator-index l.learned)
-    ≡ least_from l.closed.segment None l.learned
+    least_from l.version l.closed.segment l.least (drop l.authenticator-index l.learned)
+    ≡ least_from l.version l.closed.segment None l.learned

@@ -1,7 +1,7 @@
 use Rattle.std.proofs.Common.{rules}
 use Rattle.node_book.specs.Events.{step_in}
 use Rattle.node_book.specs.Stepping.{NotedSteps}
-use Rattle.witness_books.proofs.Places.{is_found, is_here, here_ready, here_does}
+use Rattle.witness_books.proofs.Places.{is_found, is_here, here_ready, here_of_log, here_does}
 use Rattle.witness_books.proofs.books.noted_step_of.Goals as goal
 
 pub unwrap-place-requires : goal.unwrap-place-requires
@@ -17,10 +17,20 @@ index_mut-requires c =
     let inside = here.inside in
     search (rules, inside)
 
-pub noted_step-requires : goal.noted_step-requires
-noted_step-requires c =
+pub noted_step-requires-clause-ready : goal.noted_step-requires-clause-ready
+noted_step-requires-clause-ready c =
     here_ready c.books_are_ready.ensures.ready c.args.roster.now c.args.member.now c.args.books.now.items
     c.unwrap-place.result c.index_mut.result.now c.requires.ready c.requires.member
+    (is_here c.args.roster.now c.members.result.now c.args.member.now.node c.args.books.now.items
+    c.place_of.result c.unwrap-place.result c.requires.ready c.members.ensures c.place_of.ensures
+    c.unwrap-place.ensures)
+    c.index_mut.ensures.value
+
+pub noted_step-requires-clause-of_log : goal.noted_step-requires-clause-of_log
+noted_step-requires-clause-of_log c =
+    here_of_log c.books_are_ready.ensures.ready c.args.roster.now c.args.member.now c.args.books.now.items
+    c.unwrap-place.result c.index_mut.result.now (step_in c.args.step) c.requires.ready c.requires.member
+    c.requires.of_log
     (is_here c.args.roster.now c.members.result.now c.args.member.now.node c.args.books.now.items
     c.place_of.result c.unwrap-place.result c.requires.ready c.members.ensures c.place_of.ensures
     c.unwrap-place.ensures)

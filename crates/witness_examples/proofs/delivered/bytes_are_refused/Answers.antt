@@ -1,5 +1,6 @@
 use Rattle.std.proofs.Common.{refl, sym, subst, [], ◌∷◌}
 use Rattle.xdr.specs.Reading.{number_at}
+use Rattle.xdr.specs.Texts.Text.{text_at}
 use Rattle.packets.specs.Packet.{delivery_of}
 use Rattle.packets.specs.Judging.{judged}
 use Rattle.witness_spec.specs.Refusals.{UnknownNode, BadSignature}
@@ -19,6 +20,10 @@ returns-clause-none c = λ history. refl
 pub returns-clause-kind : goal.returns-clause-kind
 unfolding judged delivery_of number_at
 returns-clause-kind c = λ history. refl
+
+pub returns-clause-short : goal.returns-clause-short
+unfolding judged delivery_of number_at text_at
+returns-clause-short c = λ history. refl
 
 pub returns-clause-stranger : goal.returns-clause-stranger
 returns-clause-stranger c = λ history.

@@ -5,7 +5,7 @@ use Rattle.secure_log.specs.LogEntries.Chain.{zeros, link_of}
 use Rattle.secure_log.specs.declared.log_entries.entry.Entry.TheVariants.{Clock}
 use Rattle.replay_spec.specs.Stepping.{step}
 use Rattle.witness_spec.specs.Events.{ItsIndication, ItsEvidence}
-use Rattle.witness_spec.specs.evidence_spec.Showing.{segment_showing}
+use Rattle.witness_spec.specs.evidence_spec.Showing.{versioned_showing}
 use Rattle.witness_spec.specs.Replies.{Told, EvidenceIs, Accepted, Exposed}
 use Rattle.witness_spec.specs.Steps.{Answer, Ask}
 use Rattle.witness_spec.specs.Standing.{is_exposed}
@@ -36,7 +36,7 @@ not_yet =
     (rw (list_same zeros zeros refl, list_same read_hash read_hash refl) refl)
 
 charged : new_charge node_five later_wanted (Answer later_closed) Accepted
-    ≡ Some (forked 1 (segment_showing segment) (Some (segment_showing later_segment))).charge
+    ≡ Some (forked 1 (versioned_showing segment) (Some (versioned_showing later_segment))).charge
 unfolding step
 charged =
     rw (

@@ -5,7 +5,7 @@ use Rattle.authenticator.specs.declared.member.LogVersion.TheVariants.{One}
 use Rattle.secure_log.specs.LogEntries.Chain.{zeros, hash_after, link_of}
 use Rattle.secure_log.specs.declared.log_entries.entry.Entry.TheVariants.{Clock}
 use Rattle.replay_spec.specs.Stepping.{step}
-use Rattle.witness_spec.specs.evidence_spec.Showing.{authenticator_showing, segment_showing}
+use Rattle.witness_spec.specs.evidence_spec.Showing.{authenticator_showing, versioned_showing}
 use Rattle.witness_spec.specs.Events.{ItsIndication, ItsEvidence}
 use Rattle.witness_spec.specs.Replies.{Noted, Already, Told, EvidenceIs, Exposed}
 use Rattle.witness_spec.specs.Steps.{Learn, Ask}
@@ -32,12 +32,14 @@ forks =
     (rw (short_first 1 zeros (link_of 1 (Clock 1 0))) refl)
 
 below_charge : new_charge node_five two_filed (Learn (learned 1 one_hash)) Noted
-    ≡ Some (forked 1 (segment_showing two_segment) (Some (authenticator_showing One (learned 1 one_hash)))).charge
+    ≡ Some (forked 1 (versioned_showing two_segment)
+    (Some (authenticator_showing One (learned 1 one_hash)))).charge
 unfolding step
 below_charge = rw (short_first 1 zeros (link_of 1 (Clock 1 0))) refl
 
 end_charge : new_charge node_five two_filed (Learn (learned 2 one_hash)) Noted
-    ≡ Some (forked 2 (segment_showing two_segment) (Some (authenticator_showing One (learned 2 one_hash)))).charge
+    ≡ Some (forked 2 (versioned_showing two_segment)
+    (Some (authenticator_showing One (learned 2 one_hash)))).charge
 unfolding step
 end_charge =
     rw (short_first 1 (hash_after zeros (link_of 1 (Clock 1 0))) (link_of 2 (Clock 2 0))) refl

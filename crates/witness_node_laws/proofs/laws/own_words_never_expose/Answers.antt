@@ -1,4 +1,5 @@
 use Rattle.witness_laws.specs.witness_spec.Histories.{own}
+use Rattle.witness_laws.specs.witness_spec.Watched.{watched}
 use Rattle.witness_node_laws.proofs.Own.{unforged, unlike_texts}
 use Rattle.witness_node_laws.proofs.laws.own_words_never_expose.Goals as goal
 
@@ -10,4 +11,5 @@ returns c = λ plain m history listed member h all unlike.
     let each = c.a_log_has_one_pair_for_each_place.ensures.each in
     let of_log = c.what_a_sender_shows_is_of_its_log.ensures.authenticator in
     c.a_node_is_never_exposed.ensures plain m history listed member h
-    (unforged each of_log n n.roster m.node past all) (unlike_texts each of_log n past all unlike)
+    (unforged each of_log n (watched n.roster m) listed.key.version past all)
+    (unlike_texts each of_log n past all unlike)

@@ -1,6 +1,7 @@
 use Rattle.std.proofs.Common.{List, map, ap, subst, ◌∙◌}
 use Rattle.node_book.specs.witness_spec.Contract.{IsNotedStep}
 use Rattle.node_book.specs.witness_book_laws.Books.{Book, parts_of}
+use Rattle.node_book.specs.witness_spec.Watched.{watched}
 use Rattle.node_book.specs.Events.{event_in, step_in}
 use Rattle.node_book.specs.Replies.{reply_in}
 use Rattle.witness_books.specs.Books.{BooksParts, parts_in}
@@ -13,6 +14,11 @@ pub noted_step_of-requires-clause-member : goal.noted_step_of-requires-clause-me
 noted_step_of-requires-clause-member c =
     its_member c.self.inside.roster (event_in c.args.event) c.in-Step.member (step_in c.in-Step.step)
     c.in-Step.ensures.goes
+
+pub noted_step_of-requires-clause-of_log : goal.noted_step_of-requires-clause-of_log
+noted_step_of-requires-clause-of_log c =
+    c.books_are_ready.ensures.of_log (watched c.self.inside.roster c.in-Step.member) (event_in c.args.event)
+    (step_in c.in-Step.step) c.route.ensures.is_event c.in-Step.ensures.goes.whose_is
 
 pub invariant_of-self : goal.invariant_of-self
 invariant_of-self c =

@@ -1,4 +1,5 @@
 use Rattle.std.proofs.Common.{sym, subst}
+use Rattle.secure_log.specs.LogEntries.Chain.{without_gaps}
 use Rattle.witness_spec.specs.Watched.{watched}
 use Rattle.witness_spec.specs.Premises.{NoCollisionWith, Unforged}
 use Rattle.witness_examples.specs.Signed.Audited.{readings}
@@ -11,8 +12,9 @@ returns-clause-honest c = reading_honest
 
 pub returns-clause-unforged : goal.returns-clause-unforged
 returns-clause-unforged c = λ secret.
-    subst (Unforged (watched (alone secret) (client secret)) readings) (sym (own_all secret))
+    subst (Unforged (watched (alone secret) (client secret)) (without_gaps readings)) (sym (own_all secret))
     (unforged secret)
 
 pub returns-clause-unlike : goal.returns-clause-unlike
-returns-clause-unlike c = λ secret. subst (NoCollisionWith readings) (sym (own_all secret)) (unlike secret)
+returns-clause-unlike c = λ secret.
+    subst (NoCollisionWith (without_gaps readings)) (sym (own_all secret)) (unlike secret)

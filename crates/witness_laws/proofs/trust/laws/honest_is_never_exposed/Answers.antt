@@ -1,9 +1,7 @@
 use Rattle.std.proofs.Common.{flat_map, ◌++◌, sym, ◌∙◌}
 use Rattle.std.proofs.lemmas.Bool.{true≢false}
-use Rattle.witness_spec.proofs.evidence_spec.Places.{one_hash, entries_numbered}
 use Rattle.secure_log.proofs.OfLogEntries.FewerTexts.{left, right}
-use Rattle.secure_log.specs.LogEntries.Chain.{zeros, links_from}
-use Rattle.witness_spec.specs.evidence_spec.Proving.{log_texts}
+use Rattle.witness_spec.specs.evidence_spec.Proving.{texts_of}
 use Rattle.witness_spec.specs.Histories.{own_of}
 use Rattle.witness_spec.specs.Premises.{texts_in}
 use Rattle.witness_laws.proofs.OwnSteps.{own_owed}
@@ -18,8 +16,6 @@ returns c = λ w history log s member h is honest unforged unlike told.
     let past = own_of w history in
     let texts = flat_map (λ p. texts_in p.0) past in
     true≢false (sym (exposed_is w past told)
-    ∙ not_exposed w log
-    (λ l n a b i j. one_hash 0 zeros (links_from 1 l) n a b (entries_numbered 1 l) i j) is
-    (log_texts log ++ texts) unlike (left (log_texts log) texts) past honest.states honest.honest
-    (own_owed w member history h) (own_checked w member history h) unforged
-    (right (log_texts log) texts))
+    ∙ not_exposed w member log is (texts_of log ++ texts) unlike (left (texts_of log) texts) past honest.states
+    honest.honest (own_owed w member history h) (own_checked w member history h) unforged
+    (right (texts_of log) texts))
