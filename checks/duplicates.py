@@ -12,7 +12,6 @@ FIELDS = "a pattern names each field of an entry"
 ORDER = "the refusals of a check in their order, with a cache of signatures and without"
 SHAPE = "proofs of two functions of one shape, whose goals have names of their own"
 LENDS = "segments of logs of version 1, and of either version, lend their parts alike"
-CLOSES = "the number that closes the links of a showing, and of a segment"
 
 # Pairs of files whose lines may agree, each with the reason. Paths begin at crates/.
 ALIKE = {
@@ -35,13 +34,12 @@ ALIKE = {
     ("secure_log/proofs/entry_places/places_of/Answers.antt", "secure_log/proofs/logged/logged_end/Answers.antt"): SHAPE,
     ("secure_log/proofs/entry_places/places_of/Answers.antt",
      "secure_log/proofs/entry_places/places_of/Answers.antt"): SHAPE,
-    ("secure_log/proofs/versioned/VersionedSegment/ends/Answers.antt",
-     "secure_log/proofs/versioned/VersionedSegment/places/Answers.antt"): SHAPE,
-    ("evidence_showings/proofs/showing/Showing/of_closed/Answers.antt",
-     "evidence_showings/proofs/showing/Showing/of_closed/Answers.antt"): SHAPE,
-    ("replay/proofs/verdict/replay_versioned/Answers.antt", "replay/proofs/verdict/replay_versioned/Answers.antt"): SHAPE,
+    ("secure_log/proofs/versioned/BoundedSegment/ends/Answers.antt",
+     "secure_log/proofs/versioned/BoundedSegment/places/Answers.antt"): SHAPE,
+    ("evidence_showings/proofs/showing/Showing/of_segment/Answers.antt",
+     "evidence_showings/proofs/showing/Showing/of_segment/Answers.antt"): SHAPE,
+    ("replay/proofs/verdict/replay/Answers.antt", "replay/proofs/verdict/replay/Answers.antt"): SHAPE,
     ("secure_log/src/segment.rt", "secure_log/src/versioned.rt"): LENDS,
-    ("evidence_spec/proofs/Gaps.antt", "secure_log/proofs/Gaps.antt"): CLOSES,
 }
 
 SKIPPED = re.compile(r"^(\s*(//|--).*|\s*(pub |ghost )*use .*|\s*[\]\[(){};,.]*\s*)$")

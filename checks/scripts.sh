@@ -29,7 +29,8 @@ said_is() {
 # Each story prints what stands beside it, from a file and from standard input.
 check_stories() {
     local story
-    for story in lie later_lie fork accusation challenged challenges no_keys last_keys any_order nothing times round flood; do
+    for story in lie later_lie fork accusation challenged challenges no_keys last_keys any_order nothing times round flood \
+        gaps/honest gaps/lie gaps/skips; do
         : > in
         run 0 run "$stories/$story.script"
         cmp -s out "$stories/$story.printed" || fail "$story: it printed" out
@@ -45,8 +46,10 @@ check_stories() {
     [ "$(cat out)" = 'exposed 1' ] || fail 'the evidence of the lie' out
     run 0 check fork.evidence
     [ "$(cat out)" = 'exposed 2' ] || fail 'the evidence of the fork' out
+    run 0 check gaps_lie.evidence
+    [ "$(cat out)" = 'exposed 1' ] || fail 'the evidence of the lie after a gap' out
     [ ! -e none.evidence ] || fail 'there is evidence of a false accusation' out
-    echo 'thirteen stories print what they should, and leave evidence where somebody is exposed'
+    echo 'sixteen stories print what they should, and leave evidence where somebody is exposed'
 }
 
 # Lines that are bad, as the first one and after others; one of a megabyte; thousands that are passed over before one.

@@ -6,6 +6,7 @@ ghost use Rattle.std.specs.Prelude.{◌≤◌};
 use crate::closed::{ClosedText, closed_text};
 use crate::logs::{appends, has_length};
 use acceptance_helpers::MASTER;
+use authenticator::LogVersion;
 use merkle_keys::{SignFault, Signer, verify};
 use secure_log::log_entries::{Body, Entry};
 use secure_log::{ClosedSegment, Log, check_segment};
@@ -115,7 +116,7 @@ fn a_longer_body_is_none(rt: HostRuntime) {
 
 /// A log of this many SENDs with bodies of this many bytes.
 fn log_of_sends(alloc: Global, count: u32, body: usize) -> Option<Log> {
-    let mut log = Log::new(alloc, 1);
+    let mut log = Log::new(alloc, 1, LogVersion::One);
     for _ in 0..count {
         if !appends(&mut log, send_of(alloc, body)) {
             return None;
@@ -133,7 +134,7 @@ fn is_written(alloc: Global, closed: &ClosedSegment, text: &[u8]) -> bool {
 /// Whether a check takes a text of this length and gives a segment with the same text.
 fn is_checked(alloc: Global, closed: &ClosedText, length: usize) -> bool {
     closed.text.len() == length
-        && match check_segment(alloc, &closed.roster, &closed.text) {
+        && match check_segment(alloc, &closed.roster, LogVersion::One, &closed.text) {
             Ok(segment) => is_written(alloc, &segment, &closed.text),
             Err(_) => false,
         }

@@ -1,6 +1,6 @@
 //! Hashes of logs, texts of entries and parts of logs, against an independent program's and the rules.
 
-use authenticator::Word;
+use authenticator::{LogVersion, Word};
 use secure_log::log_entries::{Body, Entry, SignatureText};
 use secure_log::{Log, SegmentFault};
 use std::alloc::Global;
@@ -33,7 +33,7 @@ fn clock(seconds: u32) -> Entry {
 
 /// A log of this many entries, each a CLOCK with its number in seconds.
 pub fn log_of_clocks(alloc: Global, count: u32) -> Option<Log> {
-    let mut log = Log::new(alloc, 1);
+    let mut log = Log::new(alloc, 1, LogVersion::One);
     for number in 1..=count {
         if !appends(&mut log, Some(clock(number))) {
             return None;
@@ -99,7 +99,10 @@ fn appends_reserved(log: &mut Log) -> bool {
         if log.spare() == 0 {
             return false;
         }
-        log.append_reserved(clock(number));
+        match log.log_version() {
+            LogVersion::One => log.append_reserved(0, clock(number)),
+            LogVersion::Two => return false,
+        }
     }
     log.spare() == 0
 }
@@ -170,8 +173,16 @@ fn ack(alloc: Global) -> Option<Entry> {
 /// Appends an entry, where there is one.
 pub fn appends(log: &mut Log, entry: Option<Entry>) -> bool {
     match entry {
-        Some(entry) => log.append(entry).is_ok(),
+        Some(entry) => adds(log, entry),
         None => false,
+    }
+}
+
+/// Appends an entry to a log of version 1.
+fn adds(log: &mut Log, entry: Entry) -> bool {
+    match log.log_version() {
+        LogVersion::One => log.append(0, entry).is_ok(),
+        LogVersion::Two => false,
     }
 }
 
@@ -227,7 +238,7 @@ fn have_lengths(alloc: Global, log: &Log) -> bool {
 
 /// Whether a log with an entry of each kind has another program's hash, and its entries read back.
 fn is_of_each_kind(alloc: Global) -> bool {
-    let mut log = Log::new(alloc, 1);
+    let mut log = Log::new(alloc, 1, LogVersion::One);
     appends_each_kind(alloc, &mut log)
         && log.hash_at(5) == Some(FIFTH_HASH)
         && have_lengths(alloc, &log)
@@ -236,4 +247,27 @@ fn is_of_each_kind(alloc: Global) -> bool {
 #[test]
 fn each_kind_is_hashed_and_read_back(rt: HostRuntime) {
     assert!(rt; is_of_each_kind(rt.alloc()));
+}
+
+/// The hash of a log whose first entry is CLOCK (1, 0), before which numbers 1 to 5 are skipped.
+const SIXTH_HASH: [u8; 32] = [
+    0xdb, 0xc6, 0x1d, 0x45, 0xe1, 0xaa, 0x35, 0x9c, 0x59, 0x52, 0xa3, 0x52, 0xc5, 0xea, 0x8a, 0xfa,
+    0x1a, 0xe4, 0xcd, 0xbd, 0x38, 0x27, 0xc2, 0x20, 0xbc, 0xef, 0x9b, 0xce, 0xd5, 0xe8, 0x3a, 0x98,
+];
+
+/// Whether a log whose first entry has number 6 has another program's hash there, and none at the numbers that
+/// it skips.
+fn is_of_sixth(alloc: Global) -> bool {
+    let mut log = Log::new(alloc, 1, LogVersion::Two);
+    log.append(5, clock(1)).is_ok()
+        && log.last_number().get() == 6
+        && log.hash_at(6) == Some(SIXTH_HASH)
+        && log.hash_at(5).is_none()
+        && log.segment(1, 6).is_ok()
+        && log.segment(4, 6).err() == Some(SegmentFault::OutOfRange)
+}
+
+#[test]
+fn a_log_with_a_gap_has_its_hash(rt: HostRuntime) {
+    assert!(rt; is_of_sixth(rt.alloc()));
 }

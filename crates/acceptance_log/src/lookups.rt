@@ -6,16 +6,16 @@ use commitment::senders::Sender;
 use secure_log::log_entries::Entry;
 use std::alloc::Global;
 
-/// Logs a CLOCK, with memory reserved for it.
+/// Logs a CLOCK, with memory reserved for it and a number.
 fn reads_clock(client: &mut Sender) -> bool {
-    let reserved = client.reserve(1, 0).is_ok();
-    if reserved {
+    let ready = client.reserve(1, 0).is_ok() && !client.lacks_numbers(1);
+    if ready {
         client.append_unsigned(Entry::Clock {
             seconds: 1,
             microseconds: 0,
         });
     }
-    reserved
+    ready
 }
 
 /// Logs a SEND, a CLOCK and a SEND.

@@ -2,7 +2,7 @@
 //! refused: the proof of a function takes its time by what it owns at how many exits.
 
 use acceptance_helpers::{MASTER, client, roster_of, server};
-use authenticator::Roster;
+use authenticator::{LogVersion, Roster};
 use commitment::Receiver;
 use commitment::senders::Sender;
 use secure_log::log_entries::Body;
@@ -15,7 +15,7 @@ const CLIENT: [u8; 32] = [
 
 /// The client, node 2, with eight keys.
 pub fn new_client(alloc: Global) -> Option<Sender> {
-    Sender::new(alloc, 2, CLIENT, 3).ok()
+    Sender::new(alloc, 2, LogVersion::One, CLIENT, 3).ok()
 }
 
 /// The roster of a server with this root, and the client.
@@ -28,7 +28,7 @@ fn roster_with(alloc: Global, root: [u8; 32]) -> Option<Roster> {
 
 /// The server, node 1, with two keys, which receives from the client.
 pub fn new_server(alloc: Global) -> Option<Receiver> {
-    match Sender::new(alloc, 1, MASTER, 1) {
+    match Sender::new(alloc, 1, LogVersion::One, MASTER, 1) {
         Ok(sender) => match roster_with(alloc, sender.root()) {
             Some(roster) => Some(Receiver::new(alloc, sender, roster)),
             None => None,

@@ -3,7 +3,7 @@
 use crate::closed::{ClosedText, closed_text};
 use crate::logs::log_of_clocks;
 use crate::nodes::flip;
-use authenticator::Roster;
+use authenticator::{LogVersion, Roster};
 use secure_log::{SegmentFault, check_segment};
 use std::alloc::Global;
 
@@ -18,7 +18,7 @@ fn one_clock(alloc: Global) -> Option<ClosedText> {
 /// Whether a text is garbage where it is cut.
 fn is_garbage_cut(alloc: Global, roster: &Roster, text: &[u8]) -> bool {
     for len in 0..text.len() {
-        let fault = check_segment(alloc, roster, &text[..len]).err();
+        let fault = check_segment(alloc, roster, LogVersion::One, &text[..len]).err();
         if fault != Some(SegmentFault::Garbage) {
             return false;
         }
@@ -35,7 +35,7 @@ fn fault_changed(
     bits: u8,
 ) -> Option<SegmentFault> {
     flip(text, place, bits);
-    let fault = check_segment(alloc, roster, text).err();
+    let fault = check_segment(alloc, roster, LogVersion::One, text).err();
     flip(text, place, bits);
     fault
 }

@@ -4,7 +4,7 @@ use crate::parties::{
     CALL, SERVER, ack_text, called, envelope_text, holds_of, joined, new_client, new_server,
     of_both,
 };
-use authenticator::Number;
+use authenticator::{LogVersion, Number};
 use commitment::{Received, Refusal};
 use nfs_items::Time;
 use nodes::{AckTaken, ClientNode, Direct, Link, LinkFault, NodeLog, Receipt, ServerNode};
@@ -143,7 +143,7 @@ fn each_step_is_logged_once(rt: HostRuntime) {
 
 /// Whether a text is that of a segment of so many entries whose signature is right.
 fn is_closed(alloc: Global, node: &NodeLog, text: &[u8], count: usize) -> bool {
-    match check_segment(alloc, node.roster(), text) {
+    match check_segment(alloc, node.roster(), LogVersion::One, text) {
         Ok(closed) => closed.segment().entries().len() == count,
         Err(_) => false,
     }

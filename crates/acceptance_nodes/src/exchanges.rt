@@ -42,7 +42,14 @@ fn roster(alloc: Global) -> Option<Roster> {
 /// The server.
 pub fn new_server(alloc: Global) -> Option<ServerNode> {
     match signer(alloc, 1) {
-        Some(keys) => ServerNode::with_signer(alloc, roster(alloc)?, 1, keys, HEIGHT).ok(),
+        Some(keys) => ServerNode::with_signer(
+            alloc,
+            roster(alloc)?,
+            1,
+            LogVersion::One,
+            keys,
+            HEIGHT,
+        ).ok(),
         None => None,
     }
 }
@@ -51,7 +58,15 @@ pub fn new_server(alloc: Global) -> Option<ServerNode> {
 pub fn new_client(alloc: Global, node: u8) -> Option<ClientNode> {
     match signer(alloc, node) {
         Some(keys) => {
-            ClientNode::with_signer(alloc, roster(alloc)?, node as u32, keys, HEIGHT).ok()
+            ClientNode::with_signer(
+                alloc,
+                roster(alloc)?,
+                node as u32,
+                LogVersion::One,
+                keys,
+                HEIGHT,
+            )
+            .ok()
         }
         None => None,
     }

@@ -5,7 +5,7 @@
 ghost use Rattle.std.specs.Prelude.{◌≤◌};
 
 use acceptance_helpers::{client, roster_of, server};
-use authenticator::Roster;
+use authenticator::{LogVersion, Roster};
 use commitment::senders::Sender;
 use nodes::{ClientNode, Direct, NodeLog, ServerNode};
 use secure_log::log_entries::Body;
@@ -31,7 +31,7 @@ fn root(alloc: Global, node: u32, master: [u8; 32], height: u32) -> Option<[u8; 
     requires some { 1 ≤ height }
     requires low { height ≤ 16 }
 {
-    match Sender::new(alloc, node, master, height) {
+    match Sender::new(alloc, node, LogVersion::One, master, height) {
         Ok(sender) => Some(sender.root()),
         Err(_) => None,
     }
@@ -53,7 +53,15 @@ pub fn new_server(alloc: Global, height: u32) -> Option<ServerNode>
     requires low { height ≤ 16 }
 {
     match roster(alloc, height) {
-        Some(roster) => ServerNode::new(alloc, roster, SERVER, SERVER_MASTER, height).ok(),
+        Some(roster) => ServerNode::new(
+            alloc,
+            roster,
+            SERVER,
+            LogVersion::One,
+            SERVER_MASTER,
+            height,
+        )
+        .ok(),
         None => None,
     }
 }
@@ -64,7 +72,15 @@ pub fn new_client(alloc: Global, height: u32) -> Option<ClientNode>
     requires low { height ≤ 16 }
 {
     match roster(alloc, height) {
-        Some(roster) => ClientNode::new(alloc, roster, CLIENT, CLIENT_MASTER, height).ok(),
+        Some(roster) => ClientNode::new(
+            alloc,
+            roster,
+            CLIENT,
+            LogVersion::One,
+            CLIENT_MASTER,
+            height,
+        )
+        .ok(),
         None => None,
     }
 }

@@ -8,7 +8,7 @@ use challenge::{AuditedLog, Charge, Evidence, Fork, Showing};
 use envelopes::Envelope;
 use packets::{Packet, read_packet};
 use secure_log::log_entries::{Body, Entry, SignatureText, are_same_entries, copies_of};
-use secure_log::{ClosedVersioned, MAX_ENTRIES, VersionedSegment, copy_of};
+use secure_log::{BoundedSegment, ClosedSegment, MAX_ENTRIES, copy_of};
 use std::alloc::Global;
 
 fn roster_is_copied(alloc: Global, roster: &Roster) -> bool {
@@ -94,21 +94,21 @@ fn entries_are_copied(alloc: Global, entries: &[Entry]) -> bool {
     }
 }
 
-fn segment_is_copied(alloc: Global, segment: &VersionedSegment<MAX_ENTRIES>) -> bool {
+fn segment_is_copied(alloc: Global, segment: &BoundedSegment<MAX_ENTRIES>) -> bool {
     match segment.try_clone(alloc) {
         Ok(copy) => copy.is_same(segment),
         Err(_) => false,
     }
 }
 
-fn closing_is_copied(alloc: Global, segment: &VersionedSegment<MAX_ENTRIES>) -> bool {
+fn closing_is_copied(alloc: Global, segment: &BoundedSegment<MAX_ENTRIES>) -> bool {
     match copy_of(alloc, segment.closing()) {
         Ok(copy) => copy.is_same(segment.closing()),
         Err(_) => false,
     }
 }
 
-fn closed_is_copied(alloc: Global, closed: &ClosedVersioned) -> bool {
+fn closed_is_copied(alloc: Global, closed: &ClosedSegment) -> bool {
     match closed.try_clone(alloc) {
         Ok(copy) => copy.is_same(closed),
         Err(_) => false,
@@ -123,15 +123,15 @@ fn showing_is_copied(alloc: Global, showing: &Showing) -> bool {
 }
 
 /// Whether what a closed segment shows is.
-fn shown_is_copied(alloc: Global, closed: &ClosedVersioned) -> bool {
-    match Showing::of_closed(alloc, closed) {
+fn shown_is_copied(alloc: Global, closed: &ClosedSegment) -> bool {
+    match Showing::of_segment(alloc, closed) {
         Ok(showing) => showing_is_copied(alloc, &showing),
         Err(_) => false,
     }
 }
 
 /// Whether a closed segment is, with its parts and what it shows.
-fn answer_is_copied(alloc: Global, closed: &ClosedVersioned) -> bool {
+fn answer_is_copied(alloc: Global, closed: &ClosedSegment) -> bool {
     closed_is_copied(alloc, closed)
         && segment_is_copied(alloc, closed.segment())
         && closing_is_copied(alloc, closed.segment())

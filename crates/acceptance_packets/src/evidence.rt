@@ -9,7 +9,8 @@ use challenge::{
     check_evidence, examine, read_case, read_evidence, write_case,
 };
 use merkle_keys::Signer;
-use secure_log::log_entries::{Entry, entry_hash};
+use secure_log::Log;
+use secure_log::log_entries::Entry;
 use std::alloc::Global;
 
 /// What evidence holds.
@@ -73,12 +74,26 @@ fn log_of_one(alloc: Global, entry: Entry, closing: &Authenticator) -> Option<Au
     }
 }
 
-fn clock(alloc: Global, signer: &mut Signer, microseconds: u32) -> Option<Evidence> {
-    let entry = Entry::Clock {
+/// A clock reading one second and so many microseconds after the beginning.
+fn clock_entry(microseconds: u32) -> Entry {
+    Entry::Clock {
         seconds: 1,
         microseconds,
-    };
-    let hash = entry_hash(&[0; 32], 1, &entry);
+    }
+}
+
+/// The hash of the log of that entry.
+fn hash_of(alloc: Global, microseconds: u32) -> Option<[u8; 32]> {
+    let mut log = Log::new(alloc, 2, LogVersion::One);
+    match log.append(0, clock_entry(microseconds)) {
+        Ok(()) => log.hash_at(1),
+        Err(_) => None,
+    }
+}
+
+fn clock(alloc: Global, signer: &mut Signer, microseconds: u32) -> Option<Evidence> {
+    let entry = clock_entry(microseconds);
+    let hash = hash_of(alloc, microseconds)?;
     match signed(signer, 2, Number::new(1), hash) {
         Some(closing) => {
             let log = log_of_one(alloc, entry, &closing)?;

@@ -111,11 +111,14 @@ fn challenge(alloc: Global, signer: &mut Signer, of: u32) -> Option<Vec<u8>> {
 
 /// Appends CLOCK (1, 0) to a log.
 pub fn reads_clock(log: &mut Log) -> bool {
-    log.append(Entry::Clock {
+    let entry = Entry::Clock {
         seconds: 1,
         microseconds: 0,
-    })
-    .is_ok()
+    };
+    match log.log_version() {
+        LogVersion::One => log.append(0, entry).is_ok(),
+        LogVersion::Two => false,
+    }
 }
 
 /// The text of the segment of a log, with the authenticator that closes it.
@@ -147,7 +150,7 @@ pub fn closed_text(
 
 fn answer_of(alloc: Global, text: &[u8]) -> Option<Vec<u8>> {
     let mut bytes = Vec::new(alloc);
-    match write_answer_text(text, &mut bytes) {
+    match write_answer_text(LogVersion::One, text, &mut bytes) {
         Ok(()) => Some(bytes),
         Err(_) => None,
     }
@@ -163,7 +166,7 @@ fn answer_with(alloc: Global, signer: &mut Signer, log: &Log) -> Option<Vec<u8>>
 
 /// The answer of a log whose one entry is CLOCK (1, 0).
 fn answer(alloc: Global, signer: &mut Signer) -> Option<Vec<u8>> {
-    let mut log = Log::new(alloc, 1);
+    let mut log = Log::new(alloc, 1, LogVersion::One);
     if reads_clock(&mut log) {
         answer_with(alloc, signer, &log)
     } else {

@@ -1,7 +1,7 @@
 //! A server and a client of it, and what they do that they shouldn't.
 
 use acceptance_helpers::{client, roster_of, server};
-use authenticator::Roster;
+use authenticator::{LogVersion, Roster};
 use commitment::senders::Sender;
 use envelopes::Envelope;
 use nfs_items::Time;
@@ -36,10 +36,10 @@ pub struct Parties {
 
 /// The roster of the two.
 fn roster(alloc: Global) -> Option<Roster> {
-    let one = Sender::new(alloc, SERVER, SERVER_MASTER, HEIGHT)
+    let one = Sender::new(alloc, SERVER, LogVersion::One, SERVER_MASTER, HEIGHT)
         .ok()?
         .root();
-    let two = Sender::new(alloc, CLIENT, CLIENT_MASTER, HEIGHT)
+    let two = Sender::new(alloc, CLIENT, LogVersion::One, CLIENT_MASTER, HEIGHT)
         .ok()?
         .root();
     roster_of(alloc, &[server(one, HEIGHT), client(two, HEIGHT)])
@@ -48,7 +48,15 @@ fn roster(alloc: Global) -> Option<Roster> {
 /// The server, who has logged nothing.
 fn new_server(alloc: Global) -> Option<ServerNode> {
     match roster(alloc) {
-        Some(roster) => ServerNode::new(alloc, roster, SERVER, SERVER_MASTER, HEIGHT).ok(),
+        Some(roster) => ServerNode::new(
+            alloc,
+            roster,
+            SERVER,
+            LogVersion::One,
+            SERVER_MASTER,
+            HEIGHT,
+        )
+        .ok(),
         None => None,
     }
 }
@@ -56,7 +64,15 @@ fn new_server(alloc: Global) -> Option<ServerNode> {
 /// The client, as the server.
 fn new_client(alloc: Global) -> Option<ClientNode> {
     match roster(alloc) {
-        Some(roster) => ClientNode::new(alloc, roster, CLIENT, CLIENT_MASTER, HEIGHT).ok(),
+        Some(roster) => ClientNode::new(
+            alloc,
+            roster,
+            CLIENT,
+            LogVersion::One,
+            CLIENT_MASTER,
+            HEIGHT,
+        )
+        .ok(),
         None => None,
     }
 }

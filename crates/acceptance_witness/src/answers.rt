@@ -6,7 +6,7 @@ use authenticator::{Authenticator, LogVersion, Roster, check};
 use challenge::{Evidence, ReplayFault};
 use envelopes::check_envelope;
 use merkle_keys::Signer;
-use secure_log::{Log, check_versioned};
+use secure_log::{Log, check_segment};
 use std::alloc::Global;
 use std::sync::Arc;
 use witness_service::{
@@ -200,7 +200,7 @@ pub fn are_open(alloc: Global, books: &mut Books, node: u32, count: usize) -> bo
 
 /// A segment by its text, closed under a roster.
 pub fn shared(alloc: Global, roster: &Roster, text: &[u8]) -> Option<SharedSegment> {
-    match check_versioned(alloc, roster, LogVersion::One, text) {
+    match check_segment(alloc, roster, LogVersion::One, text) {
         Ok(closed) => SharedSegment::new(alloc, closed).ok(),
         Err(_) => None,
     }

@@ -5,7 +5,7 @@ use crate::members::{
     CLIENT, Handed, Shown, delivered, handed_in, keys, keys_of, roster_with, shown_of_log,
 };
 use acceptance_helpers::client;
-use authenticator::{Roster, Word};
+use authenticator::{LogVersion, Roster, Word};
 use merkle_keys::Signer;
 use secure_log::Log;
 use std::alloc::Global;
@@ -72,7 +72,7 @@ fn flood(alloc: Global, client: &mut Signer) -> Vec<Vec<u8>> {
 
 /// Node 1's log of a call of node 2.
 fn log_of_call(alloc: Global, client: &mut Signer) -> Option<Log> {
-    let mut log = Log::new(alloc, 1);
+    let mut log = Log::new(alloc, 1, LogVersion::One);
     if answers_call(alloc, &mut log, client, 1, 0) {
         Some(log)
     } else {

@@ -9,7 +9,7 @@ use crate::logs::{
 };
 use crate::members::{Parties, new_parties};
 use acceptance_helpers::signed;
-use authenticator::{Authenticator, Number, Word};
+use authenticator::{Authenticator, LogVersion, Number, Word};
 use challenge::Evidence;
 use envelopes::Envelope;
 use merkle_keys::Signer;
@@ -71,7 +71,7 @@ fn is_late(alloc: Global, books: &mut Books, client: &mut Signer) -> bool {
 
 /// The same of the client's log of two readings of its clock.
 fn a_late_replay_clears_nobody(alloc: Global, parties: &mut Parties) -> bool {
-    let mut log = Log::new(alloc, 2);
+    let mut log = Log::new(alloc, 2, LogVersion::One);
     reads_clocks(&mut log, 2)
         && is_given_to(alloc, &mut parties.books, &log, &mut parties.client, 1, 2)
         && is_late(alloc, &mut parties.books, &mut parties.client)
@@ -147,7 +147,7 @@ fn text_of(alloc: Global, message: &Option<Envelope>) -> Option<Vec<u8>> {
 /// The same of its log of a message of the server and a reading of its clock.
 fn an_exposed_book_goes_on(alloc: Global, parties: &mut Parties) -> bool {
     let message = empty_message(alloc, &mut parties.server);
-    let mut log = Log::new(alloc, 2);
+    let mut log = Log::new(alloc, 2, LogVersion::One);
     match text_of(alloc, &message) {
         Some(text) => {
             receives(&mut log, message)

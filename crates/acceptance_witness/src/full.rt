@@ -7,7 +7,7 @@ use crate::answers::{
 use crate::logs::{answers_call, reads_clocks};
 use crate::members::{CLIENT, Parties, books_of, keys, member, new_parties};
 use acceptance_helpers::signed;
-use authenticator::{Authenticator, Number, Roster};
+use authenticator::{Authenticator, LogVersion, Number, Roster};
 use merkle_keys::Signer;
 use secure_log::Log;
 use std::alloc::Global;
@@ -31,7 +31,7 @@ fn waits_for_outbox(alloc: Global, books: &mut Books, server: &mut Signer) -> bo
 
 /// Whether the outbox, in which an audit of a call left an authenticator, has no room for 4,096 more.
 fn outbox_is_full(alloc: Global, parties: &mut Parties) -> bool {
-    let mut log = Log::new(alloc, 1);
+    let mut log = Log::new(alloc, 1, LogVersion::One);
     answers_call(alloc, &mut log, &mut parties.client, 1, 0)
         && is_given_to(alloc, &mut parties.books, &log, &mut parties.server, 1, 3)
         && replays(alloc, &mut parties.books, 1, Found::Sound(1))
@@ -81,7 +81,7 @@ fn asks_no_more(alloc: Global, parties: &mut Parties) -> bool {
 
 /// Whether as many entries of the client are audited as may be, and no more.
 fn book_is_full(alloc: Global, parties: &mut Parties) -> bool {
-    let mut log = Log::new(alloc, 2);
+    let mut log = Log::new(alloc, 2, LogVersion::One);
     reads_clocks(&mut log, 65_536)
         && audits_all(alloc, parties, &log)
         && asks_no_more(alloc, parties)

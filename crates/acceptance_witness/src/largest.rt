@@ -4,10 +4,10 @@
 //! Its tree of keys has the greatest height: one of two leaves, under siblings of zeros.
 
 use crate::admitted::{Admission, admitted_as};
-use crate::logs::{answer_packet, authenticator_text, closing_at, segment_text};
+use crate::logs::{answer_packet, appends, authenticator_text, closing_at, segment_text};
 use crate::members::{CLIENT, keys, member};
 use acceptance_helpers::{roster_of, signed};
-use authenticator::{Authenticator, Number, Roster, Word, check};
+use authenticator::{Authenticator, LogVersion, Number, Roster, Word, check};
 use merkle_keys::Signer;
 use secure_log::Log;
 use secure_log::log_entries::{Body, Entry, SignatureText};
@@ -89,14 +89,14 @@ fn received(alloc: Global, body: &Body, signature: &SignatureText) -> Option<Ent
 /// Whether a message is appended.
 fn receives(alloc: Global, log: &mut Log, body: &Body, signature: &SignatureText) -> bool {
     match received(alloc, body, signature) {
-        Some(entry) => log.append(entry).is_ok(),
+        Some(entry) => appends(log, entry),
         None => false,
     }
 }
 
 /// Node 5's log of a message, as often as a segment may have it.
 fn log_of(alloc: Global, body: &Body, signature: &SignatureText) -> Option<Log> {
-    let mut log = Log::new(alloc, 5);
+    let mut log = Log::new(alloc, 5, LogVersion::One);
     for _ in 0..ENTRIES {
         if !receives(alloc, &mut log, body, signature) {
             return None;

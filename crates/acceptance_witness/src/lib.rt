@@ -14,6 +14,8 @@ mod exposed;
 #[cfg(test)]
 mod full;
 #[cfg(test)]
+mod gaps;
+#[cfg(test)]
 mod handing;
 #[cfg(test)]
 mod largest;
@@ -35,3 +37,5 @@ mod own_jobs;
 mod running;
 #[cfg(test)]
 mod together;
+#[cfg(test)]
+mod words;

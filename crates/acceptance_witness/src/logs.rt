@@ -101,7 +101,15 @@ pub fn reads_clock(log: &mut Log, seconds: u32) -> bool {
         seconds,
         microseconds: 0,
     };
-    log.append(entry).is_ok()
+    appends(log, entry)
+}
+
+/// Whether an entry is appended to a log of version 1.
+pub fn appends(log: &mut Log, entry: Entry) -> bool {
+    match log.log_version() {
+        LogVersion::One => log.append(0, entry).is_ok(),
+        LogVersion::Two => false,
+    }
 }
 
 /// Whether so many are, from 0 seconds on.
@@ -117,7 +125,7 @@ pub fn reads_clocks(log: &mut Log, count: u32) -> bool {
 /// Whether a message is appended as received.
 pub fn receives(log: &mut Log, message: Option<Envelope>) -> bool {
     match message {
-        Some(message) => log.append(recv_of(message)).is_ok(),
+        Some(message) => appends(log, recv_of(message)),
         None => false,
     }
 }
@@ -125,7 +133,7 @@ pub fn receives(log: &mut Log, message: Option<Envelope>) -> bool {
 /// Whether a message to node 2 with this body is appended as sent.
 fn sends(log: &mut Log, body: Option<Body>) -> bool {
     match body {
-        Some(body) => log.append(Entry::Send { to: 2, body }).is_ok(),
+        Some(body) => appends(log, Entry::Send { to: 2, body }),
         None => false,
     }
 }
@@ -204,7 +212,7 @@ pub fn learn(
 /// The packet of a segment's text.
 pub fn answer_packet(alloc: Global, text: &[u8]) -> Option<Vec<u8>> {
     let mut bytes = Vec::new(alloc);
-    match write_answer_text(text, &mut bytes) {
+    match write_answer_text(LogVersion::One, text, &mut bytes) {
         Ok(()) => Some(bytes),
         Err(_) => None,
     }

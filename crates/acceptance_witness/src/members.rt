@@ -173,7 +173,7 @@ pub fn shown_of_log(alloc: Global, log: &Log, signer: &mut Signer, last: u32) ->
 /// What a node hands over whose log has two readings of the clock.
 pub fn shown_by(alloc: Global, node: u8) -> Option<Shown> {
     let mut signer = keys_of(alloc, node)?;
-    let mut log = Log::new(alloc, node as u32);
+    let mut log = Log::new(alloc, node as u32, LogVersion::One);
     if reads_clocks(&mut log, 2) {
         shown_of_log(alloc, &log, &mut signer, 2)
     } else {

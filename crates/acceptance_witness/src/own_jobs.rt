@@ -3,7 +3,7 @@
 use crate::answers::{Answer, answers, begun, done, end, is_given, refuses};
 use crate::logs::{closing_at, reads_clock};
 use crate::members::{Parties, new_parties, pair_books};
-use authenticator::Authenticator;
+use authenticator::{Authenticator, LogVersion};
 use secure_log::Log;
 use std::alloc::Global;
 use witness_service::{Books, EventOf, Refusal, ReplayDone, ReplyOf};
@@ -125,7 +125,7 @@ fn goes_well_of_one(alloc: Global, trial: Trial, parties: &mut Parties, log: &Lo
 
 /// The same of new books.
 fn goes_well_anew(alloc: Global, trial: Trial) -> bool {
-    let mut log = Log::new(alloc, 2);
+    let mut log = Log::new(alloc, 2, LogVersion::One);
     match new_parties(alloc, 1) {
         Some(mut parties) => {
             reads_clock(&mut log, 1) && goes_well_of_one(alloc, trial, &mut parties, &log)

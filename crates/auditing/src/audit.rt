@@ -300,7 +300,7 @@ fn segment_packet(
     asked: Asked,
 ) -> Result<Option<Vec<u8>>, AllocError> {
     match log.answer_challenge(alloc, asked.first, asked.last) {
-        Ok(text) => answer_packet(alloc, &text).map(Some),
+        Ok(text) => answer_packet(alloc, log.log_version(), &text).map(Some),
         Err(SegmentFault::NoMemory) => Err(AllocError),
         Err(_) => Ok(None),
     }

@@ -13,11 +13,11 @@ ghost use Rattle.challenge.specs.Charges.{charge_in, fork_in};
 
 use authenticator::{LogVersion, Number};
 use evidence_showings::{MAX_AUDITED, Showing};
-use secure_log::VersionedSegment;
+use secure_log::BoundedSegment;
 use std::marker::Model;
 
 /// A log that was audited, of either version: as a segment, but of at most `MAX_AUDITED` entries (65,536).
-pub type AuditedLog = VersionedSegment<MAX_AUDITED>;
+pub type AuditedLog = BoundedSegment<MAX_AUDITED>;
 
 /// Two marks at one number of a log: one showing shows each. A mark is a hash, or in a log of version 2 also
 /// that no entry has the number. With one showing alone, it shows another hash than 32 zero bytes at 0,

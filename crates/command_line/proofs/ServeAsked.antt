@@ -31,6 +31,8 @@ pub record IsAsked (rows : List Row) (a : ServeAsked) : Type 0 where
   pub control : a.control ≡ first_of (codes "control") rows
   -- the seconds that a connection may be silent, if they are given
   pub idle : a.idle ≡ first_of (codes "idle") rows
+  -- the version of the logs, if it is given
+  pub log_version : a.log_version ≡ first_of (codes "log-version") rows
   -- whether progress is asked for, where the matches tell it
   pub progress : is_told (codes "progress") rows ≡ true → a.progress ≡ is_set (codes "progress") rows
 
@@ -69,5 +71,6 @@ serve_is words rows a none is asks =
       sym asks.evidence,
       sym asks.control,
       sym asks.idle,
+      sym asks.log_version,
       sym progress,
     ) refl

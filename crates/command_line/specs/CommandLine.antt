@@ -124,6 +124,7 @@ asked_by (requests.Serve r) = Serve (record {
   evidence = option_map (λ s. s.now) r.evidence;
   control = option_map (λ s. s.now) r.control;
   idle = option_map (λ s. s.now) r.idle;
+  log_version = option_map (λ s. s.now) r.log_version;
   progress = r.progress;
 })
 

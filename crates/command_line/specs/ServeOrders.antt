@@ -5,6 +5,7 @@ use Rattle.std.specs.Net.Addr.{IsLoopbackV4, IsLoopbackV6, MatchIp, ipv4_octets}
 use Rattle.std.specs.Net.Grammar.{IsIpText}
 use Rattle.std.specs.declared.net.ip_addr.IpAddr.{IpAddr}
 use Rattle.clap.specs.Walk.{Text}
+use Rattle.authenticator.specs.Roster.{log_number}
 use Rattle.command_line.specs.declared.serve.ServeRequest.{ServeRequest}
 use Rattle.command_line.specs.declared.serve_numbers.ServeOrder.{ServeOrder}
 use Rattle.command_line.specs.declared.serve_numbers.ServeRefusal.{ServeRefusal}
@@ -67,6 +68,8 @@ pub record Orders (r : ServeRequest) (o : ServeOrder) : Type 0 where
   pub evidence : o.options.evidence ≡ r.evidence
   pub control : o.control ≡ r.control
   pub idle : WritesIf 1 86400 (option_map (λ s. s.now) r.idle) o.options.idle
+  pub log_version : WritesOr 1 2 1 (option_map (λ s. s.now) r.log_version)
+      (log_number o.options.log_version)
   pub progress : o.options.progress ≡ r.progress
 
 -- an option isn't given, or its word is a number from the one to the other
@@ -88,9 +91,14 @@ pub record HasHeights (r : ServeRequest) : Type 0 where
   pub client : IsWithinOr 1 15 (option_map (λ s. s.now) r.client_height)
 
 -- and so are the seconds of silence, if they are given
-pub record HasNumbers (r : ServeRequest) : Type 0 where
+pub record HasSilence (r : ServeRequest) : Type 0 where
   pub heights : HasHeights r
   pub idle : IsWithinOr 1 86400 (option_map (λ s. s.now) r.idle)
+
+-- and so is the version of the logs, if it is given
+pub record HasNumbers (r : ServeRequest) : Type 0 where
+  pub silence : HasSilence r
+  pub log_version : IsWithinOr 1 2 (option_map (λ s. s.now) r.log_version)
 
 -- why it makes none: the first check that fails
 abbrev pub Refuses : ServeRequest → ServeRefusal → Type 0
@@ -102,6 +110,8 @@ Refuses r refusals.ClientHeight =
     HasCounts r × IsWithinOr 1 15 (option_map (λ s. s.now) r.server_height)
     × IsNotWithin 1 15 (option_map (λ s. s.now) r.client_height)
 Refuses r refusals.Idle = HasHeights r × IsNotWithin 1 86400 (option_map (λ s. s.now) r.idle)
+Refuses r refusals.LogVersion =
+    HasSilence r × IsNotWithin 1 2 (option_map (λ s. s.now) r.log_version)
 Refuses r refusals.Address = HasNumbers r × IsNoAddress (option_map (λ s. s.now) r.address)
 Refuses r refusals.Unguarded =
     HasNumbers r × (r.master ≡ None) × IsOutside (option_map (λ s. s.now) r.address)

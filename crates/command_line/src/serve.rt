@@ -33,6 +33,8 @@ pub struct ServeRequest<'a> {
     pub control: Option<&'a str>,
     /// How many seconds a connection may be silent, if that is given.
     pub idle: Option<&'a str>,
+    /// The version of the logs, if it is named.
+    pub log_version: Option<&'a str>,
     /// Whether it is told how far the keys and the audits are.
     pub progress: bool,
 }
@@ -62,6 +64,8 @@ const CONTROL_HELP: &str =
 
 const IDLE_HELP: &str =
     "Ends a connection on which nothing came for so many seconds, 1 to 86400; none where it isn't given";
+
+const LOG_VERSION_HELP: &str = "The version of the logs, 1 or 2; 1 where none is named";
 
 const PROGRESS_HELP: &str =
     "Tells on standard error which keys are made and which logs are audited, each line with its time";
@@ -144,6 +148,7 @@ fn serve_options<'a>(alloc: Global) -> Result<Command<'a>, AllocError>
         .arg(word_option(alloc, "evidence", "DIR", EVIDENCE_HELP))?
         .arg(word_option(alloc, "control", "DIR", CONTROL_HELP))?
         .arg(word_option(alloc, "idle", "SECONDS", IDLE_HELP))?
+        .arg(word_option(alloc, "log-version", "V", LOG_VERSION_HELP))?
         .arg(flag(alloc, "progress", PROGRESS_HELP))
 }
 
@@ -173,6 +178,8 @@ pub(crate) fn serve_request<'a>(matches: &ArgMatches<'a>) -> ServeRequest<'a>
     ensures control { option_map (λ s. s.now) result.control
         ≡ first_of (codes "control") (rows_in matches.now) }
     ensures idle { option_map (λ s. s.now) result.idle ≡ first_of (codes "idle") (rows_in matches.now) }
+    ensures log_version { option_map (λ s. s.now) result.log_version
+        ≡ first_of (codes "log-version") (rows_in matches.now) }
     ensures progress { is_told (codes "progress") (rows_in matches.now) ≡ true
         → result.progress ≡ is_set (codes "progress") (rows_in matches.now) }
 {
@@ -187,6 +194,7 @@ pub(crate) fn serve_request<'a>(matches: &ArgMatches<'a>) -> ServeRequest<'a>
         evidence: word_of(matches, "evidence"),
         control: word_of(matches, "control"),
         idle: word_of(matches, "idle"),
+        log_version: word_of(matches, "log-version"),
         progress: flag_of(matches, "progress"),
     }
 }

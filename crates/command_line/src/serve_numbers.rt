@@ -4,12 +4,14 @@ ghost use Rattle.std.specs.Prelude.{◌≡◌, ◌↔◌, ◌≤◌, IsTrue, IfE
 ghost use Rattle.std.specs.Prelude.{None, true, false, option_map};
 ghost use Rattle.std.specs.Str.Parse.{IsNumeral, digits_value};
 ghost use Rattle.std.specs.Net.Grammar.{IsIpText};
+ghost use Rattle.authenticator.specs.Roster.{log_number};
 ghost use Rattle.serve_options.specs.Options.{AreServeOptions};
 ghost use Rattle.command_line.specs.ServeOrders.{HasNumbers, IsLocalhost, IsLoopback, IsNotWithin};
 ghost use Rattle.command_line.specs.ServeOrders.{IsWithin, IsWithinOr, Orders, Refuses};
 ghost use Rattle.command_line.specs.ServeOrders.{Writes, WritesIf, WritesOr};
 
 use crate::serve::ServeRequest;
+use authenticator::LogVersion;
 use serve_options::{Heights, ServeOptions};
 use std::net::{IpAddr, Ipv4Addr};
 use thiserror::Error;
@@ -48,6 +50,9 @@ pub enum ServeRefusal {
     /// The seconds that a connection may be silent are no decimal number from 1 to 86,400.
     #[error("--idle is a number of seconds from 1 to 86400")]
     Idle,
+    /// The version of the logs is neither 1 nor 2.
+    #[error("--log-version is 1 or 2")]
+    LogVersion,
     /// The address is none.
     #[error("--address is an IP address")]
     Address,
@@ -112,6 +117,23 @@ fn idle_of(word: Option<&str>) -> Result<Option<u32>, ServeRefusal>
     }
 }
 
+/// The version of the logs in an option's word, or 1 where it isn't given.
+fn log_version_of(word: Option<&str>) -> Result<LogVersion, ServeRefusal>
+    ensures ok { IfOk result (λ v. WritesOr 1 2 1 (option_map (λ s. s.now) word.entry) (log_number v)) }
+    ensures within { IsOk result → IsWithinOr 1 2 (option_map (λ s. s.now) word.entry) }
+    ensures err { IfErr result (λ e. (e ≡ ServeRefusal.LogVersion)
+        × IsNotWithin 1 2 (option_map (λ s. s.now) word.entry)) }
+{
+    let Some(word) = word else {
+        return Ok(LogVersion::One);
+    };
+    match number_within(word, 1, 2) {
+        Some(1) => Ok(LogVersion::One),
+        Some(_) => Ok(LogVersion::Two),
+        None => Err(ServeRefusal::LogVersion),
+    }
+}
+
 /// The address that is listened on: one that others reach only where the keys are made of something secret.
 fn address_of(request: &ServeRequest<'_>) -> Result<IpAddr, ServeRefusal>
     requires { HasNumbers request.now }
@@ -142,9 +164,9 @@ fn is_guarded(address: &IpAddr, master: Option<&str>) -> bool
 }
 
 /// The order that a request makes: with its numbers read, and what isn't named as it is by itself. It is
-/// refused where a number is none or out of range, of the port, the count, the two heights and the seconds of
-/// silence the first; then where the address is none, or is one that others reach though no file of secret
-/// bytes is named.
+/// refused where a number is none or out of range, of the port, the count, the two heights, the seconds of
+/// silence and the version of the logs the first; then where the address is none, or is one that others reach
+/// though no file of secret bytes is named.
 pub fn serve_order<'a>(request: &ServeRequest<'a>) -> Result<ServeOrder<'a>, ServeRefusal>
     ensures order { IfOk result (Orders request.now) }
     ensures bounds { IfOk result (λ order. AreServeOptions order.options) }
@@ -155,6 +177,7 @@ pub fn serve_order<'a>(request: &ServeRequest<'a>) -> Result<ServeOrder<'a>, Ser
     let server_height = height_of(request.server_height, 12).ok_or(ServeRefusal::ServerHeight)?;
     let client_height = height_of(request.client_height, 10).ok_or(ServeRefusal::ClientHeight)?;
     let idle = idle_of(request.idle)?;
+    let log_version = log_version_of(request.log_version)?;
     Ok(ServeOrder {
         port: port as u16,
         address: address_of(request)?,
@@ -170,6 +193,7 @@ pub fn serve_order<'a>(request: &ServeRequest<'a>) -> Result<ServeOrder<'a>, Ser
             evidence: request.evidence,
             progress: request.progress,
             idle,
+            log_version,
         },
     })
 }

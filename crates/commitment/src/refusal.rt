@@ -23,6 +23,13 @@ pub enum Refusal {
     /// No key is left.
     #[error("all keys are used up")]
     KeysUsedUp,
+    /// Numbers are to be skipped in a log of version 1.
+    #[error("no gaps")]
+    NoGaps,
+    /// In a log of version 2 fewer than 1 or more than 64 numbers are to be skipped, or an entry's number would
+    /// pass 4,294,967,295.
+    #[error("gap too wide")]
+    GapTooWide,
     /// A growth was refused.
     #[error("out of memory")]
     NoMemory,
@@ -32,7 +39,7 @@ impl Refusal {
     ghost use Rattle.std.specs.Prelude.{◌≡◌};
     ghost use Rattle.commitment.specs.RefusalNumbers.{refusal_number};
 
-    /// The number that programs print, from 1 to 4 in the order above. Being out of memory has none.
+    /// The number that programs print, from 1 to 6 in the order above. Being out of memory has none.
     pub fn number(self) -> Option<u32>
         ensures { result ≡ refusal_number self }
     {
@@ -41,6 +48,8 @@ impl Refusal {
             Refusal::NotForMe => Some(2),
             Refusal::BadSignature => Some(3),
             Refusal::KeysUsedUp => Some(4),
+            Refusal::NoGaps => Some(5),
+            Refusal::GapTooWide => Some(6),
             Refusal::NoMemory => None,
         }
     }
@@ -60,6 +69,7 @@ impl From<SendRefusal> for Refusal {
     fn from(refused: SendRefusal) -> Refusal {
         match refused {
             SendRefusal::KeysUsedUp => Refusal::KeysUsedUp,
+            SendRefusal::GapTooWide => Refusal::GapTooWide,
             SendRefusal::NoMemory => Refusal::NoMemory,
         }
     }

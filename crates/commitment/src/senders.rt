@@ -5,6 +5,7 @@ mod lookups;
 mod refusal;
 mod reserve;
 mod sender;
+mod signed_entry;
 
 pub use refusal::SendRefusal;
 pub use sender::Sender;

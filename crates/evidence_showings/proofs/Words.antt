@@ -1,5 +1,5 @@
 -- Words of shown links: those that follow, and what links may skip.
--- Serves: may_skip, closes, links_after, Showing::has_words, Showing::of_words, Showing::of_closed,
+-- Serves: may_skip, closes, links_after, Showing::has_words, Showing::of_words, Showing::of_segment,
 -- WordedShowing::into_showing, read_parts, add_links.
 use Rattle.std.proofs.Common.{◌≡◌, ℕ, ◌+◌, ◌-◌, ◌<◌, ◌≤◌, ◌^◌, Bool, true, false, List, [], ◌∷◌, ◌++◌, length}
 use Rattle.std.proofs.Common.{drop, get_or, map, refl, sym, ap, ap₂, subst, ◌∙◌, arith}
@@ -15,7 +15,8 @@ use Rattle.authenticator.specs.Numbers.{number_in, word_of}
 use Rattle.authenticator.proofs.Words.{word_is}
 use Rattle.evidence_spec.specs.secure_log.LogEntries.Chain.{Link, last_number}
 use Rattle.evidence_spec.specs.secure_log.declared.segment.TheConstants.{MAX_ENTRIES}
-use Rattle.evidence_spec.proofs.Gaps.{closing_number, length-shown, rise, shown_after}
+use Rattle.evidence_spec.proofs.secure_log.Gaps.{closing_number, rise}
+use Rattle.evidence_spec.proofs.Gaps.{length-shown, shown_after}
 use Rattle.evidence_spec.specs.secure_log.LogEntries.Words.{ClosesAt, MAX_SKIPPED, MaySkip, follows}
 use Rattle.evidence_spec.specs.secure_log.LogEntries.Words.{last_word, words_follow}
 use Rattle.evidence_spec.specs.Showing.{ShownLink, ShowingParts, link_item, link_value}

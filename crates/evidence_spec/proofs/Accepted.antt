@@ -25,7 +25,7 @@ use Rattle.evidence_spec.specs.Proving.{IsLogOf, log_links, marks_of, texts_of, 
 use Rattle.evidence_spec.specs.Proving.{IsUnforgedIn, option_closings, Withstands, Proves}
 use Rattle.replay_spec.proofs.secure_log.OfLogEntries.FewerTexts.{Within, fewer, left, right, both}
 use Rattle.replay_spec.proofs.secure_log.OfLogEntries.Marks.{one_mark}
-use Rattle.evidence_spec.proofs.Gaps.{logged_after}
+use Rattle.replay_spec.proofs.secure_log.Gaps.{logged_after}
 use Rattle.evidence_spec.proofs.Replayed.{first_entries, no_fault}
 use Rattle.evidence_spec.proofs.Shown.{showing_in_log}
 

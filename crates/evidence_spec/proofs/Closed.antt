@@ -1,6 +1,6 @@
 -- A signed authenticator alone, and the links of a closed segment, are closed showings.
 -- Serves: what_is_shown_is_closed.
-use Rattle.std.proofs.Common.{◌≡◌, ℕ, ◌+◌, ◌-◌, ◌<◌, ◌^◌, List, [], ◌∷◌, length, map, refl, sym, ap, ◌∙◌}
+use Rattle.std.proofs.Common.{◌≡◌, ℕ, ◌+◌, ◌-◌, ◌^◌, List, [], ◌∷◌, length, map, refl, sym, ap, ◌∙◌}
 use Rattle.std.proofs.Common.{subst, arith}
 use Rattle.std.specs.Prelude.{◌%◌, IsTrue}
 use Rattle.std.proofs.lemmas.Bool.{lt-ltb}
@@ -19,22 +19,19 @@ use Rattle.replay_spec.specs.secure_log.declared.log_entries.entry.Entry.TheVari
 use Rattle.replay_spec.specs.secure_log.declared.log_entries.entry.Entry.TheVariants.{Check}
 use Rattle.replay_spec.specs.secure_log.LogEntries.Entry.{is_kind, kind_number, content}
 use Rattle.replay_spec.specs.secure_log.LogEntries.Chain.{Link, Logged, last_hash, logged_link, logged_links}
-use Rattle.replay_spec.specs.secure_log.LogEntries.Chain.{marks, without_gaps}
+use Rattle.replay_spec.specs.secure_log.LogEntries.Chain.{marks}
 use Rattle.replay_spec.specs.secure_log.LogEntries.Words.{ClosesAt, MaySkip}
 use Rattle.replay_spec.specs.secure_log.declared.segment.TheConstants.{MAX_ENTRIES}
-use Rattle.replay_spec.specs.secure_log.Segment.{SegmentParts, IsClosed, FitsWithin, segment_pairs}
 use Rattle.replay_spec.specs.secure_log.Versioned.{VersionedParts, FitsVersion, IsClosedIn, logged_item}
-use Rattle.replay_spec.specs.secure_log.Versioned.{logged_value, logged_values, of_plain, segment_marks}
+use Rattle.replay_spec.specs.secure_log.Versioned.{logged_value, logged_values, segment_marks}
 use Rattle.replay_spec.specs.secure_log.Versioned.{start_number, versioned_links}
 use Rattle.replay_spec.proofs.secure_log.Gaps.{length-logged_links}
-use Rattle.replay_spec.proofs.secure_log.VersionedTexts.{length-values, plain_fits}
-use Rattle.evidence_spec.specs.Showing.{ShownLink, numbered, link_item, link_value, links_in}
-use Rattle.evidence_spec.specs.Showing.{authenticator_showing, segment_showing, shown_link, shown_logged}
+use Rattle.replay_spec.proofs.secure_log.VersionedTexts.{length-values}
+use Rattle.evidence_spec.specs.Showing.{numbered, link_item, link_value, links_in}
+use Rattle.evidence_spec.specs.Showing.{authenticator_showing, shown_logged}
 use Rattle.evidence_spec.specs.Showing.{start_item, start_value, versioned_showing}
 use Rattle.evidence_spec.specs.Laws.{ShowsMarks}
-use Rattle.evidence_spec.proofs.PlainSegments.{marks_plain}
 use Rattle.evidence_spec.proofs.Shown.{next_fits}
-use Rattle.evidence_spec.proofs.WithoutGaps.{closed_plain}
 
 -- ---- an authenticator
 
@@ -140,28 +137,3 @@ own_marks ms s fits closed =
       );
       is = ap (marks (s.first - 1) s.opening) same;
     }
-
--- ---- one of a log of version 1
-
-shown_plain : (es : List Entry) → map shown_logged (without_gaps es) ≡ map shown_link es
-shown_plain [] = refl
-shown_plain (e ∷ es) = ap (λ (ls : List ShownLink). shown_link e ∷ ls) (shown_plain es)
-
--- it is shown as one that skips nothing
-pub showing_plain : (s : SegmentParts) → versioned_showing (of_plain s) ≡ segment_showing s
-showing_plain s =
-    ap (λ (ls : List ShownLink). record {
-      node = s.node;
-      first = s.first;
-      opening = s.opening;
-      links = ls;
-      closing = s.closing;
-    }) (shown_plain s.entries)
-
--- so it shows its pairs
-pub own_pairs : (ms : List Member) (s : SegmentParts) → FitsWithin MAX_ENTRIES s → 0 < s.first
-    → IsClosed ms s → ShowsMarks One ms (segment_showing s) (segment_pairs s)
-own_pairs ms s fits some closed =
-    subst (λ x. ShowsMarks One ms x (segment_pairs s)) (showing_plain s)
-    (subst (ShowsMarks One ms (versioned_showing (of_plain s))) (marks_plain s some)
-    (own_marks ms (of_plain s) (plain_fits MAX_ENTRIES s fits) ((closed_plain s some ms).0 closed)))

@@ -1,6 +1,5 @@
 pub use Rattle.replay_spec.proofs.secure_log as secure_log
 pub use Rattle.replay_spec.proofs as replay_spec
-pub mod Places
 pub mod Chained
 pub mod Gaps
 pub mod ShownMarks
@@ -10,8 +9,6 @@ pub mod Shown
 pub mod Reached
 pub mod Replayed
 pub mod Accepted
-pub mod WithoutGaps
-pub mod PlainSegments
 pub mod Closed
 pub mod Nothing
 pub mod OneReading

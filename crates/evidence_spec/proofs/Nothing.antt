@@ -1,28 +1,28 @@
 -- Evidence that an honest log stands against proves nothing.
 -- Serves: what_proves_nothing.
-use Rattle.std.proofs.Common.{◌≡◌, ℕ, List, [], ◌++◌, Option, Some, None, refl, sym, ◌∙◌, subst, arith}
+use Rattle.std.proofs.Common.{◌≡◌, ℕ, List, [], ◌++◌, Option, Some, None, refl, sym, ◌∙◌, subst}
 use Rattle.std.specs.Prelude.{IfSome, option_map}
 use Rattle.std.specs.List.{AllByRecursion}
 use Rattle.replay_spec.specs.authenticator.declared.authenticator.Authenticator.{Authenticator}
 use Rattle.replay_spec.specs.authenticator.declared.member.LogVersion.{LogVersion}
-use Rattle.replay_spec.specs.authenticator.declared.member.LogVersion.TheVariants.{One, Two}
 use Rattle.replay_spec.specs.authenticator.declared.member.Member.{Member}
 use Rattle.replay_spec.specs.authenticator.Roster.{member_of}
 use Rattle.replay_spec.specs.authenticator.Signed.{IsSignedIn}
 use Rattle.replay_spec.specs.secure_log.LogEntries.Chain.{Logged, NoCollision, IsAmong}
 use Rattle.replay_spec.specs.state_spec.State.{State}
 use Rattle.replay_spec.specs.Opening.{opening_of}
-use Rattle.replay_spec.specs.HonestLogs.{IsHonestWithGaps}
+use Rattle.replay_spec.specs.HonestLogs.{IsHonestLog}
 use Rattle.evidence_spec.specs.Showing.{authenticator_showing}
 use Rattle.evidence_spec.specs.Evidence.{ForkParts, Fork, EvidenceParts}
-use Rattle.evidence_spec.specs.Proving.{HasNumbers, IsLogOf, texts_of, charge_texts, closings, option_texts}
+use Rattle.evidence_spec.specs.Proving.{IsLogOf, texts_of, charge_texts, closings, option_texts}
 use Rattle.evidence_spec.specs.Proving.{option_closings, IsUnforgedIn, Withstands, Proves}
+use Rattle.replay_spec.proofs.secure_log.Logs.{no_numbers}
 use Rattle.replay_spec.proofs.secure_log.OfLogEntries.FewerTexts.{fewer, both}
 
 -- evidence whose texts are all those of an honest log, with no signature forged against it, proves nothing
 pub own_texts : (ms : List Member) (member : Member) (e : EvidenceParts) (log : List Logged) (s : State)
     → member_of ms e.node ≡ Some member → IsLogOf member.log_version log
-    → IsHonestWithGaps ms (opening_of member) log s
+    → IsHonestLog ms (opening_of member) log s
     → AllByRecursion (IsUnforgedIn member.log_version ms member.node log) (closings e.charge)
     → ((t : List ℕ) → IsAmong t (charge_texts e.charge) → IsAmong t (texts_of log))
     → NoCollision (texts_of log)
@@ -52,10 +52,6 @@ each_unforged : (v w : LogVersion) (ms : List Member) (node : ℕ) (log : List L
     → AllByRecursion (IsUnforgedIn w ms node log) (option_closings (option_map (authenticator_showing v) b))
 each_unforged v w ms node log None h = tt
 each_unforged v w ms node log (Some a) h = (λ of signed. absurd (h signed), tt)
-
-no_numbers : (v : LogVersion) → HasNumbers v []
-no_numbers One = (tt, omega arith)
-no_numbers Two = omega arith
 
 -- a fork of authenticators that the node didn't sign proves nothing
 pub unsigned : (v : LogVersion) (ms : List Member) (member : Member) (node at : ℕ) (a : Authenticator)

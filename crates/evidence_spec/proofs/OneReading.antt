@@ -14,26 +14,29 @@ use Rattle.replay_spec.specs.authenticator.declared.member.LogVersion.TheVariant
 use Rattle.replay_spec.specs.authenticator.Numbers.{number_in}
 use Rattle.replay_spec.specs.secure_log.declared.log_entries.entry.Entry.TheVariants.{Clock}
 use Rattle.replay_spec.specs.secure_log.LogEntries.Entry.{content}
-use Rattle.replay_spec.specs.secure_log.LogEntries.Chain.{Logged, zeros, chain_text, link_of, without_gaps}
+use Rattle.replay_spec.specs.secure_log.LogEntries.Chain.{Logged, zeros, chain_text, logged_link}
 use Rattle.replay_spec.specs.secure_log.LogEntries.Chain.{NoCollision}
-use Rattle.replay_spec.specs.secure_log.Log.{log_hash}
+use Rattle.replay_spec.specs.secure_log.Log.{HasNumbers, log_hash}
 use Rattle.replay_spec.specs.state_spec.State.{State, opening_client}
 use Rattle.replay_spec.specs.Steps.{after_entry}
 use Rattle.replay_spec.specs.Opening.{opening_of, opening_by}
-use Rattle.replay_spec.specs.HonestLogs.{IsHonestWithGaps}
+use Rattle.replay_spec.specs.HonestLogs.{IsHonestLog}
 use Rattle.evidence_spec.specs.Evidence.{Replay}
-use Rattle.evidence_spec.specs.Proving.{HasNumbers, IsLogOf, texts_of, Proves}
+use Rattle.evidence_spec.specs.Proving.{IsLogOf, texts_of, Proves}
 use Rattle.evidence_spec.specs.Laws.{one_reading}
 use Rattle.evidence_spec.proofs.Nothing.{own_texts}
 
+abbrev read : Logged
+read = record { skipped = 0; entry = Clock 1 0 }
+
 abbrev reading : List Logged
-reading = without_gaps (Clock 1 0 ∷ [])
+reading = read ∷ []
 
 -- the state after it
 abbrev read_once : (node : ℕ) → State
 read_once node = after_entry (opening_client node) 1 zeros (Clock 1 0)
 
-reading_honest : (ms : List Member) (node : ℕ) → IsHonestWithGaps ms (opening_client node) reading (read_once node)
+reading_honest : (ms : List Member) (node : ℕ) → IsHonestLog ms (opening_client node) reading (read_once node)
 reading_honest ms node = record {
   states = read_once node ∷ [];
   honest = (record { stands = record { turn = tt; valid = omega arith; late = refl }; after = refl }, tt);
@@ -41,7 +44,7 @@ reading_honest ms node = record {
 }
 
 -- its two texts have two digests, as they are worked out
-pub two_digests : sha256 (chain_text zeros (link_of 1 (Clock 1 0))) ≡ sha256 (content (Clock 1 0)) → ⊥
+pub two_digests : sha256 (chain_text zeros (logged_link 1 read)) ≡ sha256 (content (Clock 1 0)) → ⊥
 unfolding first_words schedule rounds compress sha.hash_after digest_bytes sha256 chain_text zeros content
     number_spelling
 two_digests e = absurd (omega (arith, ap (λ xs. slice_index xs 0) e))
@@ -75,7 +78,7 @@ first_number Two w h = omega (arith, h)
 pub reading_proves_nothing : (v : LogVersion) (ms : List Member) (member : Member) (node : ℕ)
     (closing : Authenticator)
     → member_of ms node ≡ Some member → member.kind ≡ Client → closing.word ≡ 1
-    → closing.hash ≡ log_hash (Clock 1 0 ∷ [])
+    → closing.hash ≡ log_hash reading
     → ¬ Proves ms (record { node = node; charge = Replay (one_reading v node closing) })
 reading_proves_nothing v ms member node closing there kind number hash =
     let opening : opening_client member.node ≡ opening_of member =
@@ -83,6 +86,6 @@ reading_proves_nothing v ms member node closing there kind number hash =
     own_texts ms member (record { node = node; charge = Replay (one_reading v node closing) }) reading
     (read_once member.node)
     there (reading_log member.log_version)
-    (subst (λ o. IsHonestWithGaps ms o reading (read_once member.node)) opening (reading_honest ms member.node))
+    (subst (λ o. IsHonestLog ms o reading (read_once member.node)) opening (reading_honest ms member.node))
     ((λ of signed. inr (inl (ap₂ (λ n h. (n, h)) (first_number member.log_version closing.word number) hash))), tt)
     (λ t i. i) reading_texts

@@ -1,24 +1,14 @@
 -- Entries whose links stand in a log's chain are the log's entries there, where no two texts have one digest.
 -- Serves: what_is_shown_is_of_the_log, accepted_evidence_proves.
-use Rattle.std.proofs.Common.{◌≡◌, ℕ, ◌+◌, List, [], ◌∷◌, ◌++◌, map, refl, sym, ap, ap₂, subst, ◌∙◌, arith}
+use Rattle.std.proofs.Common.{◌≡◌, ℕ, ◌+◌, List, [], ◌∷◌, ◌++◌, refl, sym, ap, ap₂, subst, ◌∙◌, arith}
 use Rattle.std.specs.List.{AllByRecursion, flat_map}
 use Rattle.xdr.specs.Item.{Fits}
-use Rattle.replay_spec.specs.secure_log.declared.log_entries.entry.Entry.{Entry}
 use Rattle.replay_spec.specs.secure_log.LogEntries.Entry.{entry_item, entry_value}
 use Rattle.replay_spec.specs.secure_log.LogEntries.Chain.{Link, Logged, NoCollision, last_number}
 use Rattle.replay_spec.specs.secure_log.LogEntries.Chain.{logged_link, logged_links, span}
 use Rattle.evidence_spec.specs.Proving.{entry_texts}
 use Rattle.replay_spec.proofs.secure_log.OfLogEntries.FewerTexts.{Within, left, right}
 use Rattle.evidence_spec.proofs.Contents.{one_entry}
-
--- each of these entries has a text
-abbrev pub EachFits : List Entry → Type 0
-EachFits es = AllByRecursion (λ e. Fits entry_item (entry_value e)) es
-
--- entries whose values each have a spelling each have a text
-pub each_of_values : (es : List Entry) → AllByRecursion (Fits entry_item) (map entry_value es) → EachFits es
-each_of_values [] each = tt
-each_of_values (e ∷ es) each = (each.0, each_of_values es each.1)
 
 -- ---- entries of a log
 

@@ -7,6 +7,7 @@ use Rattle.replay_spec.specs.authenticator.Numbers.{number_in}
 use Rattle.replay_spec.specs.authenticator.declared.member.Member.{Member}
 use Rattle.replay_spec.specs.secure_log.LogEntries.Chain.{Logged, IsAmong, NoCollision, last_hash}
 use Rattle.replay_spec.specs.secure_log.LogEntries.Chain.{logged_links, span, zeros}
+use Rattle.replay_spec.specs.secure_log.Log.{log_pairs}
 use Rattle.replay_spec.specs.secure_log.Versioned.{VersionedParts, IsClosedIn, versioned_value}
 use Rattle.replay_spec.specs.state_spec.State.{State}
 use Rattle.replay_spec.specs.Placed.{logged_places, places_from, places_in}
@@ -14,8 +15,9 @@ use Rattle.replay_spec.specs.Replay.{Fault, Honest, verdict_of}
 use Rattle.replay_spec.specs.Stepping.{ReplayFault}
 use Rattle.replay_spec.proofs.Runs.{sound}
 use Rattle.evidence_spec.specs.Evidence.{replay_item}
-use Rattle.evidence_spec.specs.Proving.{IsLogOf, pairs_of, texts_of, versioned_texts}
-use Rattle.evidence_spec.proofs.Reached.{logged_joined, places_logged, split}
+use Rattle.evidence_spec.specs.Proving.{IsLogOf, texts_of, versioned_texts}
+use Rattle.replay_spec.proofs.Places.{places_joined}
+use Rattle.evidence_spec.proofs.Reached.{places_logged, split}
 use Rattle.evidence_spec.proofs.Shown.{segment_is_part}
 
 none_before : (xs : List Logged) → span xs ≡ 0 → xs ≡ []
@@ -25,7 +27,7 @@ none_before (x ∷ xs) h = absurd (omega (arith, h))
 -- the entries of a segment from the first on are the log's first
 pub first_entries : (ms : List Member) (log : List Logged) (s : VersionedParts) → IsLogOf s.log_version log
     → Fits (replay_item s.log_version) (versioned_value s.log_version s) → IsClosedIn ms s
-    → IsAmong (number_in s.log_version s.closing.word, s.closing.hash) (pairs_of log)
+    → IsAmong (number_in s.log_version s.closing.word, s.closing.hash) (log_pairs log)
     → NoCollision (texts_of log ++ versioned_texts s) → s.first ≡ 1
     → (more : List Logged) × (log ≡ s.entries ++ more)
 first_entries ms log s is fits closed i unlike first =
@@ -43,7 +45,7 @@ no_fault ms state s log more states fault number first opening whole honest foun
     let own = logged_places 0 zeros s.entries in
     let parts = split ms state own
     (logged_places (0 + span s.entries) (last_hash zeros (logged_links 0 s.entries)) more) states
-    (subst (λ ps. Honest ms state ps states) (logged_joined 0 zeros s.entries more)
+    (subst (λ ps. Honest ms state ps states) (places_joined 0 zeros s.entries more)
     (subst (λ l. Honest ms state (logged_places 0 zeros l) states) whole honest)) in
     let places : places_in s ≡ own =
     ap₂ (λ n o. places_from n o s.entries) first opening ∙ places_logged 0 zeros s.entries in

@@ -12,6 +12,7 @@ use Rattle.replay_spec.specs.authenticator.declared.member.Member.{Member}
 use Rattle.replay_spec.specs.secure_log.LogEntries.Entry.{entry_item, entry_value}
 use Rattle.replay_spec.specs.secure_log.LogEntries.Chain.{AreNumbered, IsChain, Logged, zeros, chain_texts}
 use Rattle.replay_spec.specs.secure_log.LogEntries.Chain.{IsAmong, NoCollision, last_number}
+use Rattle.replay_spec.specs.secure_log.Log.{log_pairs}
 use Rattle.replay_spec.specs.secure_log.Versioned.{VersionedParts, IsClosedIn, logged_item, logged_value}
 use Rattle.replay_spec.specs.secure_log.Versioned.{logged_values, segment_marks, versioned_links}
 use Rattle.replay_spec.specs.secure_log.Versioned.{versioned_value}
@@ -19,12 +20,13 @@ use Rattle.replay_spec.proofs.secure_log.OfLogEntries.FewerTexts.{Within, fewer,
 use Rattle.evidence_spec.specs.Showing.{ShowingParts, IsClosedShowing, Shows, links_in, showing_item}
 use Rattle.evidence_spec.specs.Showing.{showing_value}
 use Rattle.evidence_spec.specs.Evidence.{replay_item}
-use Rattle.evidence_spec.specs.Proving.{IsLogOf, entry_texts, log_links, marks_of, pairs_of}
+use Rattle.evidence_spec.specs.Proving.{IsLogOf, entry_texts, log_links, marks_of}
 use Rattle.evidence_spec.specs.Proving.{showing_texts, texts_of, versioned_texts}
 use Rattle.evidence_spec.specs.Laws.{IsPartOf}
 use Rattle.evidence_spec.proofs.Chained.{zeros-length}
-use Rattle.evidence_spec.proofs.Gaps.{closing_number, log_are_links, logged_after, logged_are_links}
-use Rattle.evidence_spec.proofs.Gaps.{shown_after, shown_are_links}
+use Rattle.replay_spec.proofs.secure_log.Gaps.{closing_number, logged_after}
+use Rattle.replay_spec.proofs.secure_log.OfLogEntries.Chains.{logged_are_links}
+use Rattle.evidence_spec.proofs.Gaps.{log_are_links, shown_after, shown_are_links}
 use Rattle.evidence_spec.proofs.Parts.{EachLogged, entries_in_log, logged_texts}
 use Rattle.evidence_spec.proofs.ShownMarks.{StandsInLog, in_log, marks_in, opening_in, stands_in_log}
 
@@ -46,7 +48,7 @@ number_low Two w h = omega arith
 -- what a closed showing shows is in the log, where its closing's pair is and no two texts have one digest
 module _ (v : LogVersion) (ms : List Member) (log : List Logged) (s : ShowingParts) where
   pub showing_in_log : IsLogOf v log → Fits (showing_item v) (showing_value v s) → IsClosedShowing v ms s
-      → IsAmong (number_in v s.closing.word, s.closing.hash) (pairs_of log)
+      → IsAmong (number_in v s.closing.word, s.closing.hash) (log_pairs log)
       → NoCollision (texts_of log ++ showing_texts s)
       → (number : ℕ) (mark : List ℕ) → Shows s number mark → IsAmong (number, mark) (marks_of log)
   showing_in_log is fits closed i unlike number mark shown =
@@ -71,8 +73,8 @@ module _ (v : LogVersion) (ms : List Member) (log : List Logged) (s : ShowingPar
       in_log v whole links (s.first - 1) s.opening (log_chain_of v log is) chain (logged_after 0 log) numbers
       (fewer (chain_texts zeros whole ++ chain_texts s.opening links)
       (texts_of log ++ showing_texts s) within unlike)
-      (subst (λ h. IsAmong (last_number (s.first - 1) links, h) (pairs_of log)) closed.hash
-      (subst (λ n. IsAmong (n, s.closing.hash) (pairs_of log)) last i)) number mark shown
+      (subst (λ h. IsAmong (last_number (s.first - 1) links, h) (log_pairs log)) closed.hash
+      (subst (λ n. IsAmong (n, s.closing.hash) (log_pairs log)) last i)) number mark shown
 
 -- ---- segments
 
@@ -90,7 +92,7 @@ each_of_logged v before (l ∷ ls) each =
 
 module _ (ms : List Member) (log : List Logged) (s : VersionedParts) (is : IsLogOf s.log_version log)
     (fits : Fits (replay_item s.log_version) (versioned_value s.log_version s)) (closed : IsClosedIn ms s)
-    (i : IsAmong (number_in s.log_version s.closing.word, s.closing.hash) (pairs_of log))
+    (i : IsAmong (number_in s.log_version s.closing.word, s.closing.hash) (log_pairs log))
     (unlike : NoCollision (texts_of log ++ versioned_texts s)) where
   abbrev all : List (List ℕ)
   all = texts_of log ++ versioned_texts s
@@ -123,8 +125,8 @@ module _ (ms : List Member) (log : List Logged) (s : VersionedParts) (is : IsLog
   stands = stands_in_log s.log_version (log_links log) (versioned_links s) (s.first - 1) s.opening
       (log_chain_of s.log_version log is) chain (logged_after 0 log) (logged_after (s.first - 1) s.entries)
       (fewer (log_chained ++ chained) all chains_within unlike)
-      (subst (λ h. IsAmong (last_number (s.first - 1) (versioned_links s), h) (pairs_of log)) closed.ends.hash
-      (subst (λ n. IsAmong (n, s.closing.hash) (pairs_of log)) last i))
+      (subst (λ h. IsAmong (last_number (s.first - 1) (versioned_links s), h) (log_pairs log)) closed.ends.hash
+      (subst (λ n. IsAmong (n, s.closing.hash) (log_pairs log)) last i))
 
   -- the segment's marks are the log's
   pub segment_in_log : (number : ℕ) (mark : List ℕ) → IsAmong (number, mark) (segment_marks s)
@@ -133,7 +135,7 @@ module _ (ms : List Member) (log : List Logged) (s : VersionedParts) (is : IsLog
       marks_in (log_links log) (s.first - 1) s.opening (versioned_links s) stands number mark shown
 
   -- so is the pair before its first number
-  pub segment_opens : IsAmong (s.first - 1, s.opening) (pairs_of log)
+  pub segment_opens : IsAmong (s.first - 1, s.opening) (log_pairs log)
   segment_opens = opening_in (log_links log) (s.first - 1) s.opening (versioned_links s) stands
 
   -- and its entries are those of the log at its places

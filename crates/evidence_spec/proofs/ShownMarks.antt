@@ -1,7 +1,7 @@
 -- A chain whose last pair is one of a log's stands in it and has its marks among the log's, gaps included,
 -- where no two texts have one digest. Serves: what_is_shown_is_of_the_log, accepted_evidence_proves and
 -- a_segment_after_a_reached_place_is_sound.
-use Rattle.std.proofs.Common.{◌≡◌, ℕ, ◌+◌, ◌<◌, ◌≤◌, List, [], ◌∷◌, ◌++◌, length, inl, inr, refl}
+use Rattle.std.proofs.Common.{◌≡◌, ℕ, ◌<◌, ◌≤◌, List, [], ◌∷◌, ◌++◌, length, inl, inr, refl}
 use Rattle.std.proofs.Common.{sym, ap, subst, ◌∙◌, arith, append_assoc, length-append}
 use Rattle.std.proofs.lemmas.Bool.{cases_lt}
 use Rattle.std.specs.Prelude.{◌⊎◌}
@@ -10,23 +10,17 @@ use Rattle.replay_spec.specs.authenticator.declared.member.LogVersion.{LogVersio
 use Rattle.replay_spec.specs.secure_log.LogEntries.Chain.{AreNumbered, Link, IsLink, IsChain, IsEndOf}
 use Rattle.replay_spec.specs.secure_log.LogEntries.Chain.{IsAmong}
 use Rattle.replay_spec.specs.secure_log.LogEntries.Chain.{NoCollision, zeros, hash_after, last_hash}
-use Rattle.replay_spec.specs.secure_log.LogEntries.Chain.{last_number, none_from}
+use Rattle.replay_spec.specs.secure_log.LogEntries.Chain.{last_number}
 use Rattle.replay_spec.specs.secure_log.LogEntries.Chain.{pairs, marks, chain_texts}
 use Rattle.replay_spec.proofs.secure_log.OfLogEntries.FewerTexts.{Within, fewer, left, right, both, beginning}
 use Rattle.replay_spec.proofs.secure_log.OfLogEntries.Chains.{chain_end}
 use Rattle.replay_spec.proofs.secure_log.OfLogEntries.Marks.{marks_parts, marks_begin}
-use Rattle.evidence_spec.proofs.Places.{all_front}
-use Rattle.evidence_spec.proofs.Gaps.{rise}
+use Rattle.replay_spec.proofs.secure_log.Gaps.{rise}
 
--- each pair of links is a mark of them
-pub pair_is_mark : (before : ℕ) (opening : List ℕ) (links : List Link) (p : ℕ × List ℕ)
-    → IsAmong p (pairs before opening links) → IsAmong p (marks before opening links)
-pair_is_mark before opening [] p i = i
-pair_is_mark before opening (l ∷ ls) p (inl e) = inl e
-pair_is_mark before opening (l ∷ ls) p (inr i) =
-    let after = hash_after opening l in
-    inr (right (none_from (before + 1) l.skipped) (marks l.number after ls) p
-    (pair_is_mark l.number after ls p i))
+-- what holds of each of a list holds of each of its first
+all_front : {A : Type 0} (P : A → Type 0) (xs ys : List A) → AllByRecursion P (xs ++ ys) → AllByRecursion P xs
+all_front P [] ys each = tt
+all_front P (x ∷ xs) ys each = (each.0, all_front P xs ys each.1)
 
 last_number-append : (before : ℕ) (xs ys : List Link)
     → last_number before (xs ++ ys) ≡ last_number (last_number before xs) ys

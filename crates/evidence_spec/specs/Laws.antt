@@ -1,11 +1,10 @@
 -- What holds of evidence: each law is the contract of a function in src/laws.rt.
-use Rattle.std.specs.Prelude.{◌≡◌, ◌↔◌, ℕ, ◌+◌, ◌<◌, List, [], ◌∷◌, ◌++◌}
+use Rattle.std.specs.Prelude.{◌≡◌, ℕ, ◌+◌, List, [], ◌∷◌, ◌++◌}
 use Rattle.std.specs.Prelude.{Option, Some, option_map, IfSome}
 use Rattle.std.specs.List.{AllByRecursion}
 use Rattle.sha2.specs.Sha256.{sha256}
 use Rattle.xdr.specs.Item.{Fits}
 use Rattle.replay_spec.specs.authenticator.declared.member.LogVersion.{LogVersion}
-use Rattle.replay_spec.specs.authenticator.declared.member.LogVersion.TheVariants.{One}
 use Rattle.replay_spec.specs.authenticator.declared.member.Member.{Member}
 use Rattle.replay_spec.specs.authenticator.Numbers.{number_in}
 use Rattle.replay_spec.specs.authenticator.declared.member.Kind.TheVariants.{Client}
@@ -18,32 +17,22 @@ use Rattle.replay_spec.specs.secure_log.LogEntries.Entry.{entry_item, entry_valu
 use Rattle.replay_spec.specs.secure_log.declared.log_entries.entry.Entry.{Entry}
 use Rattle.replay_spec.specs.secure_log.declared.log_entries.entry.Entry.TheVariants.{Clock}
 use Rattle.replay_spec.specs.secure_log.Log.{log_hash, log_pairs}
-use Rattle.replay_spec.specs.secure_log.Segment.{SegmentParts, IsClosed, FitsWithin, segment_pairs}
-use Rattle.replay_spec.specs.secure_log.Segment.{segment_value}
-use Rattle.replay_spec.specs.secure_log.Versioned.{VersionedParts, FitsVersion, IsClosedIn, of_plain}
-use Rattle.replay_spec.specs.secure_log.Versioned.{segment_marks, versioned_value}
+use Rattle.replay_spec.specs.secure_log.Versioned.{VersionedParts, FitsVersion, IsClosedIn}
+use Rattle.replay_spec.specs.secure_log.Versioned.{segment_marks}
 use Rattle.replay_spec.specs.secure_log.declared.segment.TheConstants.{MAX_ENTRIES}
 use Rattle.replay_spec.specs.state_spec.State.{State}
 use Rattle.replay_spec.specs.Placed.{logged_places, places_in}
-use Rattle.replay_spec.specs.Stepping.{ReplayFault}
-use Rattle.replay_spec.specs.Replay.{Honest, Fault, Sound, segment_verdict, verdict_of}
+use Rattle.replay_spec.specs.Replay.{Honest, Sound, verdict_of}
 use Rattle.replay_spec.specs.Opening.{opening_of}
-use Rattle.replay_spec.specs.HonestLogs.{IsHonestWithGaps}
+use Rattle.replay_spec.specs.HonestLogs.{IsHonestLog}
 use Rattle.evidence_spec.specs.Showing.{ShowingParts, IsClosedShowing, Shows}
 use Rattle.evidence_spec.specs.Showing.{showing_item, showing_value, showing_marks}
-use Rattle.evidence_spec.specs.Showing.{authenticator_showing, segment_showing, versioned_showing}
+use Rattle.evidence_spec.specs.Showing.{authenticator_showing, versioned_showing}
 use Rattle.evidence_spec.specs.Evidence.{ForkParts, Fork, Replay, EvidenceParts}
 use Rattle.evidence_spec.specs.Evidence.{MAX_AUDITED, evidence_item, evidence_value, Accepts}
-use Rattle.evidence_spec.specs.Evidence.{AcceptsReplay}
-use Rattle.evidence_spec.specs.Proving.{IsLogOf, log_links, pairs_of, marks_of, texts_of}
+use Rattle.evidence_spec.specs.Proving.{IsLogOf, log_links, marks_of, texts_of}
 use Rattle.evidence_spec.specs.Proving.{versioned_texts, showing_texts, entry_texts}
 use Rattle.evidence_spec.specs.Proving.{charge_texts, closings, IsUnforgedIn, Proves}
-
--- A log of version 1 has one hash at each number.
-abbrev pub OneHashAtANumber : Type 0
-OneHashAtANumber =
-    (log : List Entry) (number : ℕ) (one other : List ℕ)
-    → IsAmong (number, one) (log_pairs log) → IsAmong (number, other) (log_pairs log) → one ≡ other
 
 -- A log has one mark at each number: one hash, or that no entry has it.
 abbrev pub OneMarkAtANumber : Type 0
@@ -57,7 +46,7 @@ abbrev pub ShownIsOfTheLog : Type 0
 ShownIsOfTheLog =
     (v : LogVersion) (ms : List Member) (log : List Logged) (s : ShowingParts) (number : ℕ) (mark : List ℕ)
     → IsLogOf v log → Fits (showing_item v) (showing_value v s) → IsClosedShowing v ms s
-    → IsAmong (number_in v s.closing.word, s.closing.hash) (pairs_of log)
+    → IsAmong (number_in v s.closing.word, s.closing.hash) (log_pairs log)
     → NoCollision (texts_of log ++ showing_texts s)
     → Shows s number mark → IsAmong (number, mark) (marks_of log)
 
@@ -72,7 +61,7 @@ abbrev pub SegmentIsOfTheLog : Type 0
 SegmentIsOfTheLog =
     (ms : List Member) (log : List Logged) (s : VersionedParts)
     → IsLogOf s.log_version log → FitsVersion MAX_AUDITED s → IsClosedIn ms s
-    → IsAmong (number_in s.log_version s.closing.word, s.closing.hash) (pairs_of log)
+    → IsAmong (number_in s.log_version s.closing.word, s.closing.hash) (log_pairs log)
     → NoCollision (texts_of log ++ versioned_texts s)
     → IsPartOf log s × ((number : ℕ) (mark : List ℕ)
     → IsAmong (number, mark) (segment_marks s) → IsAmong (number, mark) (marks_of log))
@@ -94,7 +83,7 @@ pub record IsNextIn (log : List Logged) (number : ℕ) (s : VersionedParts) : Ty
   -- its closing's number is that of its last entry, or the one before its first
   pub last : number_in s.log_version s.closing.word + 1 ≡ s.first + span s.entries
   pub part : IsPartOf log s
-  pub opening : IsAmong (number, s.opening) (pairs_of log)
+  pub opening : IsAmong (number, s.opening) (log_pairs log)
 
 -- A segment replays sound from a state, and the log has reached the state after it at its closing number.
 pub record IsSoundIn (ms : List Member) (log : List Logged) (state : State) (s : VersionedParts)
@@ -147,12 +136,6 @@ AuthenticatorsShowOnePair =
     → Fits authenticator_item (authenticator_value a) → IsSignedIn ms a
     → ShowsMarks v ms (authenticator_showing v a) ((number_in v a.word, a.hash) ∷ [])
 
--- A closed segment's links show its pairs.
-abbrev pub SegmentsShowTheirPairs : Type 0
-SegmentsShowTheirPairs =
-    (ms : List Member) (s : SegmentParts) → FitsWithin MAX_ENTRIES s → 0 < s.first → IsClosed ms s
-    → ShowsMarks One ms (segment_showing s) (segment_pairs s)
-
 -- A closed segment's links show its marks, whatever its entries skip.
 abbrev pub SegmentsShowTheirMarks : Type 0
 SegmentsShowTheirMarks =
@@ -167,7 +150,7 @@ abbrev pub OwnTextsProveNothing : Type 0
 OwnTextsProveNothing =
     (ms : List Member) (member : Member) (e : EvidenceParts) (log : List Logged) (s : State)
     → member_of ms e.node ≡ Some member → IsLogOf member.log_version log
-    → IsHonestWithGaps ms (opening_of member) log s
+    → IsHonestLog ms (opening_of member) log s
     → AllByRecursion (IsUnforgedIn member.log_version ms member.node log) (closings e.charge)
     → ((t : List ℕ) → IsAmong t (charge_texts e.charge) → IsAmong t (texts_of log))
     → NoCollision (texts_of log)
@@ -203,29 +186,5 @@ abbrev pub OneReadingProvesNothing : Type 0
 OneReadingProvesNothing =
     (v : LogVersion) (ms : List Member) (member : Member) (node : ℕ) (closing : Authenticator)
     → member_of ms node ≡ Some member → member.kind ≡ Client
-    → closing.word ≡ 1 → closing.hash ≡ log_hash (Clock 1 0 ∷ [])
+    → closing.word ≡ 1 → closing.hash ≡ log_hash (record { skipped = 0; entry = Clock 1 0 } ∷ [])
     → ¬ Proves ms (record { node = node; charge = Replay (one_reading v node closing) })
-
--- ---- replays of logs of version 1
-
--- A closed segment of a log of version 1 of a node, from the first entry on, in which a replay finds a fault.
-pub record FindsFault (ms : List Member) (node : ℕ) (s : SegmentParts) : Type 0 where
-  pub of_node : s.node ≡ node
-  pub first : s.first ≡ 1
-  pub opening : s.opening ≡ zeros
-  pub closed : IsClosed ms s
-  pub member : Member
-  pub is_member : member_of ms node ≡ Some member
-  pub fault : ReplayFault
-  pub number : ℕ
-  pub found : segment_verdict ms (opening_of member) s ≡ Fault fault number
-
--- It is accepted as a segment that skips nothing, exactly where it finds one.
-abbrev pub ReplaysWithoutGaps : Type 0
-ReplaysWithoutGaps =
-    (ms : List Member) (node : ℕ) (s : SegmentParts)
-    → FindsFault ms node s ↔ AcceptsReplay ms node (of_plain s)
-
--- And its text is the one that it has as a segment of a log of version 1.
-abbrev pub TextsWithoutGaps : Type 0
-TextsWithoutGaps = (s : SegmentParts) → versioned_value One (of_plain s) ≡ segment_value s

@@ -1,11 +1,10 @@
 -- What evidence proves: that no log of the node is honest, unless its signatures are forged or two texts have
 -- one digest.
-use Rattle.std.specs.Prelude.{◌≡◌, ℕ, ◌<◌, ◌^◌, List, [], ◌∷◌, ◌++◌, length, flat_map, Option, Some, None}
+use Rattle.std.specs.Prelude.{◌≡◌, ℕ, List, [], ◌∷◌, ◌++◌, flat_map, Option, Some, None}
 use Rattle.std.specs.List.{AllByRecursion}
 use Rattle.xdr.specs.Item.{Fits, spelling}
 use Rattle.merkle_keys.specs.Signing.{SignatureParts, signature_item, signature_value}
 use Rattle.replay_spec.specs.authenticator.declared.member.LogVersion.{LogVersion}
-use Rattle.replay_spec.specs.authenticator.declared.member.LogVersion.TheVariants.{One, Two}
 use Rattle.replay_spec.specs.authenticator.declared.member.Member.{Member}
 use Rattle.replay_spec.specs.authenticator.Numbers.{number_in}
 use Rattle.replay_spec.specs.authenticator.declared.authenticator.Authenticator.{Authenticator}
@@ -15,31 +14,17 @@ use Rattle.replay_spec.specs.secure_log.declared.log_entries.entry.Entry.{Entry}
 use Rattle.replay_spec.specs.secure_log.declared.log_entries.entry.Entry.TheVariants.{Send, Recv, Ack, Clock}
 use Rattle.replay_spec.specs.secure_log.declared.log_entries.entry.Entry.TheVariants.{Check}
 use Rattle.replay_spec.specs.secure_log.LogEntries.Entry.{entry_item, entry_value, content}
-use Rattle.replay_spec.specs.secure_log.LogEntries.Chain.{zeros, links_from, chain_texts, NoCollision}
+use Rattle.replay_spec.specs.secure_log.LogEntries.Chain.{zeros, chain_texts, NoCollision}
 use Rattle.replay_spec.specs.secure_log.LogEntries.Chain.{IsAmong}
-use Rattle.replay_spec.specs.secure_log.LogEntries.Chain.{Link, Logged, logged_links, marks, pairs, span}
-use Rattle.replay_spec.specs.secure_log.Log.{log_pairs}
-use Rattle.replay_spec.specs.secure_log.Segment.{SegmentParts}
+use Rattle.replay_spec.specs.secure_log.LogEntries.Chain.{Link, Logged, logged_links, marks}
+use Rattle.replay_spec.specs.secure_log.Log.{HasNumbers, log_pairs}
 use Rattle.replay_spec.specs.secure_log.Versioned.{VersionedParts, versioned_links}
 use Rattle.replay_spec.specs.state_spec.State.{State}
 use Rattle.replay_spec.specs.Bodies.{HasBytes}
 use Rattle.replay_spec.specs.Opening.{opening_of}
-use Rattle.replay_spec.specs.HonestLogs.{IsHonestWithGaps}
+use Rattle.replay_spec.specs.HonestLogs.{IsHonestLog}
 use Rattle.evidence_spec.specs.Showing.{ShowingParts, links_in}
 use Rattle.evidence_spec.specs.Evidence.{Charge, Fork, Replay, EvidenceParts}
-
--- Entries are those of a log of version 1: each has a text, bodies are bytes, and their numbers are of 64
--- bits.
-pub record IsLog (entries : List Entry) : Type 0 where
-  pub each : AllByRecursion (λ e. Fits entry_item (entry_value e)) entries
-  pub bytes : AllByRecursion HasBytes entries
-  pub few : length entries < 2 ^ 64
-
--- The numbers of a log of a version: in version 1 none is skipped, and they are of 64 bits; in version 2
--- they, and how many are skipped just before each entry, are of 32 bits.
-abbrev pub HasNumbers : LogVersion → List Logged → Type 0
-HasNumbers One log = AllByRecursion (λ l. l.skipped ≡ 0) log × (span log < 2 ^ 64)
-HasNumbers Two log = span log < 2 ^ 32
 
 -- Entries are those of a log of a version, each with how many numbers are skipped just before it: each has a
 -- text, bodies are bytes, and their numbers are such a log's.
@@ -51,10 +36,6 @@ pub record IsLogOf (v : LogVersion) (log : List Logged) : Type 0 where
 -- the links of a log
 abbrev pub log_links : List Logged → List Link
 log_links log = logged_links 0 log
-
--- the pairs of number and hash of a log, of which the first is that of place 0
-abbrev pub pairs_of : List Logged → List (ℕ × List ℕ)
-pairs_of log = pairs 0 zeros (log_links log)
 
 -- its marks: the pairs, and of each number that is skipped that no entry has it
 abbrev pub marks_of : List Logged → List (ℕ × List ℕ)
@@ -76,25 +57,11 @@ entry_texts (Ack to seq mine number prev signature) =
 entry_texts (Clock seconds microseconds) = content (Clock seconds microseconds) ∷ []
 entry_texts (Check digest) = content (Check digest) ∷ []
 
--- the texts that are hashed for entries that are numbered from `first` on, after a hash: those of the chain,
--- and those of each entry
-abbrev pub hashed_texts : (first : ℕ) (opening : List ℕ) → List Entry → List (List ℕ)
-hashed_texts first opening entries =
-    chain_texts opening (links_from first entries) ++ flat_map entry_texts entries
-
--- the texts of a whole log of version 1
-abbrev pub log_texts : List Entry → List (List ℕ)
-log_texts entries = hashed_texts 1 zeros entries
-
 -- the texts of a whole log: those of its chain, and those of each entry
 abbrev pub texts_of : List Logged → List (List ℕ)
 texts_of log = chain_texts zeros (log_links log) ++ flat_map (λ l. entry_texts l.entry) log
 
--- the texts that are hashed for a segment of a log of version 1
-abbrev pub segment_texts : SegmentParts → List (List ℕ)
-segment_texts s = hashed_texts s.first s.opening s.entries
-
--- the texts that are hashed for a segment of a log of either version
+-- the texts that are hashed for a segment
 abbrev pub versioned_texts : VersionedParts → List (List ℕ)
 versioned_texts s =
     chain_texts s.opening (versioned_links s) ++ flat_map (λ l. entry_texts l.entry) s.entries
@@ -125,15 +92,11 @@ abbrev pub closings : Charge → List Authenticator
 closings (Fork f) = f.a.closing ∷ option_closings f.b
 closings (Replay s) = s.closing ∷ []
 
--- An authenticator isn't forged against a log of version 1 of a node: if it is of that node, and signed, then
--- its number and hash are a pair of the log.
-abbrev pub IsUnforged : List Member → (node : ℕ) → List Entry → Authenticator → Type 0
-IsUnforged ms node log a = a.node ≡ node → IsSignedIn ms a → IsAmong (a.word, a.hash) (log_pairs log)
-
--- The same of a log of a version.
+-- An authenticator isn't forged against a log of a version of a node: if it is of that node, and signed, then its
+-- number and hash are a pair of the log.
 abbrev pub IsUnforgedIn : LogVersion → List Member → (node : ℕ) → List Logged → Authenticator → Type 0
 IsUnforgedIn v ms node log a =
-    a.node ≡ node → IsSignedIn ms a → IsAmong (number_in v a.word, a.hash) (pairs_of log)
+    a.node ≡ node → IsSignedIn ms a → IsAmong (number_in v a.word, a.hash) (log_pairs log)
 
 -- ---- what is proved
 
@@ -143,7 +106,7 @@ IsUnforgedIn v ms node log a =
 pub record Withstands (ms : List Member) (member : Member) (charge : Charge) (log : List Logged) : Type 0 where
   pub is_log : IsLogOf member.log_version log
   pub state : State
-  pub honest : IsHonestWithGaps ms (opening_of member) log state
+  pub honest : IsHonestLog ms (opening_of member) log state
   pub unforged : AllByRecursion (IsUnforgedIn member.log_version ms member.node log) (closings charge)
   pub no_collision : NoCollision (texts_of log ++ charge_texts charge)
 

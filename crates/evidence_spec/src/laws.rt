@@ -1,19 +1,17 @@
 //! What holds of evidence.
 
-ghost use Rattle.evidence_spec.specs.Laws.{OneHashAtANumber, OneMarkAtANumber, ShownIsOfTheLog};
+ghost use Rattle.evidence_spec.specs.Laws.{OneMarkAtANumber, ShownIsOfTheLog};
 ghost use Rattle.evidence_spec.specs.Laws.{SegmentIsOfTheLog};
 ghost use Rattle.evidence_spec.specs.Laws.{SegmentsGoOnSound};
 ghost use Rattle.evidence_spec.specs.Laws.{ContentsGiveEntriesBack, AcceptedEvidenceProves};
-ghost use Rattle.evidence_spec.specs.Laws.{AuthenticatorsShowOnePair, SegmentsShowTheirPairs};
+ghost use Rattle.evidence_spec.specs.Laws.{AuthenticatorsShowOnePair};
 ghost use Rattle.evidence_spec.specs.Laws.{SegmentsShowTheirMarks};
 ghost use Rattle.evidence_spec.specs.Laws.{OwnTextsProveNothing, UnsignedProveNothing};
-ghost use Rattle.evidence_spec.specs.Laws.{OneReadingProvesNothing, ReplaysWithoutGaps, TextsWithoutGaps};
+ghost use Rattle.evidence_spec.specs.Laws.{OneReadingProvesNothing};
 
-/// A log has one hash at each number, and one whose numbers have gaps one mark: a hash, or that no entry has
-/// it.
-pub fn one_hash_at_a_number()
-    ensures hash { OneHashAtANumber }
-    ensures mark { OneMarkAtANumber }
+/// A log has one mark at each number: a hash, or that no entry has it.
+pub fn one_mark_at_a_number()
+    ensures { OneMarkAtANumber }
 {}
 
 /// Where the closing of a showing, or of a segment, is a pair of a log and no two texts have one digest, all
@@ -41,10 +39,9 @@ pub fn accepted_evidence_proves()
 {}
 
 /// A signed authenticator alone, and the links of a closed segment, are closed showings, of that pair and of
-/// the segment's; so are those of a segment that skips numbers, of its marks.
+/// the segment's marks.
 pub fn what_is_shown_is_closed()
     ensures authenticator { AuthenticatorsShowOnePair }
-    ensures segment { SegmentsShowTheirPairs }
     ensures marks { SegmentsShowTheirMarks }
 {}
 
@@ -54,11 +51,4 @@ pub fn what_proves_nothing()
     ensures own { OwnTextsProveNothing }
     ensures unsigned { UnsignedProveNothing }
     ensures reading { OneReadingProvesNothing }
-{}
-
-/// A closed segment of a log of version 1, as one that skips nothing, is accepted as a replay exactly where
-/// it is from the first entry on and a replay finds a fault; and it has the same text.
-pub fn replays_without_gaps()
-    ensures accepted { ReplaysWithoutGaps }
-    ensures text { TextsWithoutGaps }
 {}

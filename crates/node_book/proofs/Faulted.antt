@@ -11,7 +11,7 @@ use Rattle.std.specs.List.{AllByRecursion}
 use Rattle.authenticator.specs.declared.member.LogVersion.{LogVersion}
 use Rattle.secure_log.specs.LogEntries.Chain.{IsAmong, Logged, logged_links, span, zeros}
 use Rattle.secure_log.specs.LogEntries.Words.{MaySkip}
-use Rattle.secure_log.specs.Versioned.{VersionedParts, ClosedVersionedParts, versioned_links}
+use Rattle.secure_log.specs.Versioned.{VersionedParts, ClosedParts, versioned_links}
 use Rattle.witness_spec.specs.state_spec.State.{State}
 use Rattle.evidence_spec.specs.Evidence.{EvidenceParts, Replay}
 use Rattle.evidence_spec.specs.replay_spec.Replay.{Sound}
@@ -28,7 +28,7 @@ use Rattle.witness_book_laws.specs.Replying.{reply_to_begin}
 use Rattle.witness_book_laws.specs.Fitting.{IsWhole, Tile, AreTiles, IsOne, IsMore, FitsTogether}
 use Rattle.witness_book_laws.specs.Going.{audited_with, first_evidence, having_filed}
 use Rattle.witness_book_laws.specs.Keeping.{KeepsLimits, audit_last}
-use Rattle.evidence_spec.proofs.Reached.{span-append}
+use Rattle.secure_log.proofs.OfLogEntries.Pairs.{span-append}
 use Rattle.witness_book_laws.proofs.Segments.{audited_are}
 use Rattle.witness_book_laws.proofs.witness_laws.OfEvidence.Before.{on_left, on_right}
 use Rattle.replay_jobs.specs.Jobs.{HasRoom}
@@ -94,7 +94,7 @@ pub record IsSplit (b : Book) (s : VersionedParts) : Type 0 where
   -- the one more is the job's segment, which follows on the end
   pub one : IsOne b.end.number s tiles.more
 
-split : (b : Book) (c : ClosedVersionedParts) → FitsTogether b → b.stage ≡ Out c → IsSplit b c.segment
+split : (b : Book) (c : ClosedParts) → FitsTogether b → b.stage ≡ Out c → IsSplit b c.segment
 split b c fits out = record {
   tiles = fits.tiles;
   one = subst (λ x. IsMore b.end.number (exposed b) x fits.tiles.more) out fits.tiles.rest;
@@ -117,7 +117,7 @@ front_is b s p =
     ∙ take-append_seam p.tiles.audited p.tiles.more)
 
 -- their entries are those that were audited
-pub faulted_entries : (b : Book) (c : ClosedVersionedParts) → FitsTogether b → b.stage ≡ Out c
+pub faulted_entries : (b : Book) (c : ClosedParts) → FitsTogether b → b.stage ≡ Out c
     → entries_of (take (length b.segments - 1) b.segments) ≡ book_audited b
 faulted_entries b c fits out =
     let p = split b c fits out in
@@ -132,7 +132,7 @@ some_entry s w h = by s.entries (omega (arith, w.count, h))
     by (l ∷ ls) some = omega arith
 
 -- with the job's they are a log that may be shown
-pub faulted_shows : (b : Book) (c : ClosedVersionedParts) → FitsTogether b → KeepsLimits b → b.stage ≡ Out c
+pub faulted_shows : (b : Book) (c : ClosedParts) → FitsTogether b → KeepsLimits b → b.stage ≡ Out c
     → ShowsLog b.log_version b.segments (length b.segments - 1) c.segment
 faulted_shows b c fits limits out =
     let p = split b c fits out in
@@ -183,7 +183,7 @@ pub begun_room : (b : Book) (j : JobParts) → FitsTogether b → KeepsLimits b 
     → reply_to_begin b b.stage ≡ Job j → HasRoom j
 begun_room b j fits limits few e = by b.stage refl e
   where
-    room : (c : ClosedVersionedParts) → b.stage ≡ Given c → HasRoom (job_of b (b.begun + 1) c)
+    room : (c : ClosedParts) → b.stage ≡ Given c → HasRoom (job_of b (b.begun + 1) c)
     room c is =
         let one : IsOne b.end.number c.segment fits.tiles.more =
         subst (λ x. IsMore b.end.number (exposed b) x fits.tiles.more) is fits.tiles.rest in
@@ -197,7 +197,7 @@ begun_room b j fits limits few e = by b.stage refl e
           sends = omega (arith, few.sends, mine.count, one.follows.first, last, entries);
         }
 
-    told : (c : ClosedVersionedParts) (x : Bool) → b.stage ≡ Given c
+    told : (c : ClosedParts) (x : Bool) → b.stage ≡ Given c
         → ◌≡◌ {A = Reply} (if x then Refused NothingToAudit else Job (job_of b (b.begun + 1) c)) (Job j) → HasRoom j
     told c true is said = absurd cc
     told c false is said = let same : job_of b (b.begun + 1) c ≡ j = cc in subst HasRoom same (room c is)
@@ -209,7 +209,7 @@ begun_room b j fits limits few e = by b.stage refl e
     by (Out c) is said = absurd cc
 
 -- where a node wasn't exposed, the evidence that is made of segments is the first
-pub exposed_by : (b : Book) (c : ClosedVersionedParts) (before : ℕ) → FitsTogether b → b.stage ≡ Out c
+pub exposed_by : (b : Book) (c : ClosedParts) (before : ℕ) → FitsTogether b → b.stage ≡ Out c
     → b.evidence ≡ None → before ≡ length b.segments - 1
     → first_evidence b.evidence
     (Some (record { node = b.node; charge = Replay (audited_with b c.segment) }))

@@ -5,7 +5,7 @@ use Rattle.std.proofs.Common.{nat_le, ◌&&◌, List, [], ◌∷◌, length, get
 use Rattle.std.proofs.Common.{ap, ◌∙◌, arith}
 use Rattle.std.proofs.lemmas.Bool.{and_from, le-leb, leb-true, ltb-true, ltb-false}
 use Rattle.std.proofs.lemmas.Bool.Decides.{nat_tests}
-use Rattle.secure_log.specs.Versioned.{ClosedVersionedParts}
+use Rattle.secure_log.specs.Versioned.{ClosedParts}
 use Rattle.secure_log.proofs.PartitionPoints.{PassInFront}
 use Rattle.witness_spec.specs.Exposing.{segment_holding}
 use Rattle.witness_spec.specs.Pairs.{last_of}
@@ -14,7 +14,7 @@ use Rattle.node_book.specs.Looking.{count_ended}
 use Rattle.node_book.specs.Rows.{segments_in}
 
 -- none ends before they begin
-pub ends_after : (first : ℕ) (cs : List ClosedVersionedParts) (next : ℕ) (k : ℕ) (d : ClosedVersionedParts)
+pub ends_after : (first : ℕ) (cs : List ClosedParts) (next : ℕ) (k : ℕ) (d : ClosedParts)
     → Tile first (segments_in cs) next → k < length cs → first ≤ last_of (get_or cs k d).segment
 ends_after first [] next k d t h = absurd (omega arith)
 ends_after first (c ∷ cs) next zero d t h = t.1
@@ -24,7 +24,7 @@ ends_after first (c ∷ cs) next (suc k) d t h =
     omega (arith, t.1)
 
 -- one ends before a number exactly where its index is below how many do
-pub at_count : (first n : ℕ) (cs : List ClosedVersionedParts) (next : ℕ) (k : ℕ) (d : ClosedVersionedParts)
+pub at_count : (first n : ℕ) (cs : List ClosedParts) (next : ℕ) (k : ℕ) (d : ClosedParts)
     → Tile first (segments_in cs) next → k < length cs
     → nat_lt (last_of (get_or cs k d).segment) n ≡ nat_lt k (count_ended n (segments_in cs))
 at_count first n [] next k d t h = absurd (omega arith)
@@ -50,7 +50,7 @@ at_count first n (c ∷ cs) next k d t h =
         grind (arith, nat_tests)
 
 -- at most all do
-pub count_within : (n : ℕ) (cs : List ClosedVersionedParts) → count_ended n (segments_in cs) ≤ length cs
+pub count_within : (n : ℕ) (cs : List ClosedParts) → count_ended n (segments_in cs) ≤ length cs
 count_within n [] = omega arith
 count_within n (c ∷ cs) =
     let rest = count_within n cs in
@@ -61,8 +61,8 @@ count_within n (c ∷ cs) =
     ]
 
 -- so many pass in front, and none after them
-pub pass_in_front : (n : ℕ) (cs : List ClosedVersionedParts) (next : ℕ) → Tile 1 (segments_in cs) next
-    → PassInFront (λ (c : ClosedVersionedParts). nat_lt (last_of c.segment) n) cs (count_ended n (segments_in cs))
+pub pass_in_front : (n : ℕ) (cs : List ClosedParts) (next : ℕ) → Tile 1 (segments_in cs) next
+    → PassInFront (λ (c : ClosedParts). nat_lt (last_of c.segment) n) cs (count_ended n (segments_in cs))
 pass_in_front n cs next t = (count_within n cs, λ k d there. at_count 1 n cs next k d t there)
 
 -- a segment that ends before a number doesn't hold it
@@ -75,14 +75,14 @@ ended from to n h = by (nat_le from n) (nat_le n to) refl
     by false b e = refl
 
 -- so it is found among the others
-found_behind : (n : ℕ) (c : ClosedVersionedParts) (cs : List ClosedVersionedParts) → nat_lt (last_of c.segment) n ≡ true
+found_behind : (n : ℕ) (c : ClosedParts) (cs : List ClosedParts) → nat_lt (last_of c.segment) n ≡ true
     → segment_holding n (segments_in (c ∷ cs)) ≡ segment_holding n (segments_in cs)
 found_behind n c cs e =
     ap (λ b. cond b (Some c.segment) (segment_holding n (segments_in cs)))
     (ended c.segment.first (last_of c.segment) n (ltb-true (last_of c.segment) n e))
 
 -- the one after them holds the number
-pub holds_at : (first n : ℕ) (cs : List ClosedVersionedParts) (next : ℕ) (d : ClosedVersionedParts)
+pub holds_at : (first n : ℕ) (cs : List ClosedParts) (next : ℕ) (d : ClosedParts)
     → Tile first (segments_in cs) next → first ≤ n → count_ended n (segments_in cs) < length cs
     → segment_holding n (segments_in cs) ≡ Some (get_or cs (count_ended n (segments_in cs)) d).segment
 holds_at first n [] next d t low h = absurd (omega arith)
@@ -109,7 +109,7 @@ holds_at first n (c ∷ cs) next d t low h =
         (le-leb c.segment.first n from) (le-leb n (last_of c.segment) to))
 
 -- where there is none after them, none holds it
-pub holds_none : (n : ℕ) (cs : List ClosedVersionedParts) → length cs ≤ count_ended n (segments_in cs)
+pub holds_none : (n : ℕ) (cs : List ClosedParts) → length cs ≤ count_ended n (segments_in cs)
     → segment_holding n (segments_in cs) ≡ None
 holds_none n [] h = refl
 holds_none n (c ∷ cs) h =

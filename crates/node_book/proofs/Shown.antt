@@ -17,7 +17,7 @@ use Rattle.authenticator.proofs.Signed.{is_false}
 use Rattle.secure_log.specs.LogEntries.Chain.{Logged, logged_links, zeros}
 use Rattle.secure_log.specs.LogEntries.Words.{MaySkip, logged}
 use Rattle.secure_log.specs.declared.log_entries.entry.Entry.{Entry}
-use Rattle.secure_log.specs.Versioned.{VersionedParts, ClosedVersionedParts}
+use Rattle.secure_log.specs.Versioned.{VersionedParts, ClosedParts}
 use Rattle.secure_log.proofs.VersionedTexts.{whole_is}
 use Rattle.evidence_spec.specs.Evidence.{Replay, charge_value, is_whole_charge}
 use Rattle.witness_spec.specs.Limits.{MAX_AUDITED}
@@ -27,12 +27,12 @@ use Rattle.node_book.specs.Shown.{IsShown, counts_of}
 use Rattle.node_book.proofs.Mapped.{flat_map_map}
 
 -- the entries of closed segments
-pub entries_are : (cs : List ClosedVersionedParts)
+pub entries_are : (cs : List ClosedParts)
     → entries_of (segments_in cs) ≡ flat_map (λ c. c.segment.entries) cs
 entries_are cs = flat_map_map (λ s. s.entries) (λ c. c.segment) cs
 
 -- those of the segments up to one, with its own, are no more than those of all
-pub entries_within : (cs : List ClosedVersionedParts) (i : ℕ) (c : ClosedVersionedParts) → i < length cs → c ≡ get_or cs i c
+pub entries_within : (cs : List ClosedParts) (i : ℕ) (c : ClosedParts) → i < length cs → c ≡ get_or cs i c
     → length (flat_map (λ d. d.segment.entries) (take i cs)) + length c.segment.entries
     ≤ length (entries_of (segments_in cs))
 entries_within cs i c inside is =
@@ -44,7 +44,7 @@ entries_within cs i c inside is =
     )
 
 -- the first of closed segments are the first of the segments
-pub first_are : (n : ℕ) (cs : List ClosedVersionedParts) → segments_in (take n cs) ≡ take n (segments_in cs)
+pub first_are : (n : ℕ) (cs : List ClosedParts) → segments_in (take n cs) ≡ take n (segments_in cs)
 first_are n cs = sym (take-map (λ c. c.segment) n cs)
 
 -- ---- what is skipped before entries
@@ -106,7 +106,7 @@ one_more s log more old was given skips o w g back grown added = record {
 -- ---- the log that is shown
 
 -- it has no more entries than evidence may have
-pub shown_few : (v : LogVersion) (cs : List ClosedVersionedParts) (n : ℕ) (s : VersionedParts)
+pub shown_few : (v : LogVersion) (cs : List ClosedParts) (n : ℕ) (s : VersionedParts)
     (shown : ShownEntries) → ShowsLog v (segments_in cs) n s
     → IsShown shown (entries_of (segments_in (take n cs)) ++ s.entries) → length shown.entries.items ≤ MAX_AUDITED
 shown_few v cs n s shown h is =
@@ -121,7 +121,7 @@ shown_few v cs n s shown h is =
     )
 
 -- they skip as they may
-pub shown_skips : (v : LogVersion) (cs : List ClosedVersionedParts) (n : ℕ) (s : VersionedParts)
+pub shown_skips : (v : LogVersion) (cs : List ClosedParts) (n : ℕ) (s : VersionedParts)
     (shown : ShownEntries) → ShowsLog v (segments_in cs) n s
     → IsShown shown (entries_of (segments_in (take n cs)) ++ s.entries)
     → AllByRecursion (MaySkip v) (logged_links 0 (logged shown.skips.items shown.entries.items))
@@ -133,7 +133,7 @@ shown_skips v cs n s shown h is =
     h.skips
 
 -- evidence of it has a text
-pub whole_charge : (v : LogVersion) (cs : List ClosedVersionedParts) (n : ℕ) (node : ℕ) (s : VersionedParts)
+pub whole_charge : (v : LogVersion) (cs : List ClosedParts) (n : ℕ) (node : ℕ) (s : VersionedParts)
     → ShowsLog v (segments_in cs) n s
     → is_whole_charge (charge_value (Replay (replayed_log v node (segments_in cs) n s))) ≡ true
 whole_charge v cs n node s h = by v h
@@ -150,7 +150,7 @@ whole_charge v cs n node s h = by v h
         some more = ap not (is_false _ (λ e. absurd (omega (arith, eqb-true _ _ e, length-append (entries_of (take n (segments_in cs))) s.entries, more))))
 
 -- the log from the start, of these entries and this closing, is the one that is to be shown
-pub log_is : (v : LogVersion) (node : ℕ) (cs : List ClosedVersionedParts) (n : ℕ) (s : VersionedParts)
+pub log_is : (v : LogVersion) (node : ℕ) (cs : List ClosedParts) (n : ℕ) (s : VersionedParts)
     (shown : ShownEntries) (closing : Authenticator)
     → IsShown shown (entries_of (segments_in (take n cs)) ++ s.entries) → closing ≡ s.closing
     → ◌≡◌ {A = VersionedParts} (record {

@@ -10,7 +10,7 @@ use Rattle.authenticator.specs.Roster.{log_number}
 use Rattle.secure_log.specs.LogEntries.Chain.{Logged}
 use Rattle.secure_log.specs.declared.log_entries.entry.Entry.{Entry}
 use Rattle.secure_log.specs.contracts.log_entries.entry.Entry as entries
-use Rattle.secure_log.specs.Versioned.{VersionedParts, ClosedVersionedParts}
+use Rattle.secure_log.specs.Versioned.{VersionedParts, ClosedParts}
 use Rattle.envelopes.specs.declared.envelope.Envelope.{Envelope}
 use Rattle.envelopes.specs.contracts.envelope.Envelope as envelopes
 use Rattle.evidence_spec.specs.Evidence.{EvidenceParts}
@@ -88,7 +88,7 @@ challenge_code =
 
 -- what a stage is made of, without names: nothing, two numbers, or a segment for each of the two others
 abbrev pub StageParts : Type 0
-StageParts = ℕ ⊎ ((ℕ × ℕ) ⊎ (ClosedVersionedParts ⊎ ClosedVersionedParts))
+StageParts = ℕ ⊎ ((ℕ × ℕ) ⊎ (ClosedParts ⊎ ClosedParts))
 
 -- the parts of a stage
 abbrev pub stage_parts : Stage → StageParts

@@ -3,7 +3,7 @@ use Rattle.std.specs.Prelude.{◌≡◌, ◌≢◌, ◌<◌, Bool, true, false, 
 use Rattle.std.specs.Arc.{arc_value}
 use Rattle.std.specs.Vec.{vec_capacity}
 use Rattle.authenticator.specs.declared.authenticator.Authenticator.{Authenticator}
-use Rattle.secure_log.specs.Versioned.{ClosedVersionedParts}
+use Rattle.secure_log.specs.Versioned.{ClosedParts}
 use Rattle.envelopes.specs.declared.envelope.Envelope.{Envelope}
 use Rattle.envelopes.specs.declared.acknowledgement.Ack.{Ack}
 use Rattle.witness_spec.specs.Events.{JobParts}
@@ -133,7 +133,7 @@ abbrev pub DecidesChallenge : Book → Envelope → ChallengeDecision → Type 0
 DecidesChallenge book x opening = reply_to_send_challenge book x ≡ reply_in (challenge_reply opening)
 
 -- Of a segment: whether it was asked for, and what it exposes; and one share of it more.
-abbrev pub DecidesAnswer : Book → ClosedVersionedParts → AnswerDecision → Type 0
+abbrev pub DecidesAnswer : Book → ClosedParts → AnswerDecision → Type 0
 DecidesAnswer book x a.NotAsked = reply_to_answer book x ≡ spec.Refused refusals.NotAsked
 DecidesAnswer book x (a.Accepted share evidence) =
     (reply_to_answer book x ≡ spec.Accepted) × (share ≡ x)

@@ -3,7 +3,7 @@ use Rattle.std.specs.Prelude.{◌≡◌, ◌==◌, ℕ, List, Option, if◌then�
 use Rattle.std.specs.Coded.{Coded, code_by, coded×, coded⊎, coded_ℕ, coded_list, coded_option}
 use Rattle.std.proofs.Common.{inl, inr, ◌⊎◌}
 use Rattle.authenticator.specs.declared.authenticator.Authenticator.{Authenticator}
-use Rattle.secure_log.specs.Versioned.{ClosedVersionedParts}
+use Rattle.secure_log.specs.Versioned.{ClosedParts}
 use Rattle.envelopes.specs.declared.envelope.Envelope.{Envelope}
 use Rattle.envelopes.specs.contracts.envelope.Envelope as envelopes
 use Rattle.envelopes.specs.declared.acknowledgement.Ack.{Ack}
@@ -112,7 +112,7 @@ question_back ItsEvidence = refl
 
 -- what an event is made of, without names: bytes; a checked value; a node; a job that comes back
 abbrev pub CheckedParts : Type 0
-CheckedParts = (Authenticator × PublicKey) ⊎ ((Envelope × PublicKey) ⊎ (ClosedVersionedParts ⊎ (Ack × PublicKey)))
+CheckedParts = (Authenticator × PublicKey) ⊎ ((Envelope × PublicKey) ⊎ (ClosedParts ⊎ (Ack × PublicKey)))
 
 abbrev pub NodeParts : Type 0
 NodeParts = ℕ ⊎ (ℕ ⊎ (ℕ ⊎ (ℕ × Question)))

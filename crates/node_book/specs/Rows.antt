@@ -5,7 +5,7 @@ use Rattle.std.specs.List.{AllByRecursion}
 use Rattle.authenticator.specs.declared.member.LogVersion.{LogVersion}
 use Rattle.secure_log.specs.LogEntries.Chain.{Logged, logged_links, zeros}
 use Rattle.secure_log.specs.LogEntries.Words.{MaySkip}
-use Rattle.secure_log.specs.Versioned.{VersionedParts, ClosedVersionedParts}
+use Rattle.secure_log.specs.Versioned.{VersionedParts, ClosedParts}
 use Rattle.evidence_spec.specs.Evidence.{EvidenceParts}
 use Rattle.evidence_spec.specs.Evidence as charges
 use Rattle.witness_spec.specs.Standing as standing
@@ -27,7 +27,7 @@ stage_in (Given c) = standing.Given c
 stage_in (Out c) = standing.Out c
 
 -- segments without their rosters
-abbrev pub segments_in : List ClosedVersionedParts → List VersionedParts
+abbrev pub segments_in : List ClosedParts → List VersionedParts
 segments_in cs = map (λ c. c.segment) cs
 
 -- the entries of segments, in order

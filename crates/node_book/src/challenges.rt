@@ -11,7 +11,7 @@ use authenticator::Signs;
 use challenge::Challenge;
 use envelopes::Message;
 use secure_log::log_entries::{Entry, message_hash};
-use secure_log::{MAX_ENTRIES, VersionedSegment};
+use secure_log::{BoundedSegment, MAX_ENTRIES};
 use std::alloc::{AllocError, Global};
 
 /// Whether a send challenge with this message is open. Takes no memory.
@@ -42,10 +42,7 @@ pub(crate) fn count_sends(challenges: &[Challenge]) -> usize
 
 /// Closes what a segment answers: an audit, and each send challenge whose message a RECV in it has. Takes no
 /// memory. Each RECV's message is hashed only where sender and number are a challenge's.
-pub(crate) fn close_answered(
-    challenges: &mut Vec<Challenge>,
-    segment: &VersionedSegment<MAX_ENTRIES>,
-)
+pub(crate) fn close_answered(challenges: &mut Vec<Challenge>, segment: &BoundedSegment<MAX_ENTRIES>)
     ensures { map challenge_in challenges.new.items ≡
         filter (λ x. not (is_answered segment.now x)) (map challenge_in challenges.old.items) }
 {
@@ -115,7 +112,7 @@ fn is_send_of(message: &Message, challenge: &Challenge) -> bool
 }
 
 /// Whether a segment answers a challenge: an audit, or one whose message a RECV in it has.
-fn is_answered(segment: &VersionedSegment<MAX_ENTRIES>, challenge: &Challenge) -> bool
+fn is_answered(segment: &BoundedSegment<MAX_ENTRIES>, challenge: &Challenge) -> bool
     ensures { result ≡ is_answered segment.now (challenge_in challenge.now) }
 {
     match challenge {

@@ -22,7 +22,7 @@ use crate::rows::Rows;
 use authenticator::{Authenticator, LogVersion, Number};
 use challenge::{Charge, Evidence, Fork, Showing};
 use replay_jobs::SharedSegment;
-use secure_log::{ClosedVersioned, Mark};
+use secure_log::{ClosedSegment, Mark};
 use std::alloc::{AllocError, Global};
 
 impl Rows {
@@ -69,12 +69,12 @@ impl Rows {
         let Some(number) = self.answer_fork(segment.closed()) else {
             return Ok(None);
         };
-        let new = Showing::of_closed(alloc, segment.closed())?;
+        let new = Showing::of_segment(alloc, segment.closed())?;
         self.fork_at(alloc, new, number)
     }
 
     /// The least number at which a segment that follows on the end shows another mark than the book.
-    fn answer_fork(&self, closed: &ClosedVersioned) -> Option<Number>
+    fn answer_fork(&self, closed: &ClosedSegment) -> Option<Number>
         requires fits { FitsTogether (book_in self.now) }
         requires follows { closed.now.segment.first ≡ self.now.end + 1 }
         ensures { result ≡ answer_fork (book_in self.now) closed.now.segment }
@@ -123,7 +123,7 @@ impl Rows {
         let Some(segment) = segment_holding(&self.segments, number) else {
             return Ok(None);
         };
-        let showing = Showing::of_closed(alloc, segment.closed())?;
+        let showing = Showing::of_segment(alloc, segment.closed())?;
         Ok(Some(showing))
     }
 
@@ -152,7 +152,7 @@ impl Rows {
 /// The least number of some authenticators of a log of this version at which a segment shows another mark.
 fn least_another(
     version: LogVersion,
-    closed: &ClosedVersioned,
+    closed: &ClosedSegment,
     learned: &[Authenticator],
 ) -> Option<Number>
     ensures { result ≡ least_from version closed.now.segment None learned.now }
@@ -167,7 +167,7 @@ fn least_another(
 /// The least number that was found so far, with one authenticator more.
 fn least_with(
     version: LogVersion,
-    closed: &ClosedVersioned,
+    closed: &ClosedSegment,
     least: Option<Number>,
     authenticator: &Authenticator,
 ) -> Option<Number>

@@ -1,9 +1,9 @@
 //! Nodes that have their keys and aren't made yet: a roster needs the roots of all of them first.
 
-ghost use Rattle.std.specs.Prelude.{◌≡◌, ◌≤◌, [], false, IfOk};
+ghost use Rattle.std.specs.Prelude.{◌≡◌, ◌≤◌, IfOk};
 ghost use Rattle.merkle_keys.specs.Tree.{root};
-ghost use Rattle.authenticator.specs.declared.member.LogVersion.TheVariants.{One};
 ghost use Rattle.node_keys.specs.Masters.{master_of};
+ghost use Rattle.node_logs.specs.Steps.Nodes.{new_node};
 ghost use Rattle.node_logs.specs.replay_spec.Opening.{opening_by};
 
 use crate::masters::Masters;
@@ -19,6 +19,7 @@ use std::thread::Threads;
 pub struct KeyedNode {
     number: u32,
     kind: Kind,
+    log_version: LogVersion,
     height: u32,
     masters: Masters,
     signer: Signer,
@@ -30,14 +31,27 @@ impl Model for KeyedNode {
 
     ghost Value = { KeyedParts };
 
-    ghost view = { λ k. record { number = k.number; kind = k.kind; masters = k.masters; signer = k.signer } };
+    ghost view = { λ k. record {
+      number = k.number;
+      kind = k.kind;
+      log_version = k.log_version;
+      masters = k.masters;
+      signer = k.signer;
+    } };
 
     ghost invariant = { λ k. (k.signer.height ≡ k.height)
-        × HasNewKeys (record { number = k.number; kind = k.kind; masters = k.masters; signer = k.signer }) };
+        × HasNewKeys (record {
+          number = k.number;
+          kind = k.kind;
+          log_version = k.log_version;
+          masters = k.masters;
+          signer = k.signer;
+        }) };
 }
 
 impl KeyedNode {
-    /// A node of this number and kind, with new keys of its master secret: so many as 2 to the height.
+    /// A node of this number and kind, which keeps a log of this version, with new keys of its master secret: so
+    /// many as 2 to the height.
     /// Threads make them, as many as there are processors, up to four. Takes memory for the hashes of the
     /// keys and what threads take.
     pub fn make<R: Threads + Sync>(
@@ -46,6 +60,7 @@ impl KeyedNode {
         masters: Masters,
         number: u32,
         kind: Kind,
+        log_version: LogVersion,
         height: u32,
     ) -> Result<KeyedNode, AllocError>
         requires some { 1 ≤ height }
@@ -53,6 +68,7 @@ impl KeyedNode {
         ensures { IfOk result (λ k. k ≡ record {
           number = number;
           kind = kind;
+          log_version = log_version;
           masters = masters;
           signer = record { master = master_of masters number; height = height; used = 0 };
         }) }
@@ -61,6 +77,7 @@ impl KeyedNode {
         Ok(KeyedNode {
             number,
             kind,
+            log_version,
             height,
             masters,
             signer,
@@ -81,14 +98,14 @@ impl KeyedNode {
         self.kind
     }
 
-    /// The node as a roster lists it, with a log of version 1.
+    /// The node as a roster lists it.
     pub fn member(&self) -> Member
         ensures { result ≡ record {
           node = self.now.number;
           kind = self.now.kind;
           root = root self.now.signer.master self.now.signer.height;
           height = self.now.signer.height;
-          log_version = One;
+          log_version = self.now.log_version;
         } }
     {
         Member {
@@ -96,31 +113,24 @@ impl KeyedNode {
             kind: self.kind,
             root: self.signer.root(),
             height: self.height,
-            log_version: LogVersion::One,
+            log_version: self.log_version,
         }
     }
 
     /// The node, made with a roster in the role that its type says. Its log is empty. A server's opening
     /// files take memory.
     pub fn make_node<R: Role>(self, alloc: Global, roster: Roster) -> Result<Node<R>, AllocError>
-        ensures { IfOk result (λ n. n ≡ record {
-          node = self.number;
-          roster = roster;
-          entries = [];
-          signer = self.signer;
-          beside = [];
-          state = opening_by R.kind self.number;
-          lies = false;
-          strayed = false;
-        }) }
+        ensures { IfOk result (λ n. n ≡ new_node self.number roster self.log_version self.signer
+            (opening_by R.kind self.number)) }
     {
         let KeyedNode {
             number,
             kind: _,
+            log_version,
             height,
             masters: _,
             signer,
         } = self;
-        Node::with_signer(alloc, roster, number, signer, height)
+        Node::with_signer(alloc, roster, number, log_version, signer, height)
     }
 }

@@ -1,4 +1,4 @@
--- An acknowledgement that is awaited is taken, or memory is refused.
+-- An acknowledgement that is awaited is taken, or memory is refused, or a number lacks.
 -- Serves: acknowledge_call, acknowledge_reply.
 use Rattle.std.proofs.Common.{inl, inr, Result, sym, subst}
 use Rattle.envelopes.specs.declared.acknowledgement.Ack.{Ack}
@@ -13,5 +13,7 @@ pub awaited : (n n' : NodeParts) (a : Ack) (answer : Result (Unit {0}) LinkFault
     → TakesAwaited n a answer n'
 awaited n n' a answer (inl h) =
     subst (λ (r : Result (Unit {0}) LinkFault). TakesAwaited n a r n') (sym h.0) h.1
-awaited n n' a answer (inr h) =
+awaited n n' a answer (inr (inl h)) =
     subst (λ (r : Result (Unit {0}) LinkFault). TakesAwaited n a r n') (sym h.0) h.1
+awaited n n' a answer (inr (inr h)) =
+    subst (λ (r : Result (Unit {0}) LinkFault). TakesAwaited n a r n') (sym h.0) (h.1, h.2)

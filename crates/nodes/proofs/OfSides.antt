@@ -1,6 +1,6 @@
 -- What the client and the server each do of an exchange alone.
 -- Serves: send_text, write_answer, answer, receive_reply.
-use Rattle.std.proofs.Common.{◌≡◌, inl, inr, ℕ, ◌+◌, false, List, [], length, Result, Ok, Err, Option, Some}
+use Rattle.std.proofs.Common.{◌≡◌, inr, ℕ, false, List, [], Result, Ok, Err, Option, Some}
 use Rattle.std.proofs.Common.{None}
 use Rattle.std.proofs.Common.{refl, sym, ap, subst, ◌∙◌}
 use Rattle.std.specs.Prelude.{IfErr, IfOk, OnOk}
@@ -13,15 +13,15 @@ use Rattle.envelopes.specs.declared.envelope.Envelope.{Envelope}
 use Rattle.envelopes.specs.declared.acknowledgement.Ack.{Ack}
 use Rattle.commitment.specs.Senders.LookUps.{ack_at, envelope_at}
 use Rattle.commitment.specs.Senders.Sender.{IsSender}
-use Rattle.commitment.specs.Receiver.{Finds}
 use Rattle.nfs_items.specs.Timeval.{Timeval}
+use Rattle.secure_log.specs.LogEntries.Chain.{span}
 use Rattle.gateway.specs.declared.links.fault.LinkFault.{LinkFault}
 use Rattle.gateway.specs.declared.links.fault.LinkFault.TheVariants.{KeysUsedUp, NoMemory, Failed}
-use Rattle.node_logs.specs.Steps.Nodes.{NodeParts, receiver_of, sender_of}
+use Rattle.node_logs.specs.Steps.Nodes.{NodeParts, next_number, sender_of}
 use Rattle.node_logs.specs.Receiving.{ReceivesEnvelope}
 use Rattle.node_logs.specs.Steps.Logging.{with_send}
 use Rattle.node_logs.specs.declared.outcome.Receipt.{Receipt}
-use Rattle.nodes.specs.Delivery.{MayReceive, MayTake, ReceivesNew, SendsBody, TakesNew, WritesText}
+use Rattle.nodes.specs.Delivery.{MayReceive, MayTake, SendsBody, WritesText}
 use Rattle.nodes.specs.Exchanges.Exchanges.{IsServed}
 use Rattle.nodes.specs.Faults.{Because}
 use Rattle.nodes.specs.Sides.{HasReceived, IsAnswered, IsEnvelopeText, IsReceivedAs, IsReplyAt, IsReplyText}
@@ -56,28 +56,22 @@ because Failed f g h = g h
 
 -- ---- the client sends
 
--- It sent nothing.
-pub not_sent : (c : NodeParts) (to : ℕ) (body : List ℕ) (fault : LinkFault) (c1 : NodeParts)
-    → SendsBody c to body (Err fault) c1 → StopsSending c to body fault c1
-not_sent c to body KeysUsedUp c1 h = inl h
-not_sent c to body NoMemory c1 h = inl (tt, h)
-not_sent c to body Failed c1 h = absurd h
-
 -- What it sent, and the text of its envelope.
 pub sent_as : (c : NodeParts) (to : ℕ) (body : List ℕ) (c1 n : NodeParts) (number : ℕ) (text : List ℕ)
     → SendsBody c to body (Ok number) c1 → IsSender (sender_of c1) → n ≡ c1
     → ((e : Envelope) → envelope_at (sender_of n) number ≡ Some e → IsEnvelopeText e text)
     → IsSentAs c to body text c1
 sent_as c to body c1 n number text sends is node written =
-    let same = sends.1 in
-    let x = envelope_shown (sender_of (with_send c to body)) c.entries [] to body
+    let same = sends.2 in
+    let x = envelope_shown (sender_of (with_send c to body)) c.entries [] c.pending to body
     (subst (λ (m : NodeParts). IsSender (sender_of m)) same is) refl in
     let e = x.0 in
     let h = x.1 in
-    let shown : envelope_at (sender_of c1) (length c.entries + 1) ≡ Some e =
-    ap (λ (m : NodeParts). envelope_at (sender_of m) (length c.entries + 1)) same ∙ h.there in
+    let shown : envelope_at (sender_of c1) (next_number c) ≡ Some e =
+    ap (λ (m : NodeParts). envelope_at (sender_of m) (next_number c)) same ∙ h.there in
     record {
       left = sends.0;
+      numbers = sends.1;
       sends = same;
       sender = is;
       envelope = e;
@@ -88,7 +82,7 @@ sent_as c to body c1 n number text sends is node written =
       says = h.says;
       written =
           written e (ap (λ (m : NodeParts). envelope_at (sender_of m) number) node
-          ∙ ap (envelope_at (sender_of c1)) sends.2 ∙ shown);
+          ∙ ap (envelope_at (sender_of c1)) sends.3 ∙ shown);
     }
 
 -- It sent, and the text was written, or memory was refused.
@@ -101,30 +95,32 @@ pub sent_or_stops : (c : NodeParts) (to : ℕ) (body : List ℕ) (c1 n : NodePar
 sent_or_stops c to body c1 n number text (Ok x) sends is node written =
     (sent_as c to body c1 n number text sends is node written, tt)
 sent_or_stops c to body c1 n number text (Err f) sends is node written =
-    let e = envelope_shown (sender_of (with_send c to body)) c.entries [] to body
-    (subst (λ (m : NodeParts). IsSender (sender_of m)) sends.1 is) refl in
+    let e = envelope_shown (sender_of (with_send c to body)) c.entries [] c.pending to body
+    (subst (λ (m : NodeParts). IsSender (sender_of m)) sends.2 is) refl in
     let shown : envelope_at (sender_of n) number ≡ Some e.0 =
-    ap (λ (m : NodeParts). envelope_at (sender_of m) number) (node ∙ sends.1)
-    ∙ ap (envelope_at (sender_of (with_send c to body))) sends.2 ∙ e.1.there in
-    (tt, inr (sends.0, only_memory envelope_text (envelope_value e.0) f text (written e.0 shown), sends.1))
+    ap (λ (m : NodeParts). envelope_at (sender_of m) number) (node ∙ sends.2)
+    ∙ ap (envelope_at (sender_of (with_send c to body))) sends.3 ∙ e.1.there in (
+      tt,
+      inr (
+        sends.0,
+        sends.1,
+        only_memory envelope_text (envelope_value e.0) f text (written e.0 shown),
+        sends.2,
+      ),
+    )
 
 -- ---- the server answers
-
--- It received nothing.
-pub not_received_by : (s : NodeParts) (time : Timeval) (e : Envelope) (bytes : List ℕ) (fault : LinkFault)
-    (s1 : NodeParts)
-    → (Finds (receiver_of s) bytes e None → ReceivesNew s time e (Err fault) s1)
-    → MayReceive s time bytes e (Err fault) s1
-    → StopsAnswering s time e bytes fault s1
-not_received_by s time e bytes KeysUsedUp s1 new may = inl may
-not_received_by s time e bytes NoMemory s1 new may = inl (tt, may)
-not_received_by s time e bytes Failed s1 new may = inl (new, may.0)
 
 -- It received an envelope.
 pub has_received : (s s1 : NodeParts) (time : Timeval) (bytes : List ℕ) (e : Envelope) (r : Receipt)
     → e.to ≡ s.node
     → MayReceive s time bytes e (Ok r) s1 → HasReceived s time e r s1
-has_received s s1 time bytes e r receiver may = record { receiver = receiver; left = may.0; receives = may.1 }
+has_received s s1 time bytes e r receiver may = record {
+  receiver = receiver;
+  left = may.0;
+  numbers = may.1;
+  receives = may.2;
+}
 
 -- what a server shows of a receipt, and what it did then, unless it lies
 pub record IsServedAs (s : NodeParts) (time : Timeval) (e : Envelope) (r : Receipt)
@@ -238,36 +234,29 @@ not_answered s s1 n time e r call (Err f) has is node refused =
 
 -- ---- the client receives the reply
 
--- It received nothing.
-pub not_taken_by : (c : NodeParts) (e : Envelope) (bytes : List ℕ) (fault : LinkFault) (c1 : NodeParts)
-    → (Finds (receiver_of c) bytes e None → TakesNew c e (Err fault) c1) → MayTake c bytes e (Err fault) c1
-    → StopsReceiving c e bytes fault c1
-not_taken_by c e bytes KeysUsedUp c1 new may = inl may
-not_taken_by c e bytes NoMemory c1 new may = inl (tt, may)
-not_taken_by c e bytes Failed c1 new may = inl (new, may.0)
-
 -- It received the reply, and the text of its acknowledgement was written, or memory was refused.
 pub received_or_stops : (c c1 n : NodeParts) (e : Envelope) (number : ℕ) (bytes text : List ℕ)
     (result : Result (Unit {0}) LinkFault) → MayTake c bytes e (Ok tt) c1 → IsSender (sender_of c1) → n ≡ c1
-    → number ≡ length c1.entries
+    → number ≡ span c1.entries
     → ((a : Ack) → ack_at (sender_of n) number ≡ Some a → WritesText ack_text (ack_value a) result text)
     → OnOk result (IsReceivedAs c e text c1) × IfErr result (λ f. StopsReceiving c e bytes f c1)
 received_or_stops c c1 n e number bytes text result may is node last written =
     by result (written a.0 (ap (λ (m : NodeParts). ack_at (sender_of m) number) node ∙ a.1))
   where
     a : (a : Ack) × (ack_at (sender_of c1) number ≡ Some a)
-    a = receipt_made c c1 number e may.1 is last
+    a = receipt_made c c1 number e may.2 is last
 
     by : (r : Result (Unit {0}) LinkFault) → WritesText ack_text (ack_value a.0) r text
         → OnOk r (IsReceivedAs c e text c1) × IfErr r (λ f. StopsReceiving c e bytes f c1)
     by (Ok x) w = (
       record {
         left = may.0;
-        received = may.1;
+        numbers = may.1;
+        received = may.2;
         ack = a.0;
         made = ap (ack_at (sender_of c1)) (sym last) ∙ a.1;
         written = w;
       },
       tt,
     )
-    by (Err f) w = (tt, inr (may.0, may.1, only_memory ack_text (ack_value a.0) f text w))
+    by (Err f) w = (tt, inr (may.0, may.1, may.2, only_memory ack_text (ack_value a.0) f text w))

@@ -1,6 +1,6 @@
 -- An exchange with a fault has failed.
 -- Serves: Direct::carry.
-use Rattle.std.proofs.Common.{◌≡◌, inl, inr, ℕ, true, false, List, refl}
+use Rattle.std.proofs.Common.{◌≡◌, inr, ℕ, true, false, List, refl}
 use Rattle.nfs_items.specs.Timeval.{Timeval}
 use Rattle.gateway.specs.declared.links.fault.LinkFault.{LinkFault}
 use Rattle.gateway.specs.declared.links.fault.LinkFault.TheVariants.{KeysUsedUp, NoMemory, Failed}
@@ -18,5 +18,4 @@ pub stops : (d : DirectParts) (time : Timeval) (body : List ℕ) (fault : LinkFa
     → StopsCarrying d.client d.server time body fault c s → StopsExchange d time body fault (failed_of c s)
 stops d time body KeysUsedUp c s none h = record { before = none; after = refl; stops = h }
 stops d time body NoMemory c s none h = record { before = none; after = refl; stops = h }
-stops d time body Failed c s none (inl h) = absurd h
-stops d time body Failed c s none (inr h) = absurd h.1.1.1.1
+stops d time body Failed c s none h = inr (record { before = none; after = refl; stops = h })

@@ -1,7 +1,7 @@
 -- An exchange with a server under a lock.
 -- Serves: ask, bring_back, call, Shared::carry.
-use Rattle.std.proofs.Common.{◌≡◌, inl, inr, ℕ, ◌+◌, Bool, true, false, List, length, Result, Ok, Err, Option}
-use Rattle.std.proofs.Common.{Some}
+use Rattle.std.proofs.Common.{◌≡◌, ◌⊎◌, inl, inr, ℕ, Bool, true, false, List, Result, Ok, Err, Option}
+use Rattle.std.proofs.Common.{Some, []}
 use Rattle.std.proofs.Common.{None, refl, sym, ap, subst, ◌∙◌}
 use Rattle.std.proofs.lemmas.Option.{same_Some}
 use Rattle.std.specs.Prelude.{IfErr, OnOk}
@@ -15,11 +15,13 @@ use Rattle.commitment.specs.Receiver.{Finds}
 use Rattle.nfs_items.specs.Timeval.{Timeval}
 use Rattle.gateway.specs.declared.links.fault.LinkFault.{LinkFault}
 use Rattle.gateway.specs.declared.links.fault.LinkFault.TheVariants.{KeysUsedUp, NoMemory, Failed}
-use Rattle.node_logs.specs.Steps.Nodes.{NodeParts, receiver_of, sender_of}
+use Rattle.node_logs.specs.Steps.Nodes.{NodeParts, next_number, receiver_of, sender_of}
+use Rattle.node_logs.specs.Nodes.{LacksNumbers}
+use Rattle.node_logs.specs.Steps.Serving.{entries_for}
 use Rattle.node_logs.specs.Steps.Logging.{with_send}
 use Rattle.node_logs.specs.AckTaking.{with_ack}
 use Rattle.node_logs.specs.declared.outcome.Receipt.{Receipt}
-use Rattle.nodes.specs.Delivery.{MayTakeAck, TakesAwaited}
+use Rattle.nodes.specs.Delivery.{MayTakeAck}
 use Rattle.nodes.specs.Exchanges.Exchanges.{IsAsked, IsHeard, IsJoined, IsOwed, IsServed, having_called}
 use Rattle.nodes.specs.Exchanges.Laws.{IsAccepted}
 use Rattle.nodes.specs.Faults.{Because}
@@ -33,6 +35,8 @@ use Rattle.nodes.specs.Sides.{StopsSending}
 use Rattle.nodes.proofs.OfExchanges.Answered.{reply_due}
 use Rattle.nodes.proofs.OfExchanges.Called.{call_acknowledged, call_reaches}
 use Rattle.nodes.proofs.OfExchanges.Reached.{ack_accepted, found}
+use Rattle.nodes.proofs.OfExchanges.Shown.{envelope_shown}
+use Rattle.authenticator.specs.Numbers.{number_in}
 use Rattle.nodes.proofs.OfSides.{because, weaker}
 
 -- ---- texts
@@ -49,7 +53,7 @@ handed bytes text same f a h = f a (subst (IsTextOfAck a) (sym same) h)
 pub not_begun : (c : NodeParts) (to : ℕ) (time : Timeval) (body : List ℕ) (fault : LinkFault) (c1 : NodeParts)
     → StopsSending c to body fault c1 → StopsCalling c to time body fault c1
 not_begun c to time body fault c1 (inl x) = unsent x.0 x.1
-not_begun c to time body fault c1 (inr x) = sent x.0 x.1 x.2
+not_begun c to time body fault c1 (inr x) = sent x.0 x.1 x.2 x.3
 
 -- what the server heard of a client that sent
 pub record IsHeardOf (c s : NodeParts) (to : ℕ) (time : Timeval) (body : List ℕ) (c1 s1 : NodeParts)
@@ -61,6 +65,17 @@ pub record IsHeardOf (c s : NodeParts) (to : ℕ) (time : Timeval) (body : List 
   pub is : c1 ≡ having_called c s body
   -- it received the call
   pub heard : IsHeard c s time body r s1
+
+-- The word of the envelope stands for the number of the SEND.
+sent_stands : (c : NodeParts) (to : ℕ) (body text : List ℕ) (c1 : NodeParts)
+    (out : IsSentAs c to body text c1) → number_in c.log_version out.envelope.seq ≡ next_number c
+sent_stands c to body text c1 out =
+    let x = envelope_shown (sender_of (with_send c to body)) c.entries [] c.pending to body
+    (subst (λ (n : NodeParts). IsSender (sender_of n)) out.sends out.sender) refl in
+    let shown : envelope_at (sender_of (with_send c to body)) (next_number c) ≡ Some out.envelope =
+    ap (λ (n : NodeParts). envelope_at (sender_of n) (next_number c)) (sym out.sends) ∙ out.shown in
+    let same : x.0 ≡ out.envelope = same_Some _ _ (sym x.1.there ∙ shown) in
+    ap (λ (e : Envelope). number_in c.log_version e.seq) (sym same) ∙ x.1.stands
 
 -- A server that received what the client sent is the one that it called.
 pub heard_of : (c s : NodeParts) (to : ℕ) (time : Timeval) (body text : List ℕ) (c1 s1 : NodeParts)
@@ -75,16 +90,19 @@ heard_of c s to time body text c1 s1 r out has =
       is = is;
       heard = record {
         left = out.left;
+        numbers = out.numbers;
         envelope = out.envelope;
         call = record {
-          shown = ap (λ (n : NodeParts). envelope_at (sender_of n) (length c.entries + 1)) (sym is)
+          shown = ap (λ (n : NodeParts). envelope_at (sender_of n) (next_number c)) (sym is)
               ∙ out.shown;
           sender = out.from;
           receiver = has.receiver;
           numbered = out.numbered;
+          stands = sent_stands c to body text c1 out;
           says = out.says;
         };
         server_left = has.left;
+        server_numbers = subst (λ (b : List ℕ). ¬ LacksNumbers (entries_for b) s) out.says has.numbers;
         receives = has.receives;
       };
     }
@@ -97,11 +115,11 @@ sent_found c s to body text c1 out number joined =
     let is : c1 ≡ having_called c s body = out.sends ∙ ap (λ (k : ℕ). with_send c k body) (sym number) in
     let sender = subst (λ (n : NodeParts). IsSender (sender_of n)) is out.sender in
     let x = call_reaches c s body joined sender in
-    let shown : envelope_at (sender_of (having_called c s body)) (length c.entries + 1) ≡ Some out.envelope =
-    ap (λ (n : NodeParts). envelope_at (sender_of n) (length c.entries + 1)) (sym is) ∙ out.shown in
+    let shown : envelope_at (sender_of (having_called c s body)) (next_number c) ≡ Some out.envelope =
+    ap (λ (n : NodeParts). envelope_at (sender_of n) (next_number c)) (sym is) ∙ out.shown in
     let same : x.0 ≡ out.envelope = same_Some _ _ (sym x.1.0.shown ∙ shown) in
     subst (λ (e : Envelope). Finds (receiver_of s) text e None) same
-    (found (having_called c s body) s kinds.Client (length c.entries + 1) x.0 text sender x.1.1
+    (found (having_called c s body) s kinds.Client (next_number c) x.0 text sender x.1.1
     (subst (λ (e : Envelope). IsEnvelopeText e text) (sym same) out.written))
 
 -- The server didn't receive it, or was out of memory for what it shows.
@@ -109,14 +127,16 @@ pub not_answered_under : (c s : NodeParts) (to : ℕ) (time : Timeval) (body tex
     (c1 s1 : NodeParts) (out : IsSentAs c to body text c1) → HasNotStrayed s → HasNotStrayed s1
     → StopsAnswering s time out.envelope text fault s1 → StopsCalling c to time body fault c1
 not_answered_under c s to time body text fault c1 s1 out straight stays (inl x) =
-    unheard s straight out.left
-    (because fault (λ lacks. lacks)
-    (λ refuses joined. refuses (sent_found c s to body text c1 out joined.0 joined.1)) x.0)
-    out.sends
+    unheard s straight out.left out.numbers (because fault (λ lacks. lacks) by x.0) out.sends
+  where
+    by : (Finds (receiver_of s) text out.envelope None → ⊥) ⊎ LacksNumbers (entries_for out.envelope.body) s
+        → ((s.node ≡ to) × IsJoined c s → ⊥) ⊎ LacksNumbers (entries_for body) s
+    by (inl refuses) = inl (λ joined. refuses (sent_found c s to body text c1 out joined.0 joined.1))
+    by (inr lacks) = inr (subst (λ (b : List ℕ). LacksNumbers (entries_for b) s) out.says lacks)
 not_answered_under c s to time body text fault c1 s1 out straight stays (inr x) =
     let h = heard_of c s to time body text c1 s1 x.0 out x.1.0 in
     heard s s1 x.0 (record { called = h.number; straight = straight; stays = stays }) h.heard
-    (weaker ⊥ (IsJoined c s → ⊥) fault x.1.1) h.is
+    (weaker ⊥ ((IsJoined c s → ⊥) ⊎ LacksNumbers 1 c1) fault x.1.1) h.is
 
 -- Where the two are joined, the client accepts the acknowledgement.
 accepts_ack : (c s : NodeParts) (to : ℕ) (time : Timeval) (body : List ℕ) (c1 s1 : NodeParts) (r : Receipt)
@@ -135,10 +155,9 @@ pub not_asked_under : (c s : NodeParts) (to : ℕ) (time : Timeval) (body text :
     (reply : Option (List ℕ))
     (ack bytes : List ℕ) (fault : LinkFault) (c1 s1 c2 : NodeParts) (out : IsSentAs c to body text c1)
     → HasNotStrayed s → HasNotStrayed s1 → IsAnswered s time out.envelope reply ack bytes s1
-    → ((a : Ack) → IsTextOfAck a ack → IsAccepted c1 a → TakesAwaited c1 a (Err fault) c2)
     → ((a : Ack) → IsTextOfAck a ack → MayTakeAck c1 a (Err fault) c2) → StopsCalling c to time body fault c2
-not_asked_under c s to time body text reply ack bytes fault c1 s1 c2 out straight stays answer takes told =
-    by fault (takes answer.ack answer.written.acknowledges) (told answer.ack answer.written.acknowledges)
+not_asked_under c s to time body text reply ack bytes fault c1 s1 c2 out straight stays answer told =
+    by fault (told answer.ack answer.written.acknowledges)
   where
     h : IsHeardOf c s to time body c1 s1 answer.receipt
     h = heard_of c s to time body text c1 s1 answer.receipt out answer.received
@@ -146,14 +165,16 @@ not_asked_under c s to time body text reply ack bytes fault c1 s1 c2 out straigh
     lock : IsUnderLock to s s1
     lock = record { called = h.number; straight = straight; stays = stays }
 
-    by : (f : LinkFault) → (IsAccepted c1 answer.ack → TakesAwaited c1 answer.ack (Err f) c2)
-        → MayTakeAck c1 answer.ack (Err f) c2 → StopsCalling c to time body f c2
-    by KeysUsedUp new may = absurd may
-    by NoMemory new may = heard s s1 answer.receipt lock h.heard tt (may ∙ h.is)
-    by Failed new may =
+    by : (f : LinkFault) → MayTakeAck c1 answer.ack (Err f) c2 → StopsCalling c to time body f c2
+    by KeysUsedUp may = absurd may
+    by NoMemory may = heard s s1 answer.receipt lock h.heard tt (may ∙ h.is)
+    by Failed (same, inl refuses) =
         heard s s1 answer.receipt lock h.heard
-        (λ joined. new (accepts_ack c s to time body c1 s1 answer.receipt answer.ack h answer.sender
-        answer.shown.made joined)) (may.0 ∙ h.is)
+        (inl (λ joined. refuses (accepts_ack c s to time body c1 s1 answer.receipt answer.ack h answer.sender
+        answer.shown.made joined))) (same ∙ h.is)
+    by Failed (same, inr lacks) =
+        heard s s1 answer.receipt lock h.heard
+        (inr (subst (λ (n : NodeParts). LacksNumbers 1 n) (sym same) lacks)) (same ∙ h.is)
 
 -- The client took it.
 pub asked_under : (c s : NodeParts) (to : ℕ) (time : Timeval) (body text : List ℕ) (reply : Option (List ℕ))
@@ -188,17 +209,18 @@ asked_under c s to time body text reply ack bytes c1 s1 c2 out straight stays an
 pub not_returned : (c : NodeParts) (e : Envelope) (bytes : List ℕ) (fault : LinkFault) (c1 : NodeParts)
     → StopsReceiving c e bytes fault c1 → StopsReturning c e bytes fault c1
 not_returned c e bytes fault c1 (inl x) = inl x
-not_returned c e bytes fault c1 (inr x) = inr (x.0, x.1, weaker ⊥ (IsAckRefused c1) fault x.2)
+not_returned c e bytes fault c1 (inr x) =
+    inr (x.0, x.1, x.2, weaker ⊥ (IsAckRefused c1) fault x.3)
 
 -- It received it, and the server took the acknowledgement or didn't.
 pub returned_or_stops : (c : NodeParts) (e : Envelope) (bytes text : List ℕ) (c1 s s1 : NodeParts)
     (result : Result (Unit {0}) LinkFault) → IsReceivedAs c e text c1 → HasNotStrayed s → HasNotStrayed s1
-    → ((a : Ack) → IsTextOfAck a text → IsAccepted s a → TakesAwaited s a result s1)
     → ((a : Ack) → IsTextOfAck a text → MayTakeAck s a result s1)
     → OnOk result (IsReturnedAs c e c1) × IfErr result (λ f. StopsReturning c e bytes f c1)
-returned_or_stops c e bytes text c1 s s1 (Ok x) got straight stays takes told = (
+returned_or_stops c e bytes text c1 s s1 (Ok x) got straight stays told = (
   record {
     left = got.left;
+    numbers = got.numbers;
     received = got.received;
     acknowledged = record {
       ack = got.ack;
@@ -212,15 +234,14 @@ returned_or_stops c e bytes text c1 s s1 (Ok x) got straight stays takes told = 
   },
   tt,
 )
-returned_or_stops c e bytes text c1 s s1 (Err fault) got straight stays takes told =
-    (tt, inr (got.left, got.received, by fault (takes got.ack got.written) (told got.ack got.written)))
+returned_or_stops c e bytes text c1 s s1 (Err fault) got straight stays told =
+    (tt, inr (got.left, got.numbers, got.received, by fault (told got.ack got.written)))
   where
-    by : (f : LinkFault) → (IsAccepted s got.ack → TakesAwaited s got.ack (Err f) s1)
-        → MayTakeAck s got.ack (Err f) s1 → Because ⊥ (IsAckRefused c1) f
-    by KeysUsedUp new may = may
-    by NoMemory new may = tt
-    by Failed new may =
-        record { ack = got.ack; made = got.made; server = s; straight = straight; refuses = new }
+    by : (f : LinkFault) → MayTakeAck s got.ack (Err f) s1 → Because ⊥ (IsAckRefused c1) f
+    by KeysUsedUp may = may
+    by NoMemory may = tt
+    by Failed may =
+        record { ack = got.ack; made = got.made; server = s; straight = straight; refuses = may.1 }
 
 -- ---- both
 
@@ -304,7 +325,12 @@ called_with c to time body reply bytes c1 c2 h returns =
             record { receipt = h.receipt; asked = h.asked; owed = x.named },
             record {
               envelope = x.envelope;
-              received = record { envelope = x.there; left = back.left; received = back.received };
+              received = record {
+                envelope = x.there;
+                left = back.left;
+                numbers = back.numbers;
+                received = back.received;
+              };
               body = x.says;
               acknowledged = back.acknowledged;
             },
@@ -341,17 +367,19 @@ not_called_with c to time body reply bytes fault c1 c2 h stops = by (stops x.env
     owed : IsOwed c h.server time body x.number c1 h.left
     owed = record { receipt = h.receipt; asked = h.asked; owed = x.named }
 
+    why : (Finds (receiver_of c1) bytes x.envelope None → ⊥) ⊎ LacksNumbers 1 c1
+        → (IsJoined c h.server → ⊥) ⊎ LacksNumbers 1 c1
+    why (inl refuses) = inl (λ joined. refuses (reply_found c h.server c1 h.left time body bytes h.receipt
+        x.number x.envelope h.asked h.sender x.named x.there x.written joined))
+    why (inr lacks) = inr lacks
+
     by : StopsReturning c1 x.envelope bytes fault c2 → StopsCalling c to time body fault c2
     by (inl y) =
         subst (λ (n : NodeParts). StopsCalling c to time body fault n) (sym y.1)
-        (asked h.server h.left x.number h.lock owed
-        (because fault (λ lacks. lacks)
-        (λ refuses joined. refuses (reply_found c h.server c1 h.left time body bytes h.receipt x.number
-        x.envelope
-        h.asked h.sender x.named x.there x.written joined)) y.0))
+        (asked h.server h.left x.number h.lock owed (because fault (λ lacks. lacks) why y.0))
     by (inr y) =
         received h.server h.left c1 x.number x.envelope h.lock owed
-        (record { envelope = x.there; left = y.0; received = y.1 }) y.2
+        (record { envelope = x.there; left = y.0; numbers = y.1; received = y.2 }) y.3
 
 -- ---- the link
 

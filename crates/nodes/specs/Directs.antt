@@ -1,6 +1,8 @@
 -- A link of a client and a server that are joined: what an exchange of it gives and leaves.
 use Rattle.std.specs.Prelude.{◌≡◌, ◌⊎◌, Bool, true, false, List, ℕ, Option, Some, None, refl}
 use Rattle.std.specs.Coded.{Coded, code_by, coded×, coded_bool}
+use Rattle.authenticator.specs.declared.member.LogVersion.{LogVersion}
+use Rattle.authenticator.specs.declared.member.LogVersion.TheVariants.{One, Two}
 use Rattle.gateway.specs.declared.links.fault.LinkFault.{LinkFault}
 use Rattle.gateway.specs.declared.links.fault.LinkFault.TheVariants.{KeysUsedUp, NoMemory, Failed}
 use Rattle.nfs_items.specs.Timeval.{Timeval}
@@ -51,12 +53,23 @@ pub record IsStopped (d : DirectParts) (time : Timeval) (body : List ℕ) (fault
   pub after : d'.failed ≡ true
   pub stops : StopsCarrying d.client d.server time body fault d'.client d'.server
 
--- Why an exchange isn't answered, and what is left: after a fault each is Failed, and nothing changes;
--- Failed comes there alone.
+-- Why an exchange isn't answered, and what is left: after a fault each is Failed, and nothing changes; else
+-- Failed comes only where numbers lack, which is its first fault then.
 abbrev pub StopsExchange : DirectParts → Timeval → List ℕ → LinkFault → DirectParts → Type 0
 StopsExchange d time body KeysUsedUp d' = IsStopped d time body KeysUsedUp d'
 StopsExchange d time body NoMemory d' = IsStopped d time body NoMemory d'
-StopsExchange d time body Failed d' = (d.failed ≡ true) × (d' ≡ d)
+StopsExchange d time body Failed d' =
+    ((d.failed ≡ true) × (d' ≡ d)) ⊎ IsStopped d time body Failed d'
+
+-- A log of this version may come to lack numbers: one of version 2.
+abbrev pub MayLackNumbers : LogVersion → Type 0
+MayLackNumbers One = ⊥
+MayLackNumbers Two = Unit {0}
+
+-- The link may answer Failed from now on: it has failed, or the log of one of the two may come to lack numbers.
+abbrev pub MayFail : DirectParts → Type 0
+MayFail d =
+    (d.failed ≡ true) ⊎ MayLackNumbers d.client.log_version ⊎ MayLackNumbers d.server.log_version
 
 -- Keys lack: the client has none left, or the server fewer than two.
 abbrev pub KeysLack : DirectParts → Type 0

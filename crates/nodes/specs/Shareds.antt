@@ -1,7 +1,7 @@
 -- A link of a client and a server under a lock, which others use too: what an exchange of it gives and
 -- leaves. The lock is taken for what the server does alone: it receives the call, and, where it owed a reply,
 -- takes the client's acknowledgement of it later. What others do to the server between the two is open.
-use Rattle.std.specs.Prelude.{◌≡◌, ◌⊎◌, Bool, true, false, List, ℕ, length, Option, Some, None, refl}
+use Rattle.std.specs.Prelude.{◌≡◌, ◌⊎◌, Bool, true, false, List, ℕ, Option, Some, None, refl}
 use Rattle.std.specs.Coded.{Coded, code_by, coded×, coded_ℕ, coded_bool}
 use Rattle.envelopes.specs.declared.envelope.Envelope.{Envelope}
 use Rattle.envelopes.specs.declared.acknowledgement.Ack.{Ack}
@@ -9,10 +9,12 @@ use Rattle.commitment.specs.Senders.LookUps.{ack_at}
 use Rattle.gateway.specs.declared.links.fault.LinkFault.{LinkFault}
 use Rattle.gateway.specs.declared.links.fault.LinkFault.TheVariants.{Failed}
 use Rattle.nfs_items.specs.Timeval.{Timeval}
+use Rattle.secure_log.specs.LogEntries.Chain.{span}
 use Rattle.node_logs.specs.Steps.Nodes.{NodeParts, IsHonest, sender_of}
 use Rattle.node_logs.specs.Steps.Logging.{with_send}
-use Rattle.node_logs.specs.Nodes.{LacksKeys, node_code}
+use Rattle.node_logs.specs.Nodes.{LacksKeys, LacksNumbers, node_code}
 use Rattle.node_logs.specs.AckTaking.{with_ack}
+use Rattle.node_logs.specs.Steps.Serving.{entries_for}
 use Rattle.node_logs.specs.declared.outcome.Receipt.{Receipt}
 use Rattle.nodes.specs.Exchanges.Exchanges.{IsAsked, IsHeard, IsJoined, IsOwed, IsReceived, IsServed}
 use Rattle.nodes.specs.Exchanges.Exchanges.{having_called}
@@ -55,7 +57,7 @@ pub record IsUnderLock (to : ℕ) (s s' : NodeParts) : Type 0 where
 -- RECV, and was left as `left`; neither has strayed.
 pub record IsAcknowledged (c : NodeParts) : Type 0 where
   pub ack : Ack
-  pub made : ack_at (sender_of c) (length c.entries) ≡ Some ack
+  pub made : ack_at (sender_of c) (span c.entries) ≡ Some ack
   pub server : NodeParts
   pub straight : HasNotStrayed server
   pub left : NodeParts
@@ -99,40 +101,44 @@ pub record IsExchanged (d : SharedParts) (time : Timeval) (body : List ℕ) (rep
 -- ---- faults
 
 -- A server that lay under the lock doesn't accept the acknowledgement that the client's log shows of its last
--- entry, a RECV: it fits none of its SENDs, or isn't signed by a member of its roster, or isn't awaited. The
--- server stays as it is.
+-- entry, a RECV: it fits none of its SENDs, or isn't signed by a member of its roster, or isn't awaited; or else
+-- the server's log has no number for the ACK. The server stays as it is.
 pub record IsAckRefused (c : NodeParts) : Type 0 where
   pub ack : Ack
-  pub made : ack_at (sender_of c) (length c.entries) ≡ Some ack
+  pub made : ack_at (sender_of c) (span c.entries) ≡ Some ack
   pub server : NodeParts
   pub straight : HasNotStrayed server
-  pub refuses : ¬ IsAccepted server ack
+  pub refuses : (¬ IsAccepted server ack) ⊎ LacksNumbers 1 server
 
 -- How far a client's call came before its fault, with what lay under the lock, and what that was left as.
 pub data StopsCalling (c : NodeParts) (to : ℕ) (time : Timeval) (body : List ℕ) (fault : LinkFault)
     (c' : NodeParts)
     : Type 0 where
-  -- Nothing was sent, and no lock taken.
-  unsent : Because (LacksKeys 1 c) ⊥ fault → c' ≡ c → StopsCalling c to time body fault c'
+  -- Nothing was sent, and no lock taken. Failed: the client's log has no number for the SEND.
+  unsent : Because (LacksKeys 1 c) (LacksNumbers 1 c) fault → c' ≡ c → StopsCalling c to time body fault c'
   -- The client sent, and was out of memory for the text. No lock was taken.
-  sent : (¬ LacksKeys 1 c) → Because ⊥ ⊥ fault → c' ≡ with_send c to body
+  sent : (¬ LacksKeys 1 c) → (¬ LacksNumbers 1 c) → Because ⊥ ⊥ fault → c' ≡ with_send c to body
       → StopsCalling c to time body fault c'
   -- The server didn't receive it, and was left as it was. Where it has the number and the two are joined, it
-  -- doesn't refuse it.
-  unheard : (server : NodeParts) → HasNotStrayed server → (¬ LacksKeys 1 c)
-      → Because (LacksKeys 2 server) (¬ ((server.node ≡ to) × IsJoined c server)) fault
+  -- doesn't refuse it; Failed comes then only where its log lacks numbers for what it would log.
+  unheard : (server : NodeParts) → HasNotStrayed server → (¬ LacksKeys 1 c) → (¬ LacksNumbers 1 c)
+      → Because (LacksKeys 2 server)
+      ((¬ ((server.node ≡ to) × IsJoined c server)) ⊎ LacksNumbers (entries_for body) server) fault
       → c' ≡ with_send c to body
       → StopsCalling c to time body fault c'
   -- The server received it, and was out of memory for what it shows; or the client didn't take the
   -- acknowledgement.
-  -- Where the two are joined, it doesn't refuse it.
+  -- Where the two are joined, it doesn't refuse it; Failed comes then only where its log has no number for the
+  -- ACK.
   heard : (server left : NodeParts) (r : Receipt) → IsUnderLock to server left
       → IsHeard c server time body r left
-      → Because ⊥ (¬ IsJoined c server) fault → c' ≡ having_called c server body
+      → Because ⊥ ((¬ IsJoined c server) ⊎ LacksNumbers 1 c') fault → c' ≡ having_called c server body
       → StopsCalling c to time body fault c'
-  -- The client took the acknowledgement, and not the reply. Where the two are joined, it doesn't refuse it.
+  -- The client took the acknowledgement, and not the reply. Where the two are joined, it doesn't refuse it;
+  -- Failed comes then only where its log has no number for the RECV.
   asked : (server left : NodeParts) (number : ℕ) → IsUnderLock to server left
-      → IsOwed c server time body number c' left → Because (LacksKeys 1 c') (¬ IsJoined c server) fault
+      → IsOwed c server time body number c' left
+      → Because (LacksKeys 1 c') ((¬ IsJoined c server) ⊎ LacksNumbers 1 c') fault
       → StopsCalling c to time body fault c'
   -- It received the reply, and was out of memory for its acknowledgement's text, and took no lock; or what
   -- lay under the lock didn't take it.

@@ -1,6 +1,6 @@
 -- What the client and the server each do of an exchange alone, with texts between them: where it gives what
 -- is wanted, and where it stops.
-use Rattle.std.specs.Prelude.{◌≡◌, ◌⊎◌, ◌+◌, ℕ, List, length, Option, Some, None}
+use Rattle.std.specs.Prelude.{◌≡◌, ◌⊎◌, ℕ, List, Option, Some, None}
 use Rattle.xdr.specs.Texts.Text.{IsText}
 use Rattle.envelopes.specs.Envelope.{envelope_text, envelope_value}
 use Rattle.envelopes.specs.Acknowledgement.{ack_text, ack_value}
@@ -11,9 +11,11 @@ use Rattle.commitment.specs.Senders.Sender.{IsSender, SenderParts}
 use Rattle.commitment.specs.Receiver.{Finds}
 use Rattle.gateway.specs.declared.links.fault.LinkFault.{LinkFault}
 use Rattle.nfs_items.specs.Timeval.{Timeval}
-use Rattle.node_logs.specs.Steps.Nodes.{NodeParts, receiver_of, sender_of}
-use Rattle.node_logs.specs.Nodes.{LacksKeys}
+use Rattle.secure_log.specs.LogEntries.Chain.{span}
+use Rattle.node_logs.specs.Steps.Nodes.{NodeParts, next_number, next_word, receiver_of, sender_of}
+use Rattle.node_logs.specs.Nodes.{LacksKeys, LacksNumbers}
 use Rattle.node_logs.specs.Receiving.{ReceivesEnvelope}
+use Rattle.node_logs.specs.Steps.Serving.{entries_for}
 use Rattle.node_logs.specs.Steps.Logging.{with_receipt, with_send}
 use Rattle.node_logs.specs.declared.outcome.Receipt.{Receipt}
 use Rattle.nodes.specs.Exchanges.Exchanges.{IsAsked, IsServed}
@@ -32,21 +34,23 @@ IsTextOfAck a bytes = IsText ack_text (ack_value a) bytes
 -- The client sent a body to a node, and this is the text of the envelope of its SEND.
 pub record IsSentAs (c : NodeParts) (to : ℕ) (body text : List ℕ) (c' : NodeParts) : Type 0 where
   pub left : ¬ LacksKeys 1 c
+  pub numbers : ¬ LacksNumbers 1 c
   pub sends : c' ≡ with_send c to body
   pub sender : IsSender (sender_of c')
   pub envelope : Envelope
-  pub shown : envelope_at (sender_of c') (length c.entries + 1) ≡ Some envelope
+  pub shown : envelope_at (sender_of c') (next_number c) ≡ Some envelope
   pub from : envelope.from ≡ c.node
   pub receiver : envelope.to ≡ to
-  pub numbered : envelope.seq ≡ length c.entries + 1
+  pub numbered : envelope.seq ≡ next_word c
   pub says : envelope.body ≡ body
   pub written : IsEnvelopeText envelope text
 
--- It stopped before the SEND, or, out of memory for the text, after it.
+-- It stopped before the SEND, or, out of memory for the text, after it. Failed: its log has no number for the
+-- SEND.
 abbrev pub StopsSending : (c : NodeParts) (to : ℕ) (body : List ℕ) → LinkFault → (c' : NodeParts) → Type 0
 StopsSending c to body fault c' =
-    (Because (LacksKeys 1 c) ⊥ fault × (c' ≡ c))
-    ⊎ ((¬ LacksKeys 1 c) × Because ⊥ ⊥ fault × (c' ≡ with_send c to body))
+    (Because (LacksKeys 1 c) (LacksNumbers 1 c) fault × (c' ≡ c))
+    ⊎ ((¬ LacksKeys 1 c) × (¬ LacksNumbers 1 c) × Because ⊥ ⊥ fault × (c' ≡ with_send c to body))
 
 -- ---- the server answers
 
@@ -55,6 +59,7 @@ pub record HasReceived (s : NodeParts) (time : Timeval) (e : Envelope) (r : Rece
     (s' : NodeParts) : Type 0 where
   pub receiver : e.to ≡ s.node
   pub left : ¬ LacksKeys 2 s
+  pub numbers : ¬ LacksNumbers (entries_for e.body) s
   pub receives : ReceivesEnvelope s time e r s'
 
 -- the envelope that a node shows at a number, or none at none
@@ -97,12 +102,14 @@ pub record IsAnswered (s : NodeParts) (time : Timeval) (e : Envelope) (reply : O
   pub shown : IsShownOf s' receipt.ack receipt.reply ack envelope
   pub written : IsWrittenOf ack envelope reply ack_bytes bytes
 
--- It stopped before the RECV, or, out of memory for what it shows, after it.
+-- It stopped before the RECV, or, out of memory for what it shows, after it. Failed: it refuses the envelope, or
+-- else its log lacks numbers for what it would log.
 abbrev pub StopsAnswering : (s : NodeParts) → Timeval → Envelope → (bytes : List ℕ) → LinkFault
     → (s' : NodeParts)
     → Type 0
 StopsAnswering s time e bytes fault s' =
-    (Because (LacksKeys 2 s) (¬ Finds (receiver_of s) bytes e None) fault × (s' ≡ s))
+    (Because (LacksKeys 2 s) ((¬ Finds (receiver_of s) bytes e None) ⊎ LacksNumbers (entries_for e.body) s) fault
+    × (s' ≡ s))
     ⊎ ((r : Receipt) × (HasReceived s time e r s' × Because ⊥ ⊥ fault))
 
 -- ---- the call, with the server under a lock
@@ -126,27 +133,31 @@ pub record IsAskedOf (c : NodeParts) (to : ℕ) (time : Timeval) (body : List �
 -- The client received a reply, and this is the text of its acknowledgement.
 pub record IsReceivedAs (c : NodeParts) (e : Envelope) (bytes : List ℕ) (c' : NodeParts) : Type 0 where
   pub left : ¬ LacksKeys 1 c
+  pub numbers : ¬ LacksNumbers 1 c
   pub received : c' ≡ with_receipt c e
   pub ack : Ack
-  pub made : ack_at (sender_of c') (length c'.entries) ≡ Some ack
+  pub made : ack_at (sender_of c') (span c'.entries) ≡ Some ack
   pub written : IsTextOfAck ack bytes
 
--- It stopped before the RECV, or, out of memory for the acknowledgement's text, after it.
+-- It stopped before the RECV, or, out of memory for the acknowledgement's text, after it. Failed: it refuses the
+-- reply, or else its log has no number for the RECV.
 abbrev pub StopsReceiving : (c : NodeParts) → Envelope → (bytes : List ℕ) → LinkFault → (c' : NodeParts)
     → Type 0
 StopsReceiving c e bytes fault c' =
-    (Because (LacksKeys 1 c) (¬ Finds (receiver_of c) bytes e None) fault × (c' ≡ c))
-    ⊎ ((¬ LacksKeys 1 c) × (c' ≡ with_receipt c e) × Because ⊥ ⊥ fault)
+    (Because (LacksKeys 1 c) ((¬ Finds (receiver_of c) bytes e None) ⊎ LacksNumbers 1 c) fault × (c' ≡ c))
+    ⊎ ((¬ LacksKeys 1 c) × (¬ LacksNumbers 1 c) × (c' ≡ with_receipt c e) × Because ⊥ ⊥ fault)
 
 -- And the server that lay under the lock then took it.
 pub record IsReturnedAs (c : NodeParts) (e : Envelope) (c' : NodeParts) : Type 0 where
   pub left : ¬ LacksKeys 1 c
+  pub numbers : ¬ LacksNumbers 1 c
   pub received : c' ≡ with_receipt c e
   pub acknowledged : IsAcknowledged c'
 
--- It stopped before the RECV, or with the acknowledgement after it.
+-- It stopped before the RECV, as above, or with the acknowledgement after it.
 abbrev pub StopsReturning : (c : NodeParts) → Envelope → (bytes : List ℕ) → LinkFault → (c' : NodeParts)
     → Type 0
 StopsReturning c e bytes fault c' =
-    (Because (LacksKeys 1 c) (¬ Finds (receiver_of c) bytes e None) fault × (c' ≡ c))
-    ⊎ ((¬ LacksKeys 1 c) × (c' ≡ with_receipt c e) × Because ⊥ (IsAckRefused c') fault)
+    (Because (LacksKeys 1 c) ((¬ Finds (receiver_of c) bytes e None) ⊎ LacksNumbers 1 c) fault × (c' ≡ c))
+    ⊎ ((¬ LacksKeys 1 c) × (¬ LacksNumbers 1 c) × (c' ≡ with_receipt c e)
+    × Because ⊥ (IsAckRefused c') fault)

@@ -1,6 +1,7 @@
 //! Handing what one node shows to another that awaits it.
 
 ghost use Rattle.std.specs.Prelude.{◌≡◌, ◌≤◌, IfOk, OnOk, None, Some, length};
+ghost use Rattle.secure_log.specs.LogEntries.Chain.{span};
 ghost use Rattle.secure_log.specs.declared.log_entries.entry.TheConstants.{MAX_BODY};
 ghost use Rattle.authenticator.specs.declared.member.Kind.TheVariants as kinds;
 ghost use Rattle.xdr.specs.Texts.Text.{IsText};
@@ -31,18 +32,23 @@ use secure_log::log_entries::{Body, SignatureText};
 use std::alloc::Global;
 
 /// A refusal as a fault of the link. What is made by one node is refused by the other only when it is out of
-/// keys or memory.
+/// keys, memory or numbers; of numbers it is `Failed`.
 fn fault_of(refusal: Refusal) -> LinkFault
     ensures { result ≡ fault_of refusal }
 {
     match refusal {
         Refusal::KeysUsedUp => LinkFault::KeysUsedUp,
         Refusal::NoMemory => LinkFault::NoMemory,
-        Refusal::Garbage | Refusal::NotForMe | Refusal::BadSignature => LinkFault::Failed,
+        Refusal::Garbage
+        | Refusal::NotForMe
+        | Refusal::BadSignature
+        | Refusal::NoGaps
+        | Refusal::GapTooWide => LinkFault::Failed,
     }
 }
 
-/// The client sends a body to a node. Gives the number of its SEND.
+/// The client sends a body to a node. Gives the number of its SEND. `Failed` comes only where its log has none
+/// for it.
 pub(crate) fn send(
     client: &mut ClientNode,
     to: u32,
@@ -127,8 +133,8 @@ pub(crate) fn body_of(node: &NodeLog, number: Number, alloc: Global) -> Result<V
     }
 }
 
-/// The server receives an envelope's text, which is to be new to it: of another, `Failed`. For `shown`, see
-/// `ServerNode::receive_shown`.
+/// The server receives an envelope's text, which is to be new to it: of another, `Failed`, and also where its
+/// log lacks numbers for what would be logged. For `shown`, see `ServerNode::receive_shown`.
 pub(crate) fn receive(
     server: &mut ServerNode,
     alloc: Global,
@@ -154,8 +160,8 @@ pub(crate) fn receive(
     }
 }
 
-/// The client takes a reply's text, which is to be new to it: of another, `Failed`. For `shown`, see
-/// `ClientNode::take_shown`.
+/// The client takes a reply's text, which is to be new to it: of another, `Failed`, and also where its log has
+/// no number for it. For `shown`, see `ClientNode::take_shown`.
 pub(crate) fn take_reply(
     client: &mut ClientNode,
     alloc: Global,
@@ -190,7 +196,8 @@ fn ack_taken(taken: Result<AckTaken, Refusal>) -> Result<(), LinkFault>
     }
 }
 
-/// A node takes an acknowledgement's text, which it is to await: of another, `Failed`.
+/// A node takes an acknowledgement's text, which it is to await: of another, `Failed`, and also where its log
+/// has no number for the ACK.
 pub(crate) fn take_ack<R: Role>(
     node: &mut Node<R>,
     alloc: Global,
@@ -263,9 +270,9 @@ pub(crate) fn acknowledge_call(
 
 /// The number of a log's last entry.
 pub(crate) fn last_number(node: &NodeLog) -> Number
-    ensures { result ≡ length node.now.entries }
+    ensures { result ≡ span node.now.entries }
 {
-    Number::new(node.log().entries().len() as u64)
+    node.log().last_number()
 }
 
 /// Hands the acknowledgement that the client's RECV with a number makes to the server.

@@ -5,7 +5,7 @@ ghost use Rattle.std.specs.Option.{option_map};
 ghost use Rattle.secure_log.specs.declared.log_entries.entry.TheConstants.{MAX_BODY};
 ghost use Rattle.gateway.specs.declared.links.fault.LinkFault.{LinkFault};
 ghost use Rattle.nodes.specs.Exchanges.Exchanges.{IsServed, MayJoin};
-ghost use Rattle.nodes.specs.Directs.{IsExchanged, StopsExchange, direct_of, world_in};
+ghost use Rattle.nodes.specs.Directs.{IsExchanged, MayFail, StopsExchange, direct_of, world_in};
 
 use crate::client::ClientNode;
 use crate::exchange::exchange;
@@ -40,7 +40,8 @@ impl Model for Direct {
 impl Direct {
     /// Joins a client and a server. Both come back, as they were handed in, exactly where they can't be
     /// joined: one of them has logged something, or they have one number, or one of them isn't listed in the
-    /// other's roster with its kind, root and height, or the server was told to lie in its next reply.
+    /// other's roster with its kind, root, height and version of the log, or the server was told to lie in its
+    /// next reply.
     pub fn join(
         alloc: Global,
         client: ClientNode,
@@ -86,8 +87,9 @@ impl Direct {
     /// Between them the client logs SEND, ACK and RECV, and the server RECV, CLOCK, SEND and ACK; without a
     /// reply the client SEND and ACK, and the server RECV and CLOCK. `KeysUsedUp` comes only where the client
     /// has no key left, or the server fewer than two, or the client none for the reply; `NoMemory` only where
-    /// a growth was refused; what was done before either stands. `Failed` comes after a fault, and only
-    /// there; nothing changes then.
+    /// a growth was refused; `Failed` where the log of one of the two lacks numbers for what it would log, as
+    /// only a log of version 2 may; what was done before any of them stands. After a fault `Failed` comes, and
+    /// nothing changes.
     pub fn carry(
         &mut self,
         alloc: Global,
@@ -135,8 +137,8 @@ fn may_join(client: &ClientNode, server: &ServerNode) -> bool
 }
 
 /// Its exchanges are what `carry` says, and so are its faults. It tells its server's world. From now on it
-/// may lack keys or memory; it has failed after a fault, and only there. It answers `KeysUsedUp` only where
-/// keys lack.
+/// may lack keys or memory, and, with a log of version 2, numbers: then it answers `Failed`. Else it answers
+/// `Failed` only after a fault. It answers `KeysUsedUp` only where keys lack. It has failed after a fault.
 impl Link for Direct {
     ghost use Rattle.nodes.specs.Directs.{IsFaulted};
 
@@ -146,7 +148,7 @@ impl Link for Direct {
 
     ghost world = { λ d. world_in d.server.state.machine };
 
-    ghost may_fault = { λ d e. e ≡ LinkFault.Failed → d.failed ≡ true };
+    ghost may_fault = { λ d e. e ≡ LinkFault.Failed → MayFail d };
 
     ghost faulted = { λ d e. IsFaulted d e };
 

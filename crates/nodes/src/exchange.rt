@@ -27,8 +27,9 @@ use std::alloc::Global;
 /// logged with others before, and whether it strayed, doesn't matter; `text` is used for what goes between
 /// the two. The reply is the one owed, unless the server was told to lie. Where they are joined, neither
 /// refuses the other: a fault is then `KeysUsedUp` or `NoMemory`, for keys that are used up or memory that
-/// was refused. Else `Failed` comes where one refuses the other, as where it doesn't list it. After a fault
-/// what was done before it stands, and nothing else was done (specs/Faults.antt).
+/// was refused, or `Failed` where the log of one has no numbers left for what it would log, as only a log of
+/// version 2 may. Else `Failed` comes also where one refuses the other, as where it doesn't list it. After a
+/// fault what was done before it stands, and nothing else was done (specs/Faults.antt).
 pub fn exchange(
     client: &mut ClientNode,
     server: &mut ServerNode,

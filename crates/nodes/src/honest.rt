@@ -76,7 +76,8 @@ impl HonestServer {
     /// were: its acknowledgement's text, and that of its reply's envelope, if one is owed. Gives the reply's
     /// body, which is the one owed. The server stays one that hasn't strayed. `KeysUsedUp` comes only where
     /// fewer than two keys are left, `NoMemory` only where a growth was refused, `Failed` only where the
-    /// message isn't new to the server, or refused by it. For `shown`, see `ServerNode::receive_shown`.
+    /// message isn't new to the server, or refused by it, or its log lacks numbers for what would be logged.
+    /// For `shown`, see `ServerNode::receive_shown`.
     pub(crate) fn answer(
         &mut self,
         alloc: Global,
@@ -103,8 +104,9 @@ impl HonestServer {
         result
     }
 
-    /// Takes an acknowledgement's text, which it is to await: of another, `Failed`. The server stays one that
-    /// hasn't strayed. `NoMemory` comes only where a growth was refused.
+    /// Takes an acknowledgement's text, which it is to await: of another, `Failed`, and also where its log has
+    /// no number for the ACK. The server stays one that hasn't strayed. `NoMemory` comes only where a growth
+    /// was refused.
     pub(crate) fn take_ack(&mut self, alloc: Global, text: &[u8]) -> Result<(), LinkFault>
         ensures straight { HasNotStrayed self.old }
         ensures stays { HasNotStrayed self.new }

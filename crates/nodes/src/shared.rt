@@ -86,7 +86,8 @@ impl<'a, R: Wait> Shared<'a, R> {
     /// client's acknowledgement. `KeysUsedUp` comes only where the client has no key left, or the server
     /// fewer than two, or the client none for the reply; `NoMemory` only where a growth was refused; `Failed`
     /// where one of the two refuses the other, as where it isn't listed there, or the server has another
-    /// number. What was done before any of them stands. After a fault `Failed` comes, no lock is taken, and
+    /// number, or else where the log of one lacks numbers for what it would log, as only a log of version 2
+    /// may. What was done before any of them stands. After a fault `Failed` comes, no lock is taken, and
     /// nothing changes.
     pub fn carry(
         &mut self,

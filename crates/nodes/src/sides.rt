@@ -23,7 +23,7 @@ use std::alloc::Global;
 
 /// The client sends a body of at most 12,288 bytes to a node, and the text of its envelope is written, in
 /// place of what the bytes were. `KeysUsedUp` comes only where no key is left, `NoMemory` only where a growth
-/// was refused.
+/// was refused, `Failed` only where its log has no number for the SEND.
 pub(crate) fn send_text(
     client: &mut ClientNode,
     to: u32,
@@ -72,7 +72,8 @@ fn write_answer(
 /// bytes were: its acknowledgement's text, and the text of its reply's envelope, if one is owed. Gives the
 /// reply's body, which is the one owed unless the server was told to lie. `KeysUsedUp` comes only where fewer
 /// than two keys are left, `NoMemory` only where a growth was refused, `Failed` only where the message isn't
-/// new to the server, or refused by it. For `shown`, see `ServerNode::receive_shown`.
+/// new to the server, or refused by it, or its log lacks numbers for what would be logged. For `shown`, see
+/// `ServerNode::receive_shown`.
 pub(crate) fn answer(
     server: &mut ServerNode,
     alloc: Global,
@@ -98,7 +99,8 @@ pub(crate) fn answer(
 
 /// The client receives the text of a reply's envelope, and its acknowledgement's text is written, in place of
 /// what the bytes were. `KeysUsedUp` comes only where no key is left, `NoMemory` only where a growth was
-/// refused, `Failed` only where the message isn't new to the client, or refused by it.
+/// refused, `Failed` only where the message isn't new to the client, or refused by it, or its log has no number
+/// for it.
 pub(crate) fn receive_reply(
     client: &mut ClientNode,
     alloc: Global,

@@ -23,12 +23,12 @@ use Rattle.envelopes.specs.declared.acknowledgement.Ack.{Ack}
 use Rattle.envelopes.specs.secure_log.authenticator.Numbers.{number_in}
 use Rattle.envelopes.specs.secure_log.LogEntries.Chain.{Link, last_hash}
 use Rattle.envelopes.specs.secure_log.LogEntries.Words.{ClosesAt, last_word}
-use Rattle.envelopes.specs.secure_log.Versioned.{VersionedParts, ClosedVersionedParts, Begins, EndsIn, FitsVersion}
+use Rattle.envelopes.specs.secure_log.Versioned.{VersionedParts, ClosedParts, Begins, EndsIn, FitsVersion}
 use Rattle.envelopes.specs.secure_log.Versioned.{versioned_links, versioned_text, versioned_value}
 use Rattle.envelopes.specs.secure_log.declared.segment.TheConstants.{MAX_ENTRIES}
 use Rattle.envelopes.specs.secure_log.declared.fault.SegmentFault.{SegmentFault}
 use Rattle.envelopes.specs.secure_log.declared.fault.SegmentFault.TheVariants as fault
-use Rattle.envelopes.specs.secure_log.Checking.{ChecksVersioned, IsVersioned}
+use Rattle.envelopes.specs.secure_log.Checking.{ChecksSegment, IsVersioned}
 use Rattle.packets.specs.Packet.{Delivery, Learn, SendChallenge, Answer, AckIn, answer_number, content_at}
 use Rattle.packets.specs.Packet.{delivery_of, delivery_shows}
 use Rattle.packets.specs.Values.{segment_said}
@@ -214,8 +214,8 @@ member_of_signed ms a h = by_member (member_of ms a.node) h
     by_member (Some m) h = refl
 
 -- what its check gives is what is owed to its packet
-pub given : (ms : List Member) (v : LogVersion) (bytes : List ℕ) (c : ClosedVersionedParts)
-    → ChecksVersioned v ms bytes (Ok c)
+pub given : (ms : List Member) (v : LogVersion) (bytes : List ℕ) (c : ClosedParts)
+    → ChecksSegment v ms bytes (Ok c)
     → judged_option ms (content_at (answer_number v) bytes) ≡ Ok (Answer c.segment)
 given ms v bytes c h =
     let s : VersionedParts = c.segment in
@@ -247,7 +247,7 @@ unread Two bytes none = rw none refl
 
 -- what its check refuses is refused to its packet
 pub answered : (ms : List Member) (v : LogVersion) (bytes : List ℕ) (f : SegmentFault)
-    → ChecksVersioned v ms bytes (Err f)
+    → ChecksSegment v ms bytes (Err f)
     → Refuses (judged_option ms (content_at (answer_number v) bytes)) (refusal_of f)
 answered ms v bytes fault.Garbage (inl none) = ap (judged_option ms) (unread v bytes none)
 answered ms v bytes fault.Garbage (inr other) =

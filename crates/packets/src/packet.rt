@@ -5,7 +5,7 @@ ghost use Rattle.packets.specs.Packet.{delivery_node};
 ghost use Rattle.packets.specs.Delivered.{delivery_in};
 
 use envelopes::{Ack, Authenticator, Checked, Envelope};
-use secure_log::ClosedVersioned;
+use secure_log::ClosedSegment;
 
 /// What a witness is sent, checked under a roster. `read_packet` makes it of bytes.
 #[derive(Drop)]
@@ -15,7 +15,7 @@ pub enum Packet {
     /// An envelope that its receiver is to acknowledge: a step of the receiver.
     SendChallenge(Checked<Envelope>),
     /// A segment, in answer to an audit: a step of the node that closes it.
-    Answer(ClosedVersioned),
+    Answer(ClosedSegment),
     /// An acknowledgement of an envelope: a step of the node that signs it.
     AckIn(Checked<Ack>),
 }

@@ -10,7 +10,7 @@ use crate::packet::Packet;
 use crate::signatures::{ByKeys, SignatureCheck};
 use authenticator::LogVersion;
 use envelopes::{Refusal, Roster, SegmentFault};
-use secure_log::check_versioned;
+use secure_log::check_segment;
 use std::alloc::Global;
 use xdr::Reader;
 
@@ -119,7 +119,7 @@ fn read_answer<C: SignatureCheck>(
     ensures uses { MayUse C.uses roster.now (judged_option roster.now (content_at (answer_number version) text.now))
         signatures.old signatures.new }
 {
-    match check_versioned(alloc, roster, version, text) {
+    match check_segment(alloc, roster, version, text) {
         Ok(segment) => {
             signatures.keep_closing(alloc, &segment);
             Ok(Packet::Answer(segment))

@@ -12,7 +12,7 @@ ghost use Rattle.envelopes.specs.Envelope.{envelope_shows};
 use envelopes::{
     Ack, Authenticator, Checked, Envelope, Refusal, Roster, check, check_ack, check_envelope,
 };
-use secure_log::ClosedVersioned;
+use secure_log::ClosedSegment;
 use std::alloc::Global;
 
 /// How signatures are checked: by the keys alone (`ByKeys`), or with what is kept of those that were checked
@@ -56,7 +56,7 @@ pub trait SignatureCheck {
             (λ _. self.new ≡ self.old) };
 
     /// A segment was checked, with the signature that closes it.
-    fn keep_closing(&mut self, alloc: Global, segment: &ClosedVersioned)
+    fn keep_closing(&mut self, alloc: Global, segment: &ClosedSegment)
         ensures uses { IfSome (member_of segment.now.roster segment.now.segment.closing.node)
             (λ m. uses self.old m segment.now.segment.closing self.new) };
 }
@@ -93,5 +93,5 @@ impl SignatureCheck for ByKeys {
         check_ack(alloc, roster, bytes)
     }
 
-    fn keep_closing(&mut self, _alloc: Global, _segment: &ClosedVersioned) {}
+    fn keep_closing(&mut self, _alloc: Global, _segment: &ClosedSegment) {}
 }

@@ -12,7 +12,7 @@ ghost use Rattle.packets.specs.Delivered.{delivery_in};
 use crate::packet::Packet;
 use authenticator::LogVersion;
 use envelopes::{AckRef, Authenticator, EnvelopeRef};
-use secure_log::{ClosedVersioned, MAX_ENTRIES, VersionedSegment};
+use secure_log::{BoundedSegment, ClosedSegment, MAX_ENTRIES};
 use std::alloc::AllocError;
 use xdr::{Writer, all_or_nothing};
 
@@ -73,7 +73,7 @@ fn add_challenge(envelope: &EnvelopeRef<'_>, out: &mut Vec<u8>) -> Result<(), Al
 }
 
 /// Appends the packet by which an audit is answered. Where memory was refused the bytes are as they were.
-pub fn write_answer(segment: &ClosedVersioned, out: &mut Vec<u8>) -> Result<(), AllocError>
+pub fn write_answer(segment: &ClosedSegment, out: &mut Vec<u8>) -> Result<(), AllocError>
     ensures says { let d = Answer segment.now.segment in OnOk result (Says (packet_text d) d) }
     ensures text { Appends (packet_text (Answer segment.now.segment)) out.old.items result out.new.items }
 {
@@ -82,7 +82,7 @@ pub fn write_answer(segment: &ClosedVersioned, out: &mut Vec<u8>) -> Result<(), 
     all_or_nothing(out, start, written)
 }
 
-fn add_answer(segment: &VersionedSegment<MAX_ENTRIES>, out: &mut Vec<u8>) -> Result<(), AllocError>
+fn add_answer(segment: &BoundedSegment<MAX_ENTRIES>, out: &mut Vec<u8>) -> Result<(), AllocError>
     ensures { Adds (packet_text (Answer segment.now)) out.old.items result out.new.items }
 {
     out.put_u32(answer_number(segment.log_version()))?;
@@ -99,20 +99,24 @@ fn answer_number(version: LogVersion) -> u32
     }
 }
 
-/// Appends the packet by which an audit is answered with the text of a segment of a log of version 1, as a
+/// Appends the packet by which an audit is answered with the text of a segment of a log of this version, as a
 /// node gives it. Where memory was refused the bytes are as they were.
-pub fn write_answer_text(text: &[u8], out: &mut Vec<u8>) -> Result<(), AllocError>
-    ensures { Appends (number_spelling 4 3 ++ text.now) out.old.items result out.new.items }
+pub fn write_answer_text(
+    version: LogVersion,
+    text: &[u8],
+    out: &mut Vec<u8>,
+) -> Result<(), AllocError>
+    ensures { Appends (number_spelling 4 (answer_number version) ++ text.now) out.old.items result out.new.items }
 {
     let start = out.len();
-    let written = add_answer_text(text, out);
+    let written = add_answer_text(version, text, out);
     all_or_nothing(out, start, written)
 }
 
-fn add_answer_text(text: &[u8], out: &mut Vec<u8>) -> Result<(), AllocError>
-    ensures { Adds (number_spelling 4 3 ++ text.now) out.old.items result out.new.items }
+fn add_answer_text(version: LogVersion, text: &[u8], out: &mut Vec<u8>) -> Result<(), AllocError>
+    ensures { Adds (number_spelling 4 (answer_number version) ++ text.now) out.old.items result out.new.items }
 {
-    out.put_u32(3)?;
+    out.put_u32(answer_number(version))?;
     out.extend_from_slice(text)
 }
 

@@ -10,21 +10,21 @@ use Rattle.authenticator.specs.declared.authenticator.Authenticator.{Authenticat
 use Rattle.secure_log.specs.declared.log_entries.entry.Entry.{Entry}
 use Rattle.checkpoint.specs.state_spec.State.{State}
 use Rattle.authenticator.specs.Signing.{is_signed, is_signed_by, is_signed_in}
-use Rattle.replay_spec.specs.Placed.{place}
 use Rattle.replay_spec.specs.Steps.{after_entry}
+use Rattle.replay.specs.Steps.{worded_place}
 use Rattle.replay_spec.specs.Stepping.{ReplayFault, fault_of, unless_fault, step}
 
 -- an entry with a fault
-pub faulty : (ms : List Member) (s : State) (number : ℕ) (before : List ℕ) (e : Entry) (fault : ReplayFault)
-    → Some fault ≡ fault_of ms s e → step ms s (place number before e) ≡ Err fault
+pub faulty : (ms : List Member) (s : State) (entry_word : ℕ) (before : List ℕ) (e : Entry) (fault : ReplayFault)
+    → Some fault ≡ fault_of ms s e → step ms s (worded_place entry_word before e) ≡ Err fault
 unfolding step
-faulty ms s number before e fault h = ap (unless_fault (after_entry s number before e)) (sym h)
+faulty ms s entry_word before e fault h = ap (unless_fault (after_entry s entry_word before e)) (sym h)
 
 -- an entry without one
-pub faultless : (ms : List Member) (s : State) (number : ℕ) (before : List ℕ) (e : Entry)
-    → None ≡ fault_of ms s e → step ms s (place number before e) ≡ Ok (after_entry s number before e)
+pub faultless : (ms : List Member) (s : State) (entry_word : ℕ) (before : List ℕ) (e : Entry)
+    → None ≡ fault_of ms s e → step ms s (worded_place entry_word before e) ≡ Ok (after_entry s entry_word before e)
 unfolding step
-faultless ms s number before e h = ap (unless_fault (after_entry s number before e)) (sym h)
+faultless ms s entry_word before e h = ap (unless_fault (after_entry s entry_word before e)) (sym h)
 
 -- two tests are one where they pass together
 together : (a b : Bool) → (a ≡ true → b ≡ true) → (b ≡ true → a ≡ true) → a ≡ b

@@ -1,21 +1,21 @@
 -- Places of entries with how many numbers are skipped before each.
--- Serves: run, replay_entries, replay_versioned; replay_finding (challenge), replayed (replay_jobs).
+-- Serves: run, replay_entries, replay; replay_finding (challenge), replayed (replay_jobs).
 use Rattle.std.proofs.Common.{◌≡◌, ℕ, ◌+◌, ◌-◌, ◌<◌, ◌^◌, Bool, true, false, List, [], ◌∷◌, length, drop, get_or}
-use Rattle.std.proofs.Common.{refl, sym, ap, ap₂, subst, ◌∙◌, arith}
+use Rattle.std.proofs.Common.{refl, sym, ap, ap₂, ◌∙◌, arith}
 use Rattle.std.specs.Prelude.{nat_lt}
 use Rattle.std.specs.List.{AllByRecursion}
 use Rattle.std.proofs.lemmas.Bool.{ltb-true, ltb-false}
 use Rattle.std.proofs.lemmas.List.{drop_all, drop_more, get_or_past}
 use Rattle.authenticator.specs.declared.member.LogVersion.{LogVersion}
 use Rattle.authenticator.specs.Numbers.{word_of}
-use Rattle.secure_log.specs.LogEntries.Chain.{Logged, chain_text, hash_after, last_number, link_of, logged_link}
+use Rattle.secure_log.specs.LogEntries.Chain.{Logged, chain_text, hash_after, last_number, logged_link}
 use Rattle.secure_log.specs.LogEntries.Chain.{logged_links}
 use Rattle.secure_log.specs.LogEntries.Words.{MaySkip, logged}
 use Rattle.secure_log.specs.Versioned.{EndsIn, FitsVersion, VersionedParts}
 use Rattle.secure_log.proofs.Gaps.{low_here, word_low}
 use Rattle.secure_log.proofs.VersionedTexts.{last_low}
 use Rattle.secure_log.specs.declared.log_entries.entry.Entry.{Entry}
-use Rattle.replay_spec.specs.Placed.{HasWord, place, placed, places_from, places_in}
+use Rattle.replay_spec.specs.Placed.{HasWord, places_from, places_in}
 
 -- ---- entries from a place on
 
@@ -62,32 +62,6 @@ hash_at before number l entry_word kind digest after words kinds digests is =
     ∙ ap (λ w. hash_after before (record { skipped = 0; number = w; kind = kind; content = digest })) words
     ∙ ap₂ (λ k d. hash_after before
     (record { skipped = 0; number = word_of l.skipped number; kind = k; content = d })) kinds digests
-
--- ---- entries before which none is skipped
-
--- they stand at numbers one after the other
-pub places_plain : (first : ℕ) (opening : List ℕ) (es : List Entry)
-    → places_from first opening (logged [] es) ≡ placed first opening es
-places_plain first opening [] = refl
-places_plain first opening (e ∷ es) =
-    let number : first + 0 ≡ first = omega arith in
-    ap (λ n. place n opening e ∷ places_from (n + 1) (hash_after opening (link_of n e)) (logged [] es)) number
-    ∙ ap (λ ps. place first opening e ∷ ps)
-    (places_plain (first + 1) (hash_after opening (link_of first e)) es)
-
-plain_words : (first : ℕ) (opening : List ℕ) (es : List Entry) → first + length es < 2 ^ 64
-    → AllByRecursion HasWord (placed first opening es)
-plain_words first opening [] low = tt
-plain_words first opening (e ∷ es) low = (
-  omega (arith, low),
-  plain_words (first + 1) (hash_after opening (link_of first e)) es (omega (arith, low)),
-)
-
--- and have words, where their numbers have 64 bits
-pub plain_has_words : (first : ℕ) (opening : List ℕ) (es : List Entry) → first + length es < 2 ^ 64
-    → AllByRecursion HasWord (places_from first opening (logged [] es))
-plain_has_words first opening es low =
-    subst (AllByRecursion HasWord) (sym (places_plain first opening es)) (plain_words first opening es low)
 
 -- ---- entries of a segment
 

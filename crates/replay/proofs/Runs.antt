@@ -17,12 +17,13 @@ use Rattle.checkpoint.specs.state_machine.declared.states.sends.TheConstants.{MA
 use Rattle.checkpoint.specs.state_spec.State.{State}
 use Rattle.replay.specs.Verdicts.{verdict_in, IsSoundWhereHonest}
 use Rattle.replay.specs.declared.verdict.Verdict as memory
-use Rattle.replay_spec.specs.Placed.{HasWord, Placed, logged_place, place, places_from}
+use Rattle.replay_spec.specs.Placed.{HasWord, Placed, logged_place, places_from}
+use Rattle.replay.specs.Steps.{worded_place}
 use Rattle.replay_spec.specs.Stepping.{ReplayFault, step, shown_by}
 use Rattle.replay_spec.specs.Replay.{with_shown, Verdict, Sound, Fault, behind, verdict_of}
 use Rattle.replay_spec.specs.Steps.{Takes}
 use Rattle.replay_spec.specs.LogLaws.LoggedMessages.{is_recv, recv_count, send_count}
-use Rattle.replay_spec.proofs.OfLogLaws.Counts.{counted_on}
+use Rattle.replay_spec.proofs.OfLogLaws.Counts.{counted_by}
 use Rattle.replay_spec.proofs.Runs.{verdict_after, first_step}
 use Rattle.replay_spec.proofs.OfLogLaws.Counts.{one_if}
 use Rattle.std.proofs.lemmas.List.Sums.{sum_by-cons}
@@ -100,20 +101,18 @@ StepsTake = (ms : List Member) (s t : State) (p : Placed) → (step ms s p ≡ O
 
 -- by a step each kind of message is one more at most
 more_received : StepsTake → (ms : List Member) (s t : State) (entry_word : ℕ) (before : List ℕ) (e : Entry)
-    → step ms s (place entry_word before e) ≡ Ok t → finite.len t.received ≤ finite.len s.received + 1
+    → step ms s (worded_place entry_word before e) ≡ Ok t → finite.len t.received ≤ finite.len s.received + 1
 more_received law ms s t entry_word before e h =
-    let counts =
-    counted_on ms s entry_word before (e ∷ []) (t ∷ []) ((law ms s t (place entry_word before e)).0 h, tt) in
-    let few = counts.received in
+    let p = worded_place entry_word before e in
+    let few = (counted_by ms s t p ((law ms s t p).0 h)).received in
     let one = one_received e in
     omega (arith, few, one)
 
 more_sent : StepsTake → (ms : List Member) (s t : State) (entry_word : ℕ) (before : List ℕ) (e : Entry)
-    → step ms s (place entry_word before e) ≡ Ok t → finite.len t.sends ≤ finite.len s.sends + 1
+    → step ms s (worded_place entry_word before e) ≡ Ok t → finite.len t.sends ≤ finite.len s.sends + 1
 more_sent law ms s t entry_word before e h =
-    let counts =
-    counted_on ms s entry_word before (e ∷ []) (t ∷ []) ((law ms s t (place entry_word before e)).0 h, tt) in
-    let few = counts.sends in
+    let p = worded_place entry_word before e in
+    let few = (counted_by ms s t p ((law ms s t p).0 h)).sends in
     let one = one_sent e in
     omega (arith, few, one)
 
@@ -130,7 +129,7 @@ rest_of entries index e inside is =
 
 -- a step at a place is that of an entry with the word there
 step_at : (ms : List Member) (s : State) (number : ℕ) (before : List ℕ) (l : Logged)
-    → step ms s (logged_place number before l) ≡ step ms s (place (word_of l.skipped number) before l.entry)
+    → step ms s (logged_place number before l) ≡ step ms s (worded_place (word_of l.skipped number) before l.entry)
 unfolding step
 step_at ms s number before l = refl
 
@@ -204,7 +203,7 @@ module _ (ms : List Member) (start : State) (first : ℕ) (opening : List ℕ) (
 
         -- by what its step gives
         by_step : (r : Result State ReplayFault)
-            → step ms s (place (word_of skipped number) before e) ≡ r
+            → step ms s (worded_place (word_of skipped number) before e) ≡ r
             → verdict ≡ after_all shown (verdict_after ms s (at number) (later number) r)
         by_step r h =
             whole
@@ -212,12 +211,12 @@ module _ (ms : List Member) (start : State) (first : ℕ) (opening : List ℕ) (
             ∙ ap (verdict_after ms s (at number) (later number)) (step_at ms s number before here ∙ h))
 
         -- its fault is that of the verdict
-        pub faults : (fault : ReplayFault) → step ms s (place (word_of skipped number) before e) ≡ Err fault
+        pub faults : (fault : ReplayFault) → step ms s (worded_place (word_of skipped number) before e) ≡ Err fault
             → verdict ≡ Fault fault number
         faults fault h = by_step (Err fault) h ∙ fault_found shown fault number
 
         -- after it the run goes on
-        pub goes_on : StepsTake → (t : State) → step ms s (place (word_of skipped number) before e) ≡ Ok t
+        pub goes_on : StepsTake → (t : State) → step ms s (worded_place (word_of skipped number) before e) ≡ Ok t
             → (after : List ℕ) → after ≡ hash_after before (logged_link number here)
             → IsRun ms start first opening skips entries t (shown ++ with_shown (shown_by s e) [])
             (number + 1) after (index + 1)

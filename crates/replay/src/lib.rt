@@ -22,4 +22,4 @@ pub use machine::{Clients, FreeMachine, KindMachine, Machine, NodeKind, ServerMa
 pub use opening::opening_state;
 pub use outcome::{Outcome, replay_outcome};
 pub use steps::{StepFault, step};
-pub use verdict::{Verdict, replay, replay_entries, replay_logged, replay_versioned};
+pub use verdict::{Verdict, replay, replay_entries};

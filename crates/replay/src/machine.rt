@@ -7,8 +7,7 @@ ghost use Rattle.checkpoint.specs.state_machine.declared.states.sends.TheConstan
 ghost use Rattle.checkpoint.specs.state_machine.Machines.{machine_in};
 ghost use Rattle.checkpoint.specs.state_spec.State as spec;
 ghost use Rattle.checkpoint.specs.state_spec.StateText.{IsStateText};
-ghost use Rattle.replay_spec.specs.Placed.{place};
-ghost use Rattle.replay.specs.Steps.{Steps};
+ghost use Rattle.replay.specs.Steps.{Steps, worded_place};
 ghost use Rattle.replay_spec.specs.Opening.{kind_of};
 
 use crate::steps::{StepFault, step};
@@ -45,7 +44,7 @@ pub trait Machine: Drop {
     ) -> Result<(), StepFault>
         requires few_received { len (state self.old).received < MAX_RECEIVED }
         requires few_sends { len (state self.old).sends < MAX_SENDS }
-        ensures { Steps roster.now (state self.old) (place word before.now entry.now) result
+        ensures { Steps roster.now (state self.old) (worded_place word before.now entry.now) result
             (state self.new) };
 
     /// The text of its state. `AllocError` comes only where a growth was refused.

@@ -7,10 +7,10 @@ ghost use Rattle.authenticator.specs.declared.authenticator.Authenticator.{Authe
 ghost use Rattle.secure_log.specs.LogEntries.Words.{logged};
 ghost use Rattle.checkpoint.specs.state_machine.declared.states.received.TheConstants.{MAX_RECEIVED};
 ghost use Rattle.checkpoint.specs.state_machine.declared.states.sends.TheConstants.{MAX_SENDS};
-ghost use Rattle.replay_spec.specs.Placed.{HasWord, place, places_from};
+ghost use Rattle.replay_spec.specs.Placed.{HasWord, places_from};
 ghost use Rattle.replay_spec.specs.Stepping.{shown_by};
 ghost use Rattle.replay_spec.specs.Replay.{verdict_of, with_shown};
-ghost use Rattle.replay.specs.Steps.{Steps};
+ghost use Rattle.replay.specs.Steps.{Steps, worded_place};
 ghost use Rattle.replay.specs.Endings.{EndsBy};
 
 use crate::fault::ReplayFault;
@@ -114,7 +114,7 @@ fn turn<M: Machine, K: Keeps>(
 ) -> Result<(), StepFault>
     requires few_received { len (M.state machine.old).received < MAX_RECEIVED }
     requires few_sends { len (M.state machine.old).sends < MAX_SENDS }
-    ensures step { Steps roster.now (M.state machine.old) (place word before.now entry.now) result
+    ensures step { Steps roster.now (M.state machine.old) (worded_place word before.now entry.now) result
         (M.state machine.new) }
     ensures kept { OnOk result ((shown : List Authenticator) → K.IsKeptOf kept.old shown →
         K.IsKeptOf kept.new (shown ++ with_shown (shown_by (M.state machine.old) entry.now) [])) }

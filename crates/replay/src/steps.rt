@@ -5,10 +5,9 @@ ghost use Rattle.std.specs.Option.{option_map};
 ghost use Rattle.std.specs.FinMap.{len};
 ghost use Rattle.checkpoint.specs.state_machine.declared.states.received.TheConstants.{MAX_RECEIVED};
 ghost use Rattle.checkpoint.specs.state_machine.declared.states.sends.TheConstants.{MAX_SENDS};
-ghost use Rattle.replay_spec.specs.Placed.{place};
 ghost use Rattle.replay_spec.specs.Stepping.{fault_of};
 ghost use Rattle.replay.specs.Faults.{fault_in};
-ghost use Rattle.replay.specs.Steps.{Steps};
+ghost use Rattle.replay.specs.Steps.{Steps, worded_place};
 ghost use Rattle.replay.specs.declared.steps.StepFault.TheVariants.{NoMemory};
 
 use crate::fault::ReplayFault;
@@ -53,7 +52,7 @@ pub fn step(
 ) -> Result<(), StepFault>
     requires few_received { len state.old.state.received < MAX_RECEIVED }
     requires few_sends { len state.old.state.sends < MAX_SENDS }
-    ensures { Steps roster.now state.old.state (place word before.now entry.now) result state.new.state }
+    ensures { Steps roster.now state.old.state (worded_place word before.now entry.now) result state.new.state }
 {
     renew_at_check(alloc, state, entry)?;
     step_once(state, alloc, roster, word, before, entry)
@@ -70,7 +69,7 @@ fn step_once(
 ) -> Result<(), StepFault>
     requires few_received { len state.old.state.received < MAX_RECEIVED }
     requires few_sends { len state.old.state.sends < MAX_SENDS }
-    ensures { Steps roster.now state.old.state (place word before.now entry.now) result state.new.state }
+    ensures { Steps roster.now state.old.state (worded_place word before.now entry.now) result state.new.state }
 {
     if let Some(fault) = fault_of(alloc, roster, state, entry)? {
         return Err(StepFault::Fault(fault));

@@ -1,13 +1,13 @@
 //! What a replay of a segment finds.
 
-ghost use Rattle.std.specs.Prelude.{◌≡◌, ◌+◌, ◌≤◌, ◌<◌, ◌^◌, IfOk, length};
+ghost use Rattle.std.specs.Prelude.{◌≡◌, ◌+◌, ◌≤◌, IfOk, length};
 ghost use Rattle.std.specs.FinMap.{len};
 ghost use Rattle.std.specs.List.{AllByRecursion};
 ghost use Rattle.checkpoint.specs.state_machine.declared.states.received.TheConstants.{MAX_RECEIVED};
 ghost use Rattle.checkpoint.specs.state_machine.declared.states.sends.TheConstants.{MAX_SENDS};
 ghost use Rattle.secure_log.specs.LogEntries.Words.{logged};
-ghost use Rattle.replay_spec.specs.Placed.{HasWord, placed, placed_in, places_from, places_in};
-ghost use Rattle.replay_spec.specs.Replay.{segment_verdict, verdict_of};
+ghost use Rattle.replay_spec.specs.Placed.{HasWord, places_from, places_in};
+ghost use Rattle.replay_spec.specs.Replay.{verdict_of};
 ghost use Rattle.replay.specs.Verdicts.{IsSoundWhereHonest, verdict_in};
 
 use crate::copy::copy_of;
@@ -16,8 +16,8 @@ use crate::run::{Ending, ending_of};
 use authenticator::{Authenticator, Number, Roster};
 use checkpoint::State;
 use replay_spec::laws::sound_exactly_if;
+use secure_log::ClosedSegment;
 use secure_log::log_entries::Entry;
-use secure_log::{ClosedSegment, ClosedVersioned};
 use std::alloc::{AllocError, Global};
 
 /// What a replay of a segment finds.
@@ -36,60 +36,6 @@ pub fn replay(alloc: Global, state: &State, segment: &ClosedSegment) -> Result<V
     requires few_received { len state.now.state.received + length segment.now.segment.entries ≤ MAX_RECEIVED }
     requires few_sends { len state.now.state.sends + length segment.now.segment.entries ≤ MAX_SENDS }
     ensures verdict { IfOk result (λ verdict. verdict_in verdict
-        ≡ segment_verdict segment.now.roster state.now.state segment.now.segment) }
-    ensures sound { IfOk result (λ verdict. IsSoundWhereHonest segment.now.roster state.now.state
-        (placed_in segment.now.segment) (verdict_in verdict)) }
-{
-    sound_exactly_if();
-    let copy = copy_of(alloc, state)?;
-    let roster = segment.roster();
-    let segment = segment.segment();
-    // The last entry's word, which is below the greatest of 64 bits.
-    let _last = segment.closing().word.get();
-    replay_entries(
-        alloc,
-        roster,
-        copy,
-        segment.first(),
-        &segment.opening(),
-        segment.entries(),
-    )
-}
-
-/// What a replay of entries after a state of their node finds, where the first has the number `first` and
-/// stands after the hash `opening`. A log's first entry has the number 1 and stands after 32 zero bytes and
-/// its member's `opening_state`. There may be more entries than a segment holds, and no signature of their
-/// own node is asked for. `AllocError` comes only where a growth was refused.
-pub fn replay_entries(
-    alloc: Global,
-    roster: &Roster,
-    start: State,
-    first: Number,
-    opening: &[u8; 32],
-    entries: &[Entry],
-) -> Result<Verdict, AllocError>
-    requires numbers { first + length entries.now < 2 ^ 64 }
-    requires few_received { len start.state.received + length entries.now ≤ MAX_RECEIVED }
-    requires few_sends { len start.state.sends + length entries.now ≤ MAX_SENDS }
-    ensures verdict { IfOk result (λ verdict. verdict_in verdict
-        ≡ verdict_of roster.now start.state (placed first opening.now entries.now)) }
-    ensures sound { IfOk result (λ verdict. IsSoundWhereHonest roster.now start.state
-        (placed first opening.now entries.now) (verdict_in verdict)) }
-{
-    sound_exactly_if();
-    replay_logged(alloc, roster, start, first, opening, &[], entries)
-}
-
-/// What a replay of a segment of a log of either version after a state finds. The state is copied once, by
-/// its text. `AllocError` comes only where a growth was refused.
-pub fn replay_versioned(
-    alloc: Global,
-    state: &State,
-    segment: &ClosedVersioned,
-) -> Result<Verdict, AllocError>
-    requires few_received { len state.now.state.received + length segment.now.segment.entries ≤ MAX_RECEIVED }
-    requires few_sends { len state.now.state.sends + length segment.now.segment.entries ≤ MAX_SENDS }
-    ensures verdict { IfOk result (λ verdict. verdict_in verdict
         ≡ verdict_of segment.now.roster state.now.state (places_in segment.now.segment)) }
     ensures sound { IfOk result (λ verdict. IsSoundWhereHonest segment.now.roster state.now.state
         (places_in segment.now.segment) (verdict_in verdict)) }
@@ -98,7 +44,7 @@ pub fn replay_versioned(
     let start = copy_of(alloc, state)?;
     let roster = segment.roster();
     let segment = segment.segment();
-    replay_logged(
+    replay_entries(
         alloc,
         roster,
         start,
@@ -109,12 +55,13 @@ pub fn replay_versioned(
     )
 }
 
-/// What a replay of entries after a state of their node finds, as `replay_entries`, but numbers may be
-/// skipped. Before each entry as many are skipped as the count at its place in `skips` says, and none before
-/// those that the counts don't reach; counts past the last entry say nothing. The first entry has the number
-/// `first` and as many more as are skipped before it. Each has a `Word`. `AllocError` comes only where a
-/// growth was refused.
-pub fn replay_logged(
+/// What a replay of entries after a state of their node finds. Before each entry as many numbers are skipped as
+/// the count at its place in `skips` says, and none before those that the counts don't reach; counts past the
+/// last entry say nothing. The first entry has the number `first` and as many more as are skipped before it, and
+/// stands after the hash `opening`. A log begins with the number 1 after 32 zero bytes and its member's
+/// `opening_state`. There may be more entries than a segment holds, and no signature of their own node is asked
+/// for. Each entry has a `Word`. `AllocError` comes only where a growth was refused.
+pub fn replay_entries(
     alloc: Global,
     roster: &Roster,
     start: State,

@@ -3,7 +3,7 @@
 ghost use Rattle.std.specs.Prelude.{◌≡◌, ◌↔◌, IfErr, IfOk, IsTrue};
 ghost use Rattle.witness_spec.specs.Events.{IsClosedUnder};
 
-use secure_log::ClosedVersioned;
+use secure_log::ClosedSegment;
 use std::alloc::{AllocError, AllocFailed, Global};
 use std::marker::Model;
 use std::sync::Arc;
@@ -12,15 +12,15 @@ use std::sync::Arc;
 /// once, however many own it.
 #[derive(Drop)]
 pub struct SharedSegment {
-    closed: Arc<ClosedVersioned>,
+    closed: Arc<ClosedSegment>,
 }
 
 impl Model for SharedSegment {
     ghost use Rattle.std.specs.Arc.{arc_value};
-    ghost use Rattle.secure_log.specs.Versioned.{ClosedVersionedParts};
+    ghost use Rattle.secure_log.specs.Versioned.{ClosedParts};
     ghost use Rattle.witness_spec.specs.Events.{IsClosedUnder};
 
-    ghost Value = { ClosedVersionedParts };
+    ghost Value = { ClosedParts };
 
     ghost view = { λ s. arc_value s.closed };
 
@@ -32,8 +32,8 @@ impl SharedSegment {
     /// comes back.
     pub fn new(
         alloc: Global,
-        closed: ClosedVersioned,
-    ) -> Result<SharedSegment, AllocFailed<ClosedVersioned>>
+        closed: ClosedSegment,
+    ) -> Result<SharedSegment, AllocFailed<ClosedSegment>>
         ensures shared { IfOk result (λ s. s ≡ closed) }
         ensures back { IfErr result (λ e. e.value ≡ closed) }
     {
@@ -61,7 +61,7 @@ impl SharedSegment {
     }
 
     /// The segment, which has a text and is closed under its roster.
-    pub fn closed(&self) -> &ClosedVersioned
+    pub fn closed(&self) -> &ClosedSegment
         ensures segment { result.now ≡ self.now }
         ensures closed { IsClosedUnder self.now }
     {

@@ -7,7 +7,7 @@ ghost use Rattle.replay_jobs.specs.Jobs.{HasRoom, job_verdict, verdict_told};
 
 use crate::plain::PlainJob;
 use authenticator::{Authenticator, Number};
-use replay::{ReplayFault, SharedState, Verdict, replay_logged};
+use replay::{ReplayFault, SharedState, Verdict, replay_entries};
 use std::alloc::{AllocError, Global};
 use std::sync::Arc;
 
@@ -48,7 +48,7 @@ pub(crate) fn replayed(alloc: Global, job: &PlainJob) -> Result<JobVerdict, Allo
     let closed = job.segment().closed();
     let roster = closed.roster();
     let segment = closed.segment();
-    let verdict = replay_logged(
+    let verdict = replay_entries(
         alloc,
         roster,
         state,

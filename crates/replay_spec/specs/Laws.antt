@@ -1,18 +1,17 @@
 -- What holds of replays: each law is the contract of a function in src/laws.rt.
-use Rattle.std.specs.Prelude.{◌≡◌, ◌↔◌, ◌+◌, ℕ, List, [], ◌∷◌, ◌++◌, length, map, Ok, Err}
+use Rattle.std.specs.Prelude.{◌≡◌, ◌↔◌, ◌+◌, ℕ, List, [], ◌∷◌, ◌++◌, map, Ok, Err}
 use Rattle.secure_log.specs.authenticator.declared.member.Member.{Member}
 use Rattle.secure_log.specs.authenticator.declared.authenticator.Authenticator.{Authenticator}
-use Rattle.secure_log.specs.LogEntries.Chain.{hash_after, links_from, last_hash, logged_link, pairs}
-use Rattle.secure_log.specs.LogEntries.Chain.{without_gaps}
-use Rattle.secure_log.specs.declared.log_entries.entry.Entry.{Entry}
+use Rattle.secure_log.specs.LogEntries.Chain.{Logged, hash_after, last_hash, logged_link, logged_links, pairs}
+use Rattle.secure_log.specs.LogEntries.Chain.{span}
 use Rattle.secure_log.specs.Log.{log_hash}
 use Rattle.state_spec.specs.State.{Machine, State, opened_with}
-use Rattle.replay_spec.specs.Placed.{Placed, place, placed}
+use Rattle.replay_spec.specs.Placed.{Placed, logged_place, logged_places}
 use Rattle.replay_spec.specs.Steps.{Takes}
 use Rattle.replay_spec.specs.Stepping.{ReplayFault, step}
 use Rattle.replay_spec.specs.Replay.{Honest, last_state, found, Sound, Fault, verdict_of}
 use Rattle.replay_spec.specs.Opening.{opening_of}
-use Rattle.replay_spec.specs.HonestLogs.{IsHonestLog, IsHonestWithGaps}
+use Rattle.replay_spec.specs.HonestLogs.{IsHonestLog}
 
 -- ---- steps and runs
 
@@ -64,9 +63,10 @@ PartsAreHonest =
 -- hash.
 abbrev pub PlacesAreJoined : Type 0
 PlacesAreJoined =
-    (first : ℕ) (before : List ℕ) (es fs : List Entry)
-    → placed first before (es ++ fs)
-    ≡ placed first before es ++ placed (first + length es) (last_hash before (links_from first es)) fs
+    (before : ℕ) (opening : List ℕ) (log more : List Logged)
+    → logged_places before opening (log ++ more)
+    ≡ logged_places before opening log
+    ++ logged_places (before + span log) (last_hash opening (logged_links before log)) more
 
 -- the number of an entry's place and the hash there
 abbrev pub pair_at : Placed → ℕ × List ℕ
@@ -76,9 +76,9 @@ pair_at p =
 -- The places' numbers and hashes are the pairs of the chain, after the first.
 abbrev pub PlacesHavePairs : Type 0
 PlacesHavePairs =
-    (number : ℕ) (before : List ℕ) (es : List Entry)
-    → pairs number before (links_from (number + 1) es)
-    ≡ (number, before) ∷ map pair_at (placed (number + 1) before es)
+    (before : ℕ) (opening : List ℕ) (log : List Logged)
+    → pairs before opening (logged_links before log)
+    ≡ (before, opening) ∷ map pair_at (logged_places before opening log)
 
 -- ---- honest logs
 
@@ -94,29 +94,23 @@ NoEntries = (ms : List Member) (o : State) → IsHonestLog ms o [] o
 -- An honest log stays so by one entry more that may stand after its last state.
 abbrev pub OneEntryMore : Type 0
 OneEntryMore =
-    (ms : List Member) (o s t : State) (es : List Entry) (e : Entry)
-    → IsHonestLog ms o es s → Takes ms s (place (length es + 1) (log_hash es) e) t
-    → IsHonestLog ms o (es ++ e ∷ []) t
+    (ms : List Member) (o s t : State) (log : List Logged) (l : Logged)
+    → IsHonestLog ms o log s → Takes ms s (logged_place (span log + 1 + l.skipped) (log_hash log) l) t
+    → IsHonestLog ms o (log ++ l ∷ []) t
 
 -- It stays so by more entries that are honest after its last state.
 abbrev pub EntriesMore : Type 0
 EntriesMore =
-    (ms : List Member) (o s t : State) (es fs : List Entry) (ts : List State)
-    → IsHonestLog ms o es s → Honest ms s (placed (length es + 1) (log_hash es) fs) ts → last_state s ts ≡ t
-    → IsHonestLog ms o (es ++ fs) t
-
--- A log in which no number is skipped is honest as a log whose entries say so.
-abbrev pub WithoutGapsTheSame : Type 0
-WithoutGapsTheSame =
-    (ms : List Member) (o s : State) (es : List Entry)
-    → IsHonestLog ms o es s ↔ IsHonestWithGaps ms o (without_gaps es) s
+    (ms : List Member) (o s t : State) (log more : List Logged) (ts : List State)
+    → IsHonestLog ms o log s → Honest ms s (logged_places (span log) (log_hash log) more) ts
+    → last_state s ts ≡ t → IsHonestLog ms o (log ++ more) t
 
 -- The last state of an honest log is one.
 abbrev pub OneLastState : Type 0
 OneLastState =
-    (ms : List Member) (o s t : State) (es : List Entry)
-    → IsHonestLog ms o es s → IsHonestLog ms o es t → s ≡ t
+    (ms : List Member) (o s t : State) (log : List Logged)
+    → IsHonestLog ms o log s → IsHonestLog ms o log t → s ≡ t
 
 -- A state is of the node that the log began with.
 abbrev pub NodeStays : Type 0
-NodeStays = (ms : List Member) (o s : State) (es : List Entry) → IsHonestLog ms o es s → s.node ≡ o.node
+NodeStays = (ms : List Member) (o s : State) (log : List Logged) → IsHonestLog ms o log s → s.node ≡ o.node

@@ -2,8 +2,7 @@
 use Rattle.std.specs.Prelude.{ℕ, ◌+◌, ◌-◌, ◌<◌, ◌^◌, List, [], ◌∷◌}
 use Rattle.secure_log.specs.authenticator.Numbers.{word_of}
 use Rattle.secure_log.specs.declared.log_entries.entry.Entry.{Entry}
-use Rattle.secure_log.specs.LogEntries.Chain.{Logged, hash_after, link_of, logged_link}
-use Rattle.secure_log.specs.Segment.{SegmentParts}
+use Rattle.secure_log.specs.LogEntries.Chain.{Logged, hash_after, logged_link}
 use Rattle.secure_log.specs.Versioned.{VersionedParts}
 
 -- an entry with how many numbers are skipped just before it, its number in the log, and the hash before it
@@ -12,16 +11,6 @@ pub record Placed : Type 0 where
   pub number : ℕ
   pub before : List ℕ
   pub entry : Entry
-
--- an entry at a number, before which none is skipped, after a hash
-abbrev pub place : ℕ → List ℕ → Entry → Placed
-place number before e = record { skipped = 0; number = number; before = before; entry = e }
-
--- entries that are numbered from `first` on, where none is skipped, after a hash
-abbrev pub placed : (first : ℕ) (before : List ℕ) → List Entry → List Placed
-placed first before [] = []
-placed first before (e ∷ es) =
-    place first before e ∷ placed (first + 1) (hash_after before (link_of first e)) es
 
 -- an entry of a log at a number, after a hash
 abbrev pub logged_place : (number : ℕ) (before : List ℕ) → Logged → Placed
@@ -35,10 +24,6 @@ logged_places before opening (l ∷ ls) =
     logged_place (before + 1 + l.skipped) opening l
     ∷ logged_places (before + 1 + l.skipped) (hash_after opening (logged_link (before + 1 + l.skipped) l)) ls
 
--- the entries of a segment
-abbrev pub placed_in : SegmentParts → List Placed
-placed_in s = placed s.first s.opening s.entries
-
 -- entries of a log from the number `first` on, after a hash: the number of each is that one, or the next after
 -- the entry before it, and what it skips
 abbrev pub places_from : (first : ℕ) (opening : List ℕ) → List Logged → List Placed
@@ -47,7 +32,7 @@ places_from first opening (l ∷ ls) =
     logged_place (first + l.skipped) opening l
     ∷ places_from (first + l.skipped + 1) (hash_after opening (logged_link (first + l.skipped) l)) ls
 
--- the entries of a segment of a log of either version
+-- the entries of a segment
 abbrev pub places_in : VersionedParts → List Placed
 places_in s = places_from s.first s.opening s.entries
 

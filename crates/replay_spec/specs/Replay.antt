@@ -3,8 +3,7 @@ use Rattle.std.specs.Prelude.{ℕ, List, [], ◌∷◌, Option, Some, None, Ok, 
 use Rattle.secure_log.specs.authenticator.declared.member.Member.{Member}
 use Rattle.secure_log.specs.authenticator.declared.authenticator.Authenticator.{Authenticator}
 use Rattle.state_spec.specs.State.{State}
-use Rattle.secure_log.specs.Segment.{SegmentParts}
-use Rattle.replay_spec.specs.Placed.{Placed, placed_in}
+use Rattle.replay_spec.specs.Placed.{Placed}
 use Rattle.replay_spec.specs.Steps.{Takes}
 use Rattle.replay_spec.specs.Stepping.{ReplayFault, step, shown_by}
 
@@ -49,7 +48,3 @@ verdict_of ms s (p ∷ ps) = elim (step ms s p) [
   | Ok t ↦ behind (shown_by s p.entry) (verdict_of ms t ps)
   | Err fault ↦ Fault fault p.number
 ]
-
--- the verdict on a segment after a state
-abbrev pub segment_verdict : List Member → State → SegmentParts → Verdict
-segment_verdict ms s segment = verdict_of ms s (placed_in segment)

@@ -1,13 +1,14 @@
 -- What holds of the states of nodes and of their digests: each law is the contract of a function in
 -- src/state_laws.rt.
-use Rattle.std.specs.Prelude.{◌≡◌, ℕ, ◌<◌, ◌≤◌, ◌^◌, List, [], ◌∷◌, ◌++◌, map, length}
+use Rattle.std.specs.Prelude.{◌≡◌, ℕ, ◌<◌, ◌≤◌, ◌^◌, List, [], ◌∷◌, ◌++◌, map}
 use Rattle.std.specs.List.{AllByRecursion}
 use Rattle.std.specs.FinMap as finite
 use Rattle.nfs_items.specs.xdr.Item.{Fits, spelling}
 use Rattle.secure_log.specs.authenticator.declared.member.Member.{Member}
-use Rattle.secure_log.specs.declared.log_entries.entry.Entry.{Entry}
+use Rattle.secure_log.specs.authenticator.declared.member.LogVersion.{LogVersion}
 use Rattle.secure_log.specs.LogEntries.Entry.{entry_item, entry_value}
-use Rattle.secure_log.specs.LogEntries.Chain.{NoCollision}
+use Rattle.secure_log.specs.LogEntries.Chain.{Logged, NoCollision}
+use Rattle.secure_log.specs.Log.{HasNumbers}
 use Rattle.state_spec.specs.server_spec.FileItems.{file_item, file_value}
 use Rattle.state_spec.specs.Limits.{max_received, max_sends}
 use Rattle.state_spec.specs.State.{Machine, Server, Client, State, IsState}
@@ -63,11 +64,11 @@ DigestsTellStates =
 abbrev pub TextsAreSpelled : Type 0
 TextsAreSpelled = (s : State) (bytes : List ℕ) → IsStateText s bytes → IsSpelled s × HasFew s
 
--- The last state of an honest log can be spelled, where its entries have texts, bodies are bytes, and numbers
--- are of 64 bits.
+-- The last state of an honest log can be spelled, where its entries have texts, bodies are bytes, and its numbers
+-- are such as a log of a version has.
 abbrev pub HonestStatesAreSpelled : Type 0
 HonestStatesAreSpelled =
-    (ms : List Member) (m : Member) (log : List Entry) (s : State)
-    → m.node < 2 ^ 32 → AllByRecursion (λ e. Fits entry_item (entry_value e)) log
-    → AllByRecursion HasBytes log → length log < 2 ^ 64
+    (v : LogVersion) (ms : List Member) (m : Member) (log : List Logged) (s : State)
+    → m.node < 2 ^ 32 → AllByRecursion (λ l. Fits entry_item (entry_value l.entry)) log
+    → AllByRecursion (λ l. HasBytes l.entry) log → HasNumbers v log
     → IsHonestLog ms (opening_of m) log s → IsSpelled s

@@ -13,7 +13,7 @@ ghost use Rattle.replay_spec.specs.Examples.{owed_sent};
 ghost use Rattle.replay_spec.specs.Laws.{StepsAsItTakes, OneRun, SoundExactlyIf, FaultExactlyIf};
 ghost use Rattle.replay_spec.specs.Laws.{PartsAreHonest, PlacesAreJoined, PlacesHavePairs};
 ghost use Rattle.replay_spec.specs.Laws.{OpeningsHaveNoMessages, NoEntries, OneEntryMore, EntriesMore};
-ghost use Rattle.replay_spec.specs.Laws.{OneLastState, NodeStays, WithoutGapsTheSame};
+ghost use Rattle.replay_spec.specs.Laws.{OneLastState, NodeStays};
 
 pub use secure_log::tests_as_it_is_signed;
 
@@ -59,11 +59,6 @@ pub fn logs_grow()
     ensures none { NoEntries }
     ensures one { OneEntryMore }
     ensures more { EntriesMore }
-{}
-
-/// Where no number is skipped, it is the same whether a log's entries say so.
-pub fn honest_without_gaps()
-    ensures { WithoutGapsTheSame }
 {}
 
 /// An honest log has one last state, which is of the node that it began with.

@@ -3,8 +3,10 @@
 use Rattle.std.proofs.Common.{◌≡◌, ◌∙◌, sym, ap, refl, inl, inr, ℕ, true, false, List, [], ◌∷◌, ◌++◌}
 use Rattle.std.proofs.Common.{append_assoc, append-nil, Option, Result, Ok, Err}
 use Rattle.std.specs.Prelude.{IfOk}
+use Rattle.authenticator.specs.Numbers.{number_in}
 use Rattle.authenticator.specs.declared.authenticator.Authenticator.{Authenticator}
-use Rattle.witness_service.specs.Claims.{Claim, KeepsOne, KeepsNone}
+use Rattle.authenticator.specs.declared.member.LogVersion.{LogVersion}
+use Rattle.witness_service.specs.Claims.{Claim, KeepsOne}
 use Rattle.witness_spec.specs.Events.{Event, Forward, Ask, ItsIndication, ItsChallenges, ItsEvidence}
 use Rattle.witness_spec.specs.Events as e
 use Rattle.evidence_spec.specs.Evidence.{EvidenceParts}
@@ -20,7 +22,7 @@ use Rattle.witness_calls.specs.declared.told.Told.{Told}
 use Rattle.scripts.specs.Said.{IsLineOf, said_line}
 use Rattle.scripts.specs.Turns.{Does, IsAfter, IsAnswered, IsAsked, IsEvidence, IsFlood, IsForwarded}
 use Rattle.scripts.specs.Turns.{IsHanded}
-use Rattle.scripts.specs.Turns.{IsHeard, IsLastHeard, IsNone, IsPassed, IsRefusal, IsRound, IsSilent, claim}
+use Rattle.scripts.specs.Turns.{IsHeard, IsPassed, IsRefusal, IsRound, IsSilent, claim}
 use Rattle.scripts.specs.Turns.{evidence_line}
 use Rattle.scripts.specs.Turns.{flooded_line, forwarded_words, none_line, reply_line, told_line}
 
@@ -219,19 +221,20 @@ asked_before a node b c text asks d =
     (record { enough = asks.enough; is = refl })) d
 
 -- an authenticator that is passed on, and what its own witness said of it
-pub passed : (old : List Claim) (x : Authenticator) (line : List ℕ) (new : List Claim) (text : List ℕ)
-    → Does IsHeard old line new → text ≡ forwarded_words x.node x.word ++ line
-    → Does (IsPassed x) old text new
-passed old x line new text d is = record {
+pub passed : (old : List Claim) (v : LogVersion) (x : Authenticator) (line : List ℕ) (new : List Claim)
+    (text : List ℕ) → Does IsHeard old line new → text ≡ forwarded_words x.node (number_in v x.word) ++ line
+    → Does (IsPassed v x) old text new
+passed old v x line new text d is = record {
   claims = d.claims;
   added = d.added;
   is_so = record { words = line; text_is = is; is_heard = d.is_so };
 }
 
 -- the same after the answer that gave it
-pub passed_on : (a : List Claim) (node : ℕ) (x : Authenticator) (b c : List Claim) (text : List ℕ)
-    → Says a (Forward node) (s.Forwarded x) b → Does (IsPassed x) b text c → Does (IsForwarded node) a text c
-passed_on a node x b c text says d =
+pub passed_on : (a : List Claim) (node : ℕ) (v : LogVersion) (x : Authenticator) (b c : List Claim)
+    (text : List ℕ) → Says a (Forward node) (s.Forwarded x) b → Does (IsPassed v x) b text c
+    → Does (IsForwarded node) a text c
+passed_on a node v x b c text says d =
     let k : KeepsOne a (Forward node) says.reply b = kept_one a (Forward node) (s.Forwarded x) b says refl in
     let first : List Claim = claim k.place (Forward node) says.reply ∷ [] in
     record {
@@ -240,6 +243,7 @@ passed_on a node x b c text says d =
       is_so = inl (record {
         place = k.place;
         passed = x;
+        version = v;
         more = d.claims;
         claims_are = ap (λ y. claim k.place (Forward node) y ∷ d.claims) says.is_said;
         is_passed = d.is_so;

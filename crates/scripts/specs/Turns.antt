@@ -2,7 +2,12 @@
 use Rattle.std.specs.Prelude.{◌≡◌, ◌⊎◌, ℕ, ⊤, List, [], ◌∷◌, ◌++◌, length, Option, Some, None, codes, decimal}
 use Rattle.std.specs.Io.KnownBytes.{Appends}
 use Rattle.std.specs.List.{flat_map, AllByRecursion}
+use Rattle.authenticator.specs.Numbers.{number_in}
+use Rattle.authenticator.specs.Roster.{member_of}
 use Rattle.authenticator.specs.declared.authenticator.Authenticator.{Authenticator}
+use Rattle.authenticator.specs.declared.member.LogVersion.{LogVersion}
+use Rattle.authenticator.specs.declared.member.LogVersion.TheVariants.{One}
+use Rattle.authenticator.specs.declared.member.Member.{Member}
 use Rattle.witness_service.specs.Claims.{Claim}
 use Rattle.witness_spec.specs.Events.{Event, Audit, Forward, Ask, ItsIndication, ItsChallenges, ItsEvidence}
 use Rattle.witness_spec.specs.Refusals.{refusal_number}
@@ -85,6 +90,11 @@ pub record IsTurnedAway (text : List ℕ) (claims : List Claim) : Type 0 where
 abbrev pub IsSilent : List ℕ → List Claim → Type 0
 IsSilent text claims = claims ≡ []
 
+-- The line `ok` or a refusal is printed, and nothing was asked of the witness.
+pub record IsSkipped (text : List ℕ) (claims : List Claim) : Type 0 where
+  pub claims_are : claims ≡ []
+  pub says : (text ≡ codes "ok\n") ⊎ IsRefusal text
+
 -- A packet was handed in: the event that it spells is answered, or it was refused before.
 abbrev pub IsHeard : List ℕ → List Claim → Type 0
 IsHeard text claims = ((event : Event) × IsAnswered event text claims) ⊎ IsTurnedAway text claims
@@ -126,19 +136,25 @@ IsAsked node text claims =
     ⊎ IsAnswered (Ask node ItsIndication) text claims
     ⊎ IsAfter (Ask node ItsIndication) (IsAnswered (Ask node ItsChallenges)) text claims
 
--- An authenticator was handed in: whose it is and its number are printed, and what was said of it.
-pub record IsPassed (x : Authenticator) (text : List ℕ) (claims : List Claim) : Type 0 where
+-- the version of a node's log, as a roster has it; 1 where it is no member
+abbrev pub log_version : List Member → (node : ℕ) → LogVersion
+log_version ms node = elim (member_of ms node) [ None ↦ One | Some m ↦ m.log_version ]
+
+-- An authenticator was handed in: whose it is and its number in a log of this version are printed, and what was
+-- said of it.
+pub record IsPassed (v : LogVersion) (x : Authenticator) (text : List ℕ) (claims : List Claim) : Type 0 where
   pub words : List ℕ
-  pub text_is : text ≡ forwarded_words x.node x.word ++ words
+  pub text_is : text ≡ forwarded_words x.node (number_in v x.word) ++ words
   pub is_heard : IsHeard words claims
 
 -- An authenticator came out of a node's outbox, and was handed in.
 pub record IsPassedOn (node : ℕ) (text : List ℕ) (claims : List Claim) : Type 0 where
   pub place : ℕ
   pub passed : Authenticator
+  pub version : LogVersion
   pub more : List Claim
   pub claims_are : claims ≡ claim place (Forward node) (r.Forwarded passed) ∷ more
-  pub is_passed : IsPassed passed text more
+  pub is_passed : IsPassed version passed text more
 
 -- A line `forward`: one was passed on, or the reply is printed.
 abbrev pub IsForwarded : (node : ℕ) → List ℕ → List Claim → Type 0
@@ -186,6 +202,7 @@ abbrev pub IsDone : Act → List ℕ → List Claim → Type 0
 IsDone (a.Call pair body) = IsSilent
 IsDone (a.Fork pair first second) = IsSilent
 IsDone (a.Lie server) = IsSilent
+IsDone (a.Skip node by) = IsSkipped
 IsDone (a.Learn place) = IsHanded
 IsDone (a.Forge place) = IsHanded
 IsDone (a.Flood place times) = IsFlood times

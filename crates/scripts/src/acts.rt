@@ -37,6 +37,7 @@ impl<R: Threads + Wait + Sync, S: Shelf> Run<'_, '_, R, S> {
             Act::Call(pair, body) => self.call(time, pair, &body),
             Act::Fork(pair, first, second) => self.fork(time, pair, first, second),
             Act::Lie(server) => self.lie(server),
+            Act::Skip(node, by) => self.skip(node, by),
             Act::Challenge(pair, number) => self.challenge(pair, number),
             Act::Ack(pair, number) => self.acknowledge(time, pair, number),
             Act::Learn(place) => self.learn(place),

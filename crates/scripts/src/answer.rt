@@ -1,6 +1,7 @@
 //! What a line of a script prints.
 
 ghost use Rattle.std.specs.Prelude.{◌≡◌, ◌++◌, codes, IfOk, string_bytes};
+ghost use Rattle.authenticator.specs.Numbers.{number_in};
 ghost use Rattle.node_book.specs.Replies.{indication_in};
 ghost use Rattle.scripts.specs.Said.{said_line};
 ghost use Rattle.scripts.specs.Turns.{flooded_line, forwarded_words, refused_line, told_line};
@@ -57,8 +58,8 @@ pub(crate) fn said_line(alloc: Global, said: &Said) -> Result<String, AllocError
         }
         Said::Returned => line_of(alloc, "returned"),
         Said::Forwarded(authenticator) => {
-            let number = authenticator.word.number(LogVersion::One).get();
-            format!(in alloc; "forwarded {} {number}\n", authenticator.node)
+            let word = authenticator.word.get();
+            format!(in alloc; "forwarded {} {word}\n", authenticator.node)
         }
         Said::Empty => line_of(alloc, "empty"),
         Said::Told(indication) => line_of(alloc, indication_word(*indication)),
@@ -68,25 +69,30 @@ pub(crate) fn said_line(alloc: Global, said: &Said) -> Result<String, AllocError
     }
 }
 
-/// The words `forwarded M K`.
-fn forwarded_words(alloc: Global, authenticator: &Authenticator) -> Result<String, AllocError>
+/// The words `forwarded M K`, where K is its number in a log of this version.
+fn forwarded_words(
+    alloc: Global,
+    version: LogVersion,
+    authenticator: &Authenticator,
+) -> Result<String, AllocError>
     ensures { IfOk result (λ words. string_bytes words
-        ≡ forwarded_words authenticator.now.node authenticator.now.word) }
+        ≡ forwarded_words authenticator.now.node (number_in version authenticator.now.word)) }
 {
-    let number = authenticator.word.number(LogVersion::One).get();
+    let number = authenticator.word.number(version).get();
     format!(in alloc; "forwarded {} {number} ", authenticator.node)
 }
 
 /// The words `forwarded M K`, and after them a line.
 pub(crate) fn forwarded_line(
     alloc: Global,
+    version: LogVersion,
     authenticator: &Authenticator,
     line: &str,
 ) -> Result<String, AllocError>
     ensures { IfOk result (λ text. string_bytes text
-        ≡ forwarded_words authenticator.now.node authenticator.now.word ++ line.now) }
+        ≡ forwarded_words authenticator.now.node (number_in version authenticator.now.word) ++ line.now) }
 {
-    let mut text = forwarded_words(alloc, authenticator)?;
+    let mut text = forwarded_words(alloc, version, authenticator)?;
     text.push_str(line)?;
     Ok(text)
 }

@@ -3,7 +3,7 @@
 ghost use Rattle.std.specs.Prelude.{◌≡◌, ◌≤◌};
 
 use crate::words::{LineFault, Words};
-use authenticator::{Kind, MAX_NODE};
+use authenticator::{Kind, LogVersion, MAX_NODE};
 use secure_log::log_entries::Body;
 use std::alloc::Global;
 use std::marker::Model;
@@ -73,6 +73,8 @@ pub(crate) struct NodeLine {
     pub(crate) kind: Kind,
     /// The height of its tree of keys.
     pub(crate) height: OneToSixteen,
+    /// The version of its log.
+    pub(crate) log_version: LogVersion,
 }
 
 /// A line after the nodes: what somebody does.
@@ -84,6 +86,8 @@ pub(crate) enum Act<'a> {
     Fork(Pair, Body, Body),
     /// `lie S`: a server's next reply is changed.
     Lie(u32),
+    /// `skip N BY`: the next entry of a node's log skips so many numbers.
+    Skip(u32, u32),
     /// `learn N K`: the witness gets a node's authenticator.
     Learn(Place),
     /// `forge N K`: the same with one bit changed.
@@ -111,7 +115,7 @@ pub(crate) enum Act<'a> {
 /// A line of a script.
 #[derive(Drop)]
 pub(crate) enum Line<'a> {
-    /// `node N server H` or `node N client H`.
+    /// `node N server H` or `node N client H`, and after it `2` where its log is of version 2.
     Node(NodeLine),
     /// A line after the nodes.
     Act(Act<'a>),
@@ -138,11 +142,24 @@ fn node_line(words: &mut Words<'_>) -> Result<NodeLine, LineFault> {
     let number = words.number_within(1, MAX_NODE)?;
     let kind = kind_of(words.word()?)?;
     let height = OneToSixteen::read(words)?;
+    let log_version = log_version(words)?;
     Ok(NodeLine {
         number,
         kind,
         height,
+        log_version,
     })
+}
+
+/// The version of a node's log: 1, or 2 where that word follows.
+fn log_version(words: &mut Words<'_>) -> Result<LogVersion, LineFault> {
+    if words.end().is_ok() {
+        return Ok(LogVersion::One);
+    }
+    match words.word()? {
+        "2" => Ok(LogVersion::Two),
+        _ => Err(LineFault::Bad),
+    }
 }
 
 /// The kind of node that a word names.
@@ -185,6 +202,10 @@ fn read_act<'a>(alloc: Global, name: &str, words: &mut Words<'a>) -> Result<Act<
 fn of_node<'a>(name: &str, words: &mut Words<'a>) -> Result<Act<'a>, LineFault> {
     match name {
         "lie" => Ok(Act::Lie(words.number()?)),
+        "skip" => {
+            let node = words.number()?;
+            Ok(Act::Skip(node, words.number()?))
+        }
         "audit" => Ok(Act::Audit(words.number()?)),
         "answer" => Ok(Act::Answer(words.number()?)),
         "forward" => Ok(Act::Forward(words.number()?)),

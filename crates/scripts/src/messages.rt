@@ -1,7 +1,7 @@
 //! Messages between the nodes of a script.
 
 ghost use Rattle.std.specs.Prelude.{◌≡◌, IfOk, string_bytes};
-ghost use Rattle.scripts.specs.Turns.{Does, IsHanded, IsRefusal, IsSilent};
+ghost use Rattle.scripts.specs.Turns.{Does, IsHanded, IsRefusal, IsSilent, IsSkipped};
 
 use crate::acts::Run;
 use crate::answer::{refused_line, reply_line};
@@ -41,6 +41,17 @@ impl<R: Threads + Wait + Sync, S: Shelf> Run<'_, '_, R, S> {
             return Err(Stop::Bad);
         }
         self.line("ok")
+    }
+
+    /// `skip N BY`: the next entry of the node's log skips so many numbers.
+    pub(crate) fn skip(&mut self, node: u32, by: u32) -> Result<String, Stop>
+        ensures { IfOk result (λ text. Does IsSkipped self.old.caller (string_bytes text) self.new.caller) }
+    {
+        match self.parties.skip(node, by) {
+            Some(Ok(())) => self.line("ok"),
+            Some(Err(refusal)) => self.refuse(refusal),
+            None => Err(Stop::Bad),
+        }
     }
 
     /// `fork C S HEX HEX`: two messages under one number, of which the client logs the first alone. It takes

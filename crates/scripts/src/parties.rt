@@ -5,6 +5,7 @@ ghost use Rattle.std.specs.Prelude.{◌<◌, ◌≤◌, IfSome, length};
 use crate::line::{NodeLine, Pair};
 use crate::stop::Stop;
 use authenticator::{Kind, Member, Roster};
+use commitment::Refusal;
 use node_keys::{KeyedNode, Masters};
 use nodes::{ClientNode, Node, NodeLog, Role, ServerNode};
 use std::alloc::{AllocError, Global};
@@ -55,7 +56,15 @@ impl ListedNodes {
             return Err(Stop::Bad);
         }
         let height = line.height.get();
-        let keyed = KeyedNode::make(rt, alloc, Masters::Known, line.number, line.kind, height)?;
+        let keyed = KeyedNode::make(
+            rt,
+            alloc,
+            Masters::Known,
+            line.number,
+            line.kind,
+            line.log_version,
+            height,
+        )?;
         match self.nodes.insert(place, ListedNode { keyed }) {
             Ok(()) => Ok(()),
             Err(_) => Err(Stop::NoMemory),
@@ -158,6 +167,15 @@ impl Parties {
             }
             None => false,
         }
+    }
+
+    /// Lets the next entry of the log of the node with a number skip so many numbers, if there is such a node.
+    pub(crate) fn skip(&mut self, number: u32, by: u32) -> Option<Result<(), Refusal>> {
+        if let Some(place) = place_in(&self.clients, number) {
+            return Some(self.clients[place].skip(by));
+        }
+        let place = place_in(&self.servers, number)?;
+        Some(self.servers[place].skip(by))
     }
 
     /// A client and a server.

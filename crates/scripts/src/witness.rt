@@ -4,13 +4,13 @@ ghost use Rattle.std.specs.Prelude.{◌≡◌, IfOk, OnOk, string_bytes};
 ghost use Rattle.witness_calls.specs.Telling.{AsksOpen};
 ghost use Rattle.witness_spec.specs.Events.{Ask, Audit, ItsChallenges};
 ghost use Rattle.scripts.specs.Turns.{Does, IsAfter, IsAnswered, IsAsked, IsEvidence, IsFlood};
-ghost use Rattle.scripts.specs.Turns.{IsForwarded, IsHanded, IsPassed, IsRound, written_line};
+ghost use Rattle.scripts.specs.Turns.{log_version, IsForwarded, IsHanded, IsPassed, IsRound, written_line};
 
 use crate::acts::Run;
 use crate::answer::{flooded_line, forwarded_line, round_text, told_line};
 use crate::line::{OneToSixteen, Place};
 use crate::stop::Stop;
-use authenticator::Authenticator;
+use authenticator::{Authenticator, LogVersion, Roster};
 use secure_log::SegmentFault;
 use std::sync::Wait;
 use std::thread::Threads;
@@ -113,7 +113,7 @@ impl<R: Threads + Wait + Sync, S: Shelf> Run<'_, '_, R, S> {
         };
         let log = self.parties.node(node).ok_or(Stop::Bad)?;
         match log.answer_challenge(self.alloc, asked.first, asked.last) {
-            Ok(text) => Ok(Some(answer_packet(self.alloc, &text)?)),
+            Ok(text) => Ok(Some(answer_packet(self.alloc, log.log_version(), &text)?)),
             Err(SegmentFault::NoMemory) => Err(Stop::NoMemory),
             Err(_) => Ok(None),
         }
@@ -163,12 +163,14 @@ impl<R: Threads + Wait + Sync, S: Shelf> Run<'_, '_, R, S> {
 
     /// Hands an authenticator over. Gives whose it is and the line of what the witness said.
     fn pass_on(&mut self, authenticator: &Authenticator) -> Result<String, Stop>
-        ensures { IfOk result (λ text. Does (IsPassed authenticator.now) self.old.caller
-            (string_bytes text) self.new.caller) }
+        ensures { IfOk result (λ text.
+            Does (IsPassed (log_version self.old.roster.now authenticator.now.node) authenticator.now)
+            self.old.caller (string_bytes text) self.new.caller) }
     {
+        let version = log_version(self.roster, authenticator.node);
         let packet = learn_packet(self.alloc, authenticator)?;
         let line = self.deliver(&packet)?;
-        Ok(forwarded_line(self.alloc, authenticator, &line)?)
+        Ok(forwarded_line(self.alloc, version, authenticator, &line)?)
     }
 
     /// `ask N`: gives the node's failure indication, and how many challenges are open.
@@ -215,6 +217,16 @@ impl<R: Threads + Wait + Sync, S: Shelf> Run<'_, '_, R, S> {
             Ok(()) => Ok(()),
             Err(error) => Err(Stop::of_file(self.alloc, file, error)),
         }
+    }
+}
+
+/// The version of a node's log, as a roster has it; 1 where it is no member.
+fn log_version(roster: &Roster, node: u32) -> LogVersion
+    ensures { result ≡ log_version roster.now node }
+{
+    match roster.member(node) {
+        Some(member) => member.log_version,
+        None => LogVersion::One,
     }
 }
 

@@ -10,6 +10,7 @@ ghost use Rattle.std.specs.Prelude.{◌<◌, IfOk};
 ghost use Rattle.serve_options.specs.Options.{AreServeOptions};
 
 use anyhow::{Context, Result, bail, ensure};
+use authenticator::LogVersion;
 use nfs_items::Time;
 use secure_log::log_entries::Entry;
 use service::Service;
@@ -186,6 +187,7 @@ fn order_of(words: &[String]) -> Result<Order<'static>>
             evidence: None,
             progress: false,
             idle: None,
+            log_version: LogVersion::One,
         },
         masters: Masters::Known,
         control: None,

@@ -1,5 +1,7 @@
 //! The options of a run.
 
+use authenticator::LogVersion;
+
 /// The heights of the trees of keys: a tree of height n has 2^n keys. A call takes two keys of its client,
 /// and two of the server.
 #[derive(Clone, Copy, Debug, PartialEq, Eq)]
@@ -25,4 +27,6 @@ pub struct ServeOptions<'a> {
     pub progress: bool,
     /// How many seconds a connection may be silent, from 1 to 86,400; for ever where none is given.
     pub idle: Option<u32>,
+    /// The version of the logs that the server and all clients keep; 1 where none is named.
+    pub log_version: LogVersion,
 }

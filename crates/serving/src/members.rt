@@ -40,11 +40,20 @@ fn make_keys<R: Threads + Sync, E: Write, S: Shelf>(
     ensures { IfOk result (λ k. k ≡ record {
       number = number;
       kind = kind;
+      log_version = order.now.options.log_version;
       masters = order.now.masters;
       signer = record { master = master_of order.now.masters number; height = height; used = 0 };
     }) }
 {
-    let keyed = KeyedNode::make(rt, alloc, order.masters, number, kind, height)?;
+    let keyed = KeyedNode::make(
+        rt,
+        alloc,
+        order.masters,
+        number,
+        kind,
+        order.options.log_version,
+        height,
+    )?;
     if order.options.progress {
         let keys = 1u32 << height;
         output.say(format!(in alloc; "nfsacc: node {number}: {keys} keys made\n"));

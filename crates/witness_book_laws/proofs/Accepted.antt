@@ -3,7 +3,7 @@
 use Rattle.std.proofs.Common.{◌≡◌, ◌⊎◌, inl, inr, ◌+◌, ◌≤◌, List, [], ◌∷◌, ◌++◌}
 use Rattle.std.proofs.Common.{length, append-nil, Option, Some, None, refl, sym, ap, subst}
 use Rattle.std.proofs.Common.{◌∙◌, arith}
-use Rattle.secure_log.specs.Versioned.{VersionedParts, ClosedVersionedParts}
+use Rattle.secure_log.specs.Versioned.{VersionedParts, ClosedParts}
 use Rattle.secure_log.specs.LogEntries.Chain.{IsAmong}
 use Rattle.witness_laws.specs.evidence_spec.Showing.{versioned_showing}
 use Rattle.witness_laws.specs.evidence_spec.Evidence.{EvidenceParts}
@@ -29,11 +29,11 @@ use Rattle.witness_book_laws.proofs.Quiet.{Exposure, unsent, found_stays}
 use Rattle.witness_book_laws.proofs.Known.{Known, first_same, fork_same}
 
 -- a segment that was checked is whole
-pub given_whole : (w : Watched) (c : ClosedVersionedParts) → IsGiven w c → IsWhole c.segment
+pub given_whole : (w : Watched) (c : ClosedParts) → IsGiven w c → IsWhole c.segment
 given_whole w c given = ends_whole c.segment given.closed.ends
 
 -- such a segment is of a log of the member's version
-pub given_version : (w : Watched) (c : ClosedVersionedParts) → IsInRoster w → IsGiven w c
+pub given_version : (w : Watched) (c : ClosedParts) → IsInRoster w → IsGiven w c
     → c.segment.log_version ≡ w.member.log_version
 given_version w c is given = its_log_version w c.segment is (good_given w c given)
 
@@ -45,7 +45,7 @@ absorb p xs there q = (λ i. by i, λ i. inr i)
     by (inl e) = subst (λ r. IsAmong r xs) (sym e) there
     by (inr i) = i
 
-module _ (w : Watched) (past : Past) (b : Book) (c : ClosedVersionedParts)
+module _ (w : Watched) (past : Past) (b : Book) (c : ClosedParts)
     (k : Known w past b) where
   -- the evidence after it
   accepted_evidence : evidence_accepted b c.segment ≡ evidence w ((Answer c, Accepted) ∷ past)

@@ -8,18 +8,17 @@ use Rattle.authenticator.specs.declared.authenticator.Authenticator.{Authenticat
 use Rattle.authenticator.specs.declared.member.Kind.{Kind}
 use Rattle.authenticator.specs.declared.member.Kind.TheVariants as kinds
 use Rattle.authenticator.specs.declared.member.Member.{Member}
-use Rattle.authenticator.specs.Numbers.{word_of}
 use Rattle.secure_log.specs.Versioned.{VersionedParts}
 use Rattle.secure_log.specs.LogEntries.Chain.{IsAmong, span}
 use Rattle.witness_laws.specs.state_spec.State.{State, received_cmp, SentMessage}
 use Rattle.replay_spec.specs.Opening.{opening_by}
-use Rattle.replay_spec.specs.Placed.{Placed, place, places_in}
+use Rattle.replay_spec.specs.Placed.{Placed, places_in}
 use Rattle.replay_spec.specs.Steps.{Takes}
 use Rattle.replay_spec.specs.Stepping.{is_send}
 use Rattle.replay_spec.specs.LogLaws.LoggedMessages.{is_recv}
 use Rattle.replay_spec.specs.Replay.{Honest, last_state, Verdict, Sound, Fault, verdict_of}
 use Rattle.replay_spec.proofs.Runs.{is_sound}
-use Rattle.replay_spec.proofs.OfLogLaws.Counts.{counted_on}
+use Rattle.replay_spec.proofs.OfLogLaws.Counts.{counted_by}
 use Rattle.witness_laws.specs.witness_spec.Refusals.{NoJob, WrongJob}
 use Rattle.witness_laws.specs.witness_spec.Events.{JobParts}
 use Rattle.witness_laws.specs.witness_spec.Replies.{Reply, Noted, Opened, Accepted, Closed, Asked, Job, Filed}
@@ -64,10 +63,7 @@ record TakesIn (s : State) (count : ℕ) (t : State) : Type 0 where
 -- an entry brings one at most, whatever its place
 takes_one : (ms : List Member) (s t : State) (p : Placed) → Takes ms s p t → TakesIn s 1 t
 takes_one ms s t p takes =
-    let own = word_of p.skipped p.number in
-    let here : Takes ms s (place own p.before p.entry) t =
-    record { stands = takes.stands; after = takes.after } in
-    let counts = counted_on ms s own p.before (p.entry ∷ []) (t ∷ []) (here, tt) in
+    let counts = counted_by ms s t p takes in
     let received = counts.received in
     let sends = counts.sends in
     let recvs = count_most is_recv (p.entry ∷ []) in

@@ -5,7 +5,7 @@ use Rattle.std.proofs.Common.{◌∷◌, map, filter, length, Some, refl, sym, a
 use Rattle.std.proofs.Common.{◌∙◌}
 use Rattle.authenticator.specs.declared.authenticator.Authenticator.{Authenticator}
 use Rattle.authenticator.specs.declared.member.LogVersion.{LogVersion}
-use Rattle.secure_log.specs.Versioned.{ClosedVersionedParts}
+use Rattle.secure_log.specs.Versioned.{ClosedParts}
 use Rattle.envelopes.specs.Acknowledgement.{acked_message}
 use Rattle.witness_laws.specs.witness_spec.Refusals.{LearnedFull, NothingToAudit, NoJob, WrongJob}
 use Rattle.witness_laws.specs.witness_spec.Events.{JobParts, Question, ItsIndication, ItsChallenges}
@@ -55,7 +55,7 @@ ask_same v false end waiting (x ∷ xs) [] same = absurd ((same x).0 (inl refl))
 ask_same v false end waiting (x ∷ xs) (y ∷ ys) same =
     ap (ask_up_to end waiting) (reach_same v end (x ∷ xs) (y ∷ ys) same)
 
-make : ℕ → ℕ → End → ClosedVersionedParts → JobParts
+make : ℕ → ℕ → End → ClosedParts → JobParts
 make node number end c = record { node = node; number = number; state = end.state; segment = c }
 
 module _ (w : Watched) (past : Past) (b : Book) (of : IsBookOf w past b)
@@ -111,13 +111,13 @@ module _ (w : Watched) (past : Past) (b : Book) (of : IsBookOf w past b)
   audits (Out c) = refl
 
   -- the job of a segment with a number
-  same_job : (n k : ℕ) (c : ClosedVersionedParts) → n ≡ k
+  same_job : (n k : ℕ) (c : ClosedParts) → n ≡ k
       → make b.node n b.end c ≡ make w.member.node k (end_of w past) c
   same_job n k c e =
       ap (λ x. make x n b.end c) of.of_member.node
       ∙ (ap (λ x. make w.member.node x b.end c) e ∙ ap (λ x. make w.member.node k x c) of.stands.end)
 
-  begun_job : (c : ClosedVersionedParts) → owing.next_job w past c ≡ books.job_of b (b.begun + 1) c
+  begun_job : (c : ClosedParts) → owing.next_job w past c ≡ books.job_of b (b.begun + 1) c
   unfolding make
   begun_job c = sym (same_job (b.begun + 1) (begins past + 1) c (ap (λ n. n + 1) of.stands.begun))
 

@@ -13,7 +13,7 @@ use Rattle.std.proofs.lemmas.Option.{same_Some}
 use Rattle.authenticator.specs.declared.authenticator.Authenticator.{Authenticator}
 use Rattle.authenticator.specs.declared.member.LogVersion.{LogVersion}
 use Rattle.authenticator.specs.declared.member.Member.{Member}
-use Rattle.secure_log.specs.Versioned.{ClosedVersionedParts}
+use Rattle.secure_log.specs.Versioned.{ClosedParts}
 use Rattle.envelopes.specs.declared.envelope.Envelope.{Envelope}
 use Rattle.envelopes.specs.declared.acknowledgement.Ack.{Ack}
 use Rattle.witness_laws.specs.state_spec.State.{State}
@@ -210,7 +210,7 @@ begins b j told = by b.stage refl
     job_same : (k : JobParts) → Job j ≡ Job k → j ≡ k
     job_same k h = cc
 
-    by_exposed : (c : ClosedVersionedParts) (x : Bool) → exposed b ≡ x → b.stage ≡ Given c
+    by_exposed : (c : ClosedParts) (x : Bool) → exposed b ≡ x → b.stage ≡ Given c
         → Job j ≡ cond x (Refused NothingToAudit) (Job (job_of b (b.begun + 1) c)) → Begins b j
     by_exposed c true is at h = absurd (cc)
     by_exposed c false is at h =
@@ -249,7 +249,7 @@ out_of b j h = by b.stage refl
         }
 
 -- an answer that is accepted is what was asked for
-pub was_wanted : (s : Stage) (c : ClosedVersionedParts) → Accepted ≡ answer_reply s c
+pub was_wanted : (s : Stage) (c : ClosedParts) → Accepted ≡ answer_reply s c
     → s ≡ Wanted c.segment.first (last_of c.segment)
 was_wanted NoAudit c h = absurd (cc)
 was_wanted (Given d) c h = absurd (cc)
@@ -427,7 +427,7 @@ module _ (w : Watched) (past : Past) (b : Book) (k : Known w past b) where
       }) x
 
   -- what is kept agrees with a segment that was accepted, where the node isn't exposed
-  agreeing : (c : ClosedVersionedParts) → b.stage ≡ Given c → exposed b ≡ false
+  agreeing : (c : ClosedParts) → b.stage ≡ Given c → exposed b ≡ false
       → AgreesAt b.log_version (Out c) b.learned
   agreeing c is hidden a i le =
       let v = b.log_version in
@@ -529,7 +529,7 @@ module _ (w : Watched) (past : Past) (b : Book) (k : Known w past b) where
         challenges = refl;
       }) x
 
-  accepted : (c : ClosedVersionedParts) (r : Reply) → r ≡ answer_reply b.stage c → IsInRoster w
+  accepted : (c : ClosedParts) (r : Reply) → r ≡ answer_reply b.stage c → IsInRoster w
       → IsCheckedStep w (Answer c) → Exposure w ((Answer c, r) ∷ past)
       → Known w ((Answer c, r) ∷ past) (after_answer b c r)
   accepted c Accepted h member given x =

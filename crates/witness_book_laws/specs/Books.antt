@@ -5,7 +5,7 @@ use Rattle.authenticator.specs.declared.authenticator.Authenticator.{Authenticat
 use Rattle.authenticator.specs.declared.member.LogVersion.{LogVersion}
 use Rattle.authenticator.specs.declared.member.Member.{Member}
 use Rattle.secure_log.specs.LogEntries.Chain.{Logged}
-use Rattle.secure_log.specs.Versioned.{VersionedParts, ClosedVersionedParts}
+use Rattle.secure_log.specs.Versioned.{VersionedParts, ClosedParts}
 use Rattle.replay_spec.specs.Opening.{opening_of}
 use Rattle.witness_laws.specs.evidence_spec.Showing.{ShowingParts}
 use Rattle.witness_laws.specs.evidence_spec.Evidence.{Charge, Fork, Replay, EvidenceParts}
@@ -91,7 +91,7 @@ abbrev pub book_audited : Book → List Logged
 book_audited b = flat_map (λ s. s.entries) (filter (λ s. is_audited b.end.number s) b.segments)
 
 -- the job with a number, of a segment: it begins from the end's state
-abbrev pub job_of : Book → (number : ℕ) → ClosedVersionedParts → JobParts
+abbrev pub job_of : Book → (number : ℕ) → ClosedParts → JobParts
 job_of b number c = record { node = b.node; number = number; state = b.end.state; segment = c }
 
 -- the job that is out at a stage, if one is

@@ -5,7 +5,7 @@ use Rattle.authenticator.specs.declared.authenticator.Authenticator.{Authenticat
 use Rattle.authenticator.specs.declared.member.Member.{Member}
 use Rattle.authenticator.specs.declared.member.LogVersion.{LogVersion}
 use Rattle.secure_log.specs.LogEntries.Chain.{zeros}
-use Rattle.secure_log.specs.Versioned.{VersionedParts, ClosedVersionedParts}
+use Rattle.secure_log.specs.Versioned.{VersionedParts, ClosedParts}
 use Rattle.envelopes.specs.Acknowledgement.{acked_message}
 use Rattle.envelopes.specs.declared.envelope.Envelope.{Envelope}
 use Rattle.envelopes.specs.declared.acknowledgement.Ack.{Ack}
@@ -98,7 +98,7 @@ after_send_challenge b e Opened = record b { challenges = b.challenges ++ SendOf
 after_send_challenge b e _ = b
 
 -- after a segment that was given
-abbrev pub after_answer : Book → ClosedVersionedParts → Reply → Book
+abbrev pub after_answer : Book → ClosedParts → Reply → Book
 after_answer b c Accepted = record b {
   stage = Given c;
   segments = b.segments ++ c.segment ∷ [];

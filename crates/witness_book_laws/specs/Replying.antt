@@ -2,7 +2,7 @@
 use Rattle.std.specs.Prelude.{◌≡◌, ◌+◌, Bool, not, ◌&&◌, nat_lt, nat_le, length, Some}
 use Rattle.std.specs.Prelude.{Decides, if◌then◌else◌}
 use Rattle.authenticator.specs.declared.authenticator.Authenticator.{Authenticator}
-use Rattle.secure_log.specs.Versioned.{ClosedVersionedParts}
+use Rattle.secure_log.specs.Versioned.{ClosedParts}
 use Rattle.envelopes.specs.Acknowledgement.{acked_message}
 use Rattle.envelopes.specs.declared.envelope.Envelope.{Envelope}
 use Rattle.envelopes.specs.declared.acknowledgement.Ack.{Ack}
@@ -46,7 +46,7 @@ abbrev pub reply_to_send_challenge : Book → Envelope → Reply
 reply_to_send_challenge b e = challenge_reply b.challenges e
 
 -- to a segment
-abbrev pub reply_to_answer : Book → ClosedVersionedParts → Reply
+abbrev pub reply_to_answer : Book → ClosedParts → Reply
 reply_to_answer b c = answer_reply b.stage c
 
 -- to an acknowledgement

@@ -1,16 +1,12 @@
 -- Rosters that are one in every word are the same.
 -- Serves: is_same_roster.
-use Rattle.std.proofs.Common.{◌≡◌, ◌↔◌, Bool, true, false, IsTrue, ◌==◌, List, [], ◌∷◌, refl, sym, ap, ◌∙◌}
-use Rattle.std.proofs.Common.{eq-eqb}
-use Rattle.std.specs.Prelude.{◌&&◌}
-use Rattle.std.proofs.lemmas.Bool.{and_from, true≢false}
-use Rattle.authenticator.specs.Roster.{kind_number}
-use Rattle.authenticator.specs.Signing.{is_same}
+use Rattle.std.proofs.Common.{◌≡◌, ◌↔◌, Bool, true, false, IsTrue, List, refl, sym, ap, ◌∙◌}
+use Rattle.std.proofs.lemmas.Bool.{true≢false}
 use Rattle.authenticator.specs.declared.member.Member.{Member}
-use Rattle.authenticator.proofs.Signed.{is_false, list_same}
-use Rattle.node_book.specs.witness_spec.Whose.{same_member, same_roster}
+use Rattle.authenticator.proofs.Signed.{is_false}
+use Rattle.node_book.specs.witness_spec.Whose.{same_roster}
 use Rattle.node_book.proofs.witness_laws.Checked.{roster_is}
-use Rattle.witness_laws.proofs.OfAnswers.Answering.{member_self, roster_self}
+use Rattle.witness_laws.proofs.OfAnswers.Answering.{roster_self}
 
 -- What is true exactly where two rosters are equal is the test of them.
 pub test_of_rosters : (b : Bool) (xs ys : List Member) → IsTrue b ↔ (xs ≡ ys) → b ≡ same_roster xs ys

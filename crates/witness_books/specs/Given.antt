@@ -1,7 +1,7 @@
 -- What books give in reply, where one reply alone is owed.
 use Rattle.std.specs.Prelude.{◌≡◌, ◌⊎◌, ◌↔◌, List, ◌∷◌, []}
 use Rattle.authenticator.specs.declared.member.Member.{Member}
-use Rattle.secure_log.specs.Versioned.{ClosedVersionedParts}
+use Rattle.secure_log.specs.Versioned.{ClosedParts}
 use Rattle.envelopes.specs.declared.acknowledgement.Ack.{Ack}
 use Rattle.node_book.specs.witness_spec.Events.{Event, PublicKey}
 use Rattle.node_book.specs.witness_spec.Events as events
@@ -24,7 +24,7 @@ WhatIsOwedIsGiven =
 -- So the answer of a node to the audit that is open is accepted.
 abbrev pub AnswersAreTaken : Type 0
 AnswersAreTaken =
-    (w : Watched) (old new : List BookParts) (history : History) (c : ClosedVersionedParts) (reply : Reply)
+    (w : Watched) (old new : List BookParts) (history : History) (c : ClosedParts) (reply : Reply)
     → IsHistory w.roster history → Stands w.roster old history → AnswersAudit w history c
     → StepsTo w.roster old (events.Answer c) reply new
     → (reply ≡ Accepted) ⊎ IsWanting (events.Answer c) reply

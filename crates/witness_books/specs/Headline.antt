@@ -6,7 +6,7 @@ use Rattle.state_spec.specs.State.{State}
 use Rattle.node_book.specs.evidence_spec.Evidence.{EvidenceParts}
 use Rattle.node_book.specs.evidence_spec.Proving.{IsLogOf}
 use Rattle.node_book.specs.evidence_spec.replay_spec.Opening.{opening_of}
-use Rattle.node_book.specs.evidence_spec.replay_spec.HonestLogs.{IsHonestWithGaps}
+use Rattle.node_book.specs.evidence_spec.replay_spec.HonestLogs.{IsHonestLog}
 use Rattle.node_book.specs.witness_spec.Events.{Event}
 use Rattle.node_book.specs.witness_spec.Replies.{Reply, Exposed}
 use Rattle.node_book.specs.witness_spec.Standing.{indication}
@@ -32,7 +32,7 @@ AgreesWithAll ms after =
 pub record SaysOf (w : Watched) (after : History) : Type 0 where
   -- who keeps an honest log is never exposed, where nobody forged its signatures and no texts collide
   pub honest : (log : List Logged) (s : State)
-      → IsLogOf w.member.log_version log → IsHonestWithGaps w.roster (opening_of w.member) log s
+      → IsLogOf w.member.log_version log → IsHonestLog w.roster (opening_of w.member) log s
       → Unforged w log (own_of w after) → NoCollisionWith log (own_of w after)
       → indication w (own_of w after) ≢ Exposed
   -- who differs in an audited log is exposed

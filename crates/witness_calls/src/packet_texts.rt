@@ -1,11 +1,12 @@
 //! What a node shows, as packets.
 
-ghost use Rattle.std.specs.Prelude.{◌≡◌, ◌∷◌, IfOk};
+ghost use Rattle.std.specs.Prelude.{◌≡◌, ◌++◌, IfOk};
+ghost use Rattle.xdr.specs.Item.{number_spelling};
 ghost use Rattle.envelopes.specs.Acknowledgement.{ack_in};
 ghost use Rattle.envelopes.specs.Envelope.{envelope_in};
-ghost use Rattle.packets.specs.Packet.{AckIn, Learn, SendChallenge, packet_text};
+ghost use Rattle.packets.specs.Packet.{AckIn, Learn, SendChallenge, answer_number, packet_text};
 
-use authenticator::Authenticator;
+use authenticator::{Authenticator, LogVersion};
 use envelopes::{AckRef, EnvelopeRef};
 use packets::{write_ack, write_answer_text, write_challenge, write_learn};
 use std::alloc::{AllocError, Global};
@@ -19,13 +20,17 @@ pub fn learn_packet(alloc: Global, authenticator: &Authenticator) -> Result<Vec<
     Ok(text)
 }
 
-/// The packet of a segment's text, in answer to an audit: the word 3, and the text.
-#[tactic(auto, unfolding(xdr::specs::Item::number_spelling))]
-pub fn answer_packet(alloc: Global, segment: &[u8]) -> Result<Vec<u8>, AllocError>
-    ensures { IfOk result (λ text. text.items ≡ 0 ∷ 0 ∷ 0 ∷ 3 ∷ segment.now) }
+/// The packet of a segment's text, in answer to an audit: the word 3 in a log of version 1, or 5 in one of version
+/// 2, and the text.
+pub fn answer_packet(
+    alloc: Global,
+    version: LogVersion,
+    segment: &[u8],
+) -> Result<Vec<u8>, AllocError>
+    ensures { IfOk result (λ text. text.items ≡ number_spelling 4 (answer_number version) ++ segment.now) }
 {
     let mut text = Vec::new(alloc);
-    write_answer_text(segment, &mut text)?;
+    write_answer_text(version, segment, &mut text)?;
     Ok(text)
 }
 

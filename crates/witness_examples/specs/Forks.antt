@@ -5,10 +5,11 @@ use Rattle.authenticator.specs.declared.authenticator.Authenticator.{Authenticat
 use Rattle.authenticator.specs.declared.member.LogVersion.{LogVersion}
 use Rattle.authenticator.specs.declared.member.LogVersion.TheVariants.{One, Two}
 use Rattle.authenticator.specs.declared.member.Member.{Member}
-use Rattle.secure_log.specs.LogEntries.Chain.{Logged, zeros, links_from, logged_links, last_hash}
+use Rattle.secure_log.specs.LogEntries.Chain.{Logged, zeros, logged_links, last_hash, without_gaps}
 use Rattle.secure_log.specs.declared.log_entries.entry.Entry.{Entry}
 use Rattle.secure_log.specs.declared.log_entries.entry.Entry.TheVariants.{Clock}
-use Rattle.secure_log.specs.Versioned.{VersionedParts, ClosedVersionedParts, of_plain}
+use Rattle.secure_log.specs.Versioned.{VersionedParts, ClosedParts, of_plain}
+use Rattle.secure_log.specs.Log.{log_hash}
 use Rattle.state_spec.specs.State.{State, opening_client}
 use Rattle.state_spec.specs.Steps.{having_read}
 use Rattle.replay_spec.specs.Replay.{Sound}
@@ -52,7 +53,7 @@ two_segment = of_plain (record {
   first = 1;
   opening = zeros;
   entries = two_readings;
-  closing = learned 2 (last_hash zeros (links_from 1 two_readings));
+  closing = learned 2 (log_hash (without_gaps two_readings));
 })
 
 -- it was given
@@ -86,11 +87,11 @@ later_segment = of_plain (record {
   first = 2;
   opening = one_hash;
   entries = later_readings;
-  closing = learned 2 (last_hash one_hash (links_from 2 later_readings));
+  closing = learned 2 (last_hash one_hash (logged_links 1 (without_gaps later_readings)));
 })
 
 -- with a roster
-abbrev pub later_closed : ClosedVersionedParts
+abbrev pub later_closed : ClosedParts
 later_closed = record { segment = later_segment; roster = [] }
 
 -- it is asked for
@@ -161,11 +162,11 @@ gap_segment = record {
   first = 1;
   opening = zeros;
   entries = gap_readings;
-  closing = skipping 1 (last_hash zeros (logged_links 0 gap_readings));
+  closing = skipping 1 (log_hash gap_readings);
 }
 
 -- under that roster
-abbrev pub gap_closed : ClosedVersionedParts
+abbrev pub gap_closed : ClosedParts
 gap_closed = record { segment = gap_segment; roster = five_two ∷ [] }
 
 -- it is asked for

@@ -7,11 +7,12 @@ use Rattle.authenticator.specs.declared.authenticator.Authenticator.{Authenticat
 use Rattle.authenticator.specs.declared.member.Kind.TheVariants.{Client}
 use Rattle.authenticator.specs.declared.member.LogVersion.TheVariants.{One}
 use Rattle.authenticator.specs.declared.member.Member.{Member}
-use Rattle.secure_log.specs.LogEntries.Chain.{zeros, links_from, last_hash}
+use Rattle.secure_log.specs.LogEntries.Chain.{zeros, without_gaps}
 use Rattle.secure_log.specs.declared.log_entries.entry.Entry.{Entry}
 use Rattle.secure_log.specs.declared.log_entries.entry.Entry.TheVariants.{Clock}
-use Rattle.secure_log.specs.Versioned.{VersionedParts, ClosedVersionedParts}
+use Rattle.secure_log.specs.Versioned.{VersionedParts, ClosedParts}
 use Rattle.secure_log.specs.Versioned.{of_plain}
+use Rattle.secure_log.specs.Log.{log_hash}
 use Rattle.envelopes.specs.declared.envelope.Envelope.{Envelope}
 use Rattle.state_spec.specs.State.{State, opening_client}
 use Rattle.state_spec.specs.Steps.{having_read}
@@ -102,7 +103,7 @@ readings = Clock 1 0 ∷ []
 
 -- the hash there
 abbrev pub read_hash : List ℕ
-read_hash = last_hash zeros (links_from 1 readings)
+read_hash = log_hash (without_gaps readings)
 
 -- it alone, closed
 abbrev pub segment : VersionedParts
@@ -115,7 +116,7 @@ segment = of_plain (record {
 })
 
 -- with a roster, at which own steps don't look
-abbrev pub closed : ClosedVersionedParts
+abbrev pub closed : ClosedParts
 closed = record { segment = segment; roster = [] }
 
 -- its last authenticator was learned
@@ -201,7 +202,7 @@ no_readings = Clock 0 1_000_000 ∷ []
 
 -- the hash there
 abbrev pub no_hash : List ℕ
-no_hash = last_hash zeros (links_from 1 no_readings)
+no_hash = log_hash (without_gaps no_readings)
 
 -- it alone, closed
 abbrev pub no_segment : VersionedParts
@@ -214,7 +215,7 @@ no_segment = of_plain (record {
 })
 
 -- with a roster
-abbrev pub no_closed : ClosedVersionedParts
+abbrev pub no_closed : ClosedParts
 no_closed = record { segment = no_segment; roster = [] }
 
 -- the job of it

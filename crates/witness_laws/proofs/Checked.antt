@@ -19,7 +19,7 @@ use Rattle.authenticator.specs.declared.refusal.Refusal as checks
 use Rattle.authenticator.proofs.Members.{member_node}
 use Rattle.authenticator.proofs.Signed.{same_list}
 use Rattle.secure_log.specs.declared.segment.TheConstants.{MAX_ENTRIES}
-use Rattle.secure_log.specs.Versioned.{VersionedParts, ClosedVersionedParts, FitsVersion, IsClosedIn}
+use Rattle.secure_log.specs.Versioned.{VersionedParts, ClosedParts, FitsVersion, IsClosedIn}
 use Rattle.secure_log.specs.Versioned.{is_whole_in, versioned_value}
 use Rattle.witness_spec.specs.packets.Packet.{Delivery}
 use Rattle.witness_spec.specs.packets.Packet as packets
@@ -48,7 +48,7 @@ pub record IsLearned (w : Watched) (a : Authenticator) : Type 0 where
   pub signed : IsSignedIn w.roster a
 
 -- a segment of a node that is closed under the roster, with a text
-pub record IsGiven (w : Watched) (c : ClosedVersionedParts) : Type 0 where
+pub record IsGiven (w : Watched) (c : ClosedParts) : Type 0 where
   -- its closing authenticator is of this node
   pub node : c.segment.closing.node ≡ w.member.node
   -- the roster under which it was checked
@@ -167,7 +167,7 @@ module _ (ms : List Member) (o : OwnStep) where
           h
       by false e h = absurd (cc)
 
-  answer_at : (c : ClosedVersionedParts) (x : Option Member) → member_of ms c.segment.closing.node ≡ x
+  answer_at : (c : ClosedParts) (x : Option Member) → member_of ms c.segment.closing.node ≡ x
       → closed_step x (same_roster c.roster ms) (Answer c) ≡ Ok o → IsClosedUnder c → IsCheckedOwn ms o
   answer_at c None is h closed = absurd (cc)
   answer_at c (Some m) is h closed = by (same_roster c.roster ms) refl h

@@ -9,7 +9,7 @@ use Rattle.std.specs.Prelude.{◌<◌, Decides, length}
 use Rattle.std.specs.List.{AllByRecursion}
 use Rattle.authenticator.specs.declared.authenticator.Authenticator.{Authenticator}
 use Rattle.secure_log.specs.LogEntries.Chain.{IsAmong}
-use Rattle.secure_log.specs.Versioned.{ClosedVersionedParts}
+use Rattle.secure_log.specs.Versioned.{ClosedParts}
 use Rattle.witness_spec.specs.Refusals as refusals
 use Rattle.witness_spec.specs.Events.{JobParts, DoneParts}
 use Rattle.witness_spec.specs.Replies.{Reply, Noted, Already, Accepted, Asked, Job, Filed, Returned, Refused}
@@ -31,7 +31,7 @@ use Rattle.witness_laws.proofs.Reach.{IsInReach, IsNumberOf, in_reach, kept_afte
 
 -- what a step noted, accepted and filed, and where the audit stands after it
 pub record Did (past : Past) (p : Step × Reply) (learned : Option Authenticator)
-    (answer : Option ClosedVersionedParts) (job : Option JobParts) (to : Stage) : Type 0 where
+    (answer : Option ClosedParts) (job : Option JobParts) (to : Stage) : Type 0 where
   -- what it noted
   pub notes : noted p.0 p.1 ≡ learned
   -- the segment that it accepted
@@ -46,17 +46,17 @@ pub data Doing (w : Watched) (past : Past) (p : Step × Reply) : Type 0 where
   Nothing : Did past p None None None (stage_of past) → Doing w past p
   Notes : (a : Authenticator) → p.0 ≡ Learn a → Did past p (Some a) None None (stage_of past)
       → Doing w past p
-  Accepts : (c : ClosedVersionedParts) → p.0 ≡ Answer c
+  Accepts : (c : ClosedParts) → p.0 ≡ Answer c
       → stage_of past ≡ Wanted c.segment.first (last_of c.segment)
       → Did past p None (Some c) None (Given c) → Doing w past p
   Asks : (first last : ℕ) → first ≡ (end_of w past).number + 1
       → (last ≤ MAX_AUDITED) × IsInReach first last × IsNumberOf w.member.log_version (kept w past) last
       → Did past p None None None (Wanted first last) → Doing w past p
-  Begins : (c : ClosedVersionedParts) → stage_of past ≡ Given c → Did past p None None None (Out c)
+  Begins : (c : ClosedParts) → stage_of past ≡ Given c → Did past p None None None (Out c)
       → Doing w past p
   Files : (j : JobParts) → stage_of past ≡ Out j.segment → Did past p None None (Some j) NoAudit
       → Doing w past p
-  PutsBack : (c : ClosedVersionedParts) → stage_of past ≡ Out c → Did past p None None None (Given c)
+  PutsBack : (c : ClosedParts) → stage_of past ≡ Out c → Did past p None None None (Given c)
       → Doing w past p
 
 module _ (w : Watched) (past : Past) where
@@ -68,7 +68,7 @@ module _ (w : Watched) (past : Past) where
   learns a false false false =
       Notes a refl (record { notes = refl; accepts = refl; files = refl; stage = refl })
 
-  answered : (c : ClosedVersionedParts) (first last : ℕ) (b : Bool) → stage_of past ≡ Wanted first last
+  answered : (c : ClosedParts) (first last : ℕ) (b : Bool) → stage_of past ≡ Wanted first last
       → ((c.segment.first == first) && (last_of c.segment == last)) ≡ b
       → Doing w past (Answer c, cond b Accepted (Refused refusals.NotAsked))
   answered c first last true is e =
@@ -81,7 +81,7 @@ module _ (w : Watched) (past : Past) where
   answered c first last false is e =
       Nothing (record { notes = refl; accepts = refl; files = refl; stage = refl })
 
-  answers : (c : ClosedVersionedParts) (s : Stage) → stage_of past ≡ s
+  answers : (c : ClosedParts) (s : Stage) → stage_of past ≡ s
       → Doing w past (Answer c, answer_reply s c)
   answers c NoAudit is = Nothing (record { notes = refl; accepts = refl; files = refl; stage = refl })
   answers c (Wanted first last) is =
@@ -129,7 +129,7 @@ module _ (w : Watched) (past : Past) where
   audits (Given c) = Nothing (record { notes = refl; accepts = refl; files = refl; stage = refl })
   audits (Out c) = Nothing (record { notes = refl; accepts = refl; files = refl; stage = refl })
 
-  begun : (c : ClosedVersionedParts) (b : Bool) → stage_of past ≡ Given c
+  begun : (c : ClosedParts) (b : Bool) → stage_of past ≡ Given c
       → Doing w past (Begin, cond b (Refused refusals.NothingToAudit) (Job (next_job w past c)))
   begun c true is = Nothing (record { notes = refl; accepts = refl; files = refl; stage = refl })
   begun c false is = Begins c is (record { notes = refl; accepts = refl; files = refl; stage = refl })

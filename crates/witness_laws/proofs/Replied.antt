@@ -6,7 +6,7 @@ use Rattle.std.proofs.Common.{refl, sym, ap, ◌∙◌}
 use Rattle.std.specs.Bool.{one_answer}
 use Rattle.authenticator.specs.declared.authenticator.Authenticator.{Authenticator}
 use Rattle.authenticator.specs.declared.member.LogVersion.{LogVersion}
-use Rattle.secure_log.specs.Versioned.{ClosedVersionedParts}
+use Rattle.secure_log.specs.Versioned.{ClosedParts}
 use Rattle.witness_spec.specs.Refusals as refusals
 use Rattle.witness_spec.specs.Events.{Event, JobParts, Question, ItsIndication, ItsChallenges, ItsEvidence}
 use Rattle.witness_spec.specs.Events as events
@@ -55,7 +55,7 @@ either : (b : Bool) (x y : Reply) → is_good x ≡ true → is_good y ≡ true 
 either true x y h k = h
 either false x y h k = k
 
-good_answer : (stage : Stage) (c : ClosedVersionedParts) → is_good (answer_reply stage c) ≡ true
+good_answer : (stage : Stage) (c : ClosedParts) → is_good (answer_reply stage c) ≡ true
 good_answer NoAudit c = refl
 good_answer (Wanted first last) c =
     either ((c.segment.first == first) && (last_of c.segment == last))

@@ -26,7 +26,7 @@ pub fn left_out_changes_nothing()
     ensures others { OthersAreTaken }
 {}
 
-/// A node is Exposed exactly if a number has two hashes among what was shown, or a File was answered Filed
+/// A node is Exposed exactly if a number has two marks among what was shown, or a File was answered Filed
 /// for a segment that no list of states makes honest; otherwise Suspected exactly if a challenge is open.
 pub fn exposed_exactly_if()
     ensures exposed { ExposedExactlyIf }

@@ -1,25 +1,19 @@
 -- What a node showed of its own log: its authenticators and its answers are of that log.
 -- Serves: own_words_never_expose.
-use Rattle.std.proofs.Common.{◌≡◌, ℕ, ◌<◌, List, [], ◌∷◌, ◌++◌, Some, sym, ap, subst, ◌∙◌, append_assoc}
-use Rattle.std.proofs.Common.{arith}
+use Rattle.std.proofs.Common.{◌≡◌, ℕ, ◌-◌, List, [], ◌∷◌, ◌++◌, Some, sym, ap, subst, ◌∙◌, append_assoc}
 use Rattle.std.specs.Prelude.{flat_map}
 use Rattle.std.specs.List.{AllByRecursion}
 use Rattle.authenticator.specs.declared.authenticator.Authenticator.{Authenticator}
-use Rattle.authenticator.specs.declared.member.LogVersion.TheVariants.{One}
 use Rattle.authenticator.specs.Numbers.{number_in}
-use Rattle.secure_log.specs.declared.log_entries.entry.Entry.{Entry}
-use Rattle.secure_log.specs.LogEntries.Chain.{NoCollision, IsAmong, without_gaps}
+use Rattle.secure_log.specs.LogEntries.Chain.{Logged, NoCollision, IsAmong, chain_texts, logged_links}
 use Rattle.secure_log.specs.Log.{log_hash, log_pairs}
-use Rattle.secure_log.specs.Part.{with_closing}
-use Rattle.secure_log.specs.Segment.{SegmentParts}
+use Rattle.secure_log.specs.Part.{open_entries}
 use Rattle.secure_log.specs.Versioned.{VersionedParts}
 use Rattle.commitment.specs.Senders.Sender.{SenderParts, IsSender}
 use Rattle.commitment.specs.Senders.LookUps.{IsAuthenticatorAt, authenticator_at}
-use Rattle.node_logs.specs.Steps.Nodes.{NodeParts, log_of, sender_of}
+use Rattle.node_logs.specs.Steps.Nodes.{NodeParts, sender_of}
 use Rattle.secure_log.proofs.OfLogEntries.FewerTexts.{Within, fewer, both}
-use Rattle.witness_laws.specs.evidence_spec.Proving.{IsUnforgedIn, hashed_texts, log_texts, pairs_of}
-use Rattle.witness_laws.specs.evidence_spec.Proving.{texts_of, versioned_texts}
-use Rattle.witness_laws.proofs.evidence_spec.PlainSegments.{log_pairs_plain, log_texts_plain, texts_plain}
+use Rattle.witness_laws.specs.evidence_spec.Proving.{IsUnforgedIn, entry_texts, texts_of, versioned_texts}
 use Rattle.witness_laws.specs.witness_spec.Watched.{Watched}
 use Rattle.witness_laws.specs.witness_spec.Steps.{Step, Learn, SendChallenge, Answer, AckIn, Audit, Begin}
 use Rattle.witness_laws.specs.witness_spec.Steps.{File, PutBack}
@@ -36,61 +30,64 @@ OfItsLog =
     → IsAuthenticatorAt s number a
 
 module _ (each : EachPlace) (of_log : OfItsLog) (n : NodeParts) where
-  -- an authenticator that a node made has its pair in the log that the node has now
-  made_in_log : (before : NodeParts) → WentOn before n → (number : ℕ) (a : Authenticator)
-      → authenticator_at (sender_of before) number ≡ Some a → IsAmong (a.word, a.hash) (log_pairs n.entries)
-  made_in_log before went number a made =
-      subst (λ es. IsAmong (a.word, a.hash) (log_pairs es)) (sym went.entries)
-      (of_longer (a.word, a.hash) before.entries went.rest
-      (of_place each (log_of before) number a (of_log (sender_of before) number a went.sender made).place))
+  -- the number and hash of an authenticator are a pair of the log that the node has now
+  abbrev InLog : Authenticator → Type 0
+  InLog a = IsAmong (number_in n.log_version a.word, a.hash) (log_pairs n.entries)
 
-  closing_in_log : (s : VersionedParts) → IsAnswered n s
-      → IsAmong (s.closing.word, s.closing.hash) (log_pairs n.entries)
+  -- an authenticator that a node made has its pair there
+  made_in_log : (before : NodeParts) → WentOn before n → (number : ℕ) (a : Authenticator)
+      → authenticator_at (sender_of before) number ≡ Some a → InLog a
+  made_in_log before went number a made =
+      subst (λ v. IsAmong (number_in v a.word, a.hash) (log_pairs n.entries)) went.version
+      (subst (λ es. IsAmong (number_in before.log_version a.word, a.hash) (log_pairs es)) (sym went.entries)
+      (of_longer (number_in before.log_version a.word, a.hash) before.entries went.rest
+      (of_place each (sender_of before) number a went.sender
+      (of_log (sender_of before) number a went.sender made).place)))
+
+  closing_in_log : (s : VersionedParts) → IsAnswered n s → InLog s.closing
   closing_in_log s h =
-      subst (λ (x : VersionedParts). IsAmong (x.closing.word, x.closing.hash) (log_pairs n.entries))
-      (sym h.is)
+      subst (λ (x : VersionedParts). InLog x.closing) (sym h.is)
       (made_in_log h.before h.went_on h.last h.answers.answer.closing h.answers.answer.made)
 
   -- the texts of a segment that a node answered are among those of its log
   answered_texts : (s : VersionedParts) → IsAnswered n s
-      → Within (versioned_texts s) (log_texts n.entries)
+      → Within (versioned_texts s) (texts_of n.entries)
   answered_texts s h =
       let part = h.answers.answer.part in
       let at = h.answers.answer.of_log in
-      let es : List Entry = part.entries.now in
-      let whole : n.entries ≡ at.before ++ (es ++ (at.rest ++ h.went_on.rest)) =
-      h.went_on.entries ∙ (ap (λ (l : List Entry). l ++ h.went_on.rest) at.whole
-      ∙ (append_assoc at.before (es ++ at.rest) h.went_on.rest
-      ∙ ap (λ (l : List Entry). at.before ++ l) (append_assoc es at.rest h.went_on.rest))) in
-      let here : Within (hashed_texts part.first (log_hash at.before) es) (log_texts n.entries) =
-      subst (λ l. Within (hashed_texts part.first (log_hash at.before) es) (log_texts l)) (sym whole)
-      (texts_of_part at.before es (at.rest ++ h.went_on.rest) part.first (at.place ∙ sym at.number)) in
-      let plain : SegmentParts = with_closing part h.answers.answer.closing in
-      let some : 0 < plain.first = omega (arith, at.number, at.place) in
-      subst (λ (x : VersionedParts). Within (versioned_texts x) (log_texts n.entries)) (sym h.is)
-      (subst (λ ts. Within ts (log_texts n.entries)) (sym (texts_plain plain some))
-      (subst (λ o. Within (hashed_texts part.first o es) (log_texts n.entries)) (sym at.opening) here))
+      let p = at.part in
+      let es : List Logged = open_entries part in
+      let whole : n.entries ≡ p.before ++ (es ++ (p.rest ++ h.went_on.rest)) =
+      h.went_on.entries ∙ (ap (λ (l : List Logged). l ++ h.went_on.rest) p.whole
+      ∙ (append_assoc p.before (es ++ p.rest) h.went_on.rest
+      ∙ ap (λ (l : List Logged). p.before ++ l) (append_assoc es p.rest h.went_on.rest))) in
+      let texts : List ℕ → List (List ℕ) =
+      λ o. chain_texts o (logged_links (part.first - 1) es) ++ flat_map (λ l. entry_texts l.entry) es in
+      let here : Within (texts (log_hash p.before)) (texts_of n.entries) =
+      subst (λ l. Within (texts (log_hash p.before)) (texts_of l)) (sym whole)
+      (texts_of_part p.before es (p.rest ++ h.went_on.rest) part.first (p.place ∙ sym at.number)) in
+      subst (λ (x : VersionedParts). Within (versioned_texts x) (texts_of n.entries)) (sym h.is)
+      (subst (λ o. Within (texts o) (texts_of n.entries)) (sym at.opening) here)
 
-  module _ (w : Watched) (version : w.member.log_version ≡ One) where
+  module _ (w : Watched) (version : w.member.log_version ≡ n.log_version) where
     -- none of these signatures of the node is forged
     abbrev AreUnforged : List Authenticator → Type 0
     AreUnforged =
         AllByRecursion
-        (IsUnforgedIn w.member.log_version w.roster w.member.node (without_gaps n.entries))
+        (IsUnforgedIn w.member.log_version w.roster w.member.node n.entries)
 
-    -- a pair of the entries is one of the log, in which nothing is skipped
-    as_logged : (a : Authenticator) → IsAmong (a.word, a.hash) (log_pairs n.entries)
-        → IsAmong (number_in w.member.log_version a.word, a.hash) (pairs_of (without_gaps n.entries))
-    as_logged a i =
-        subst (λ v. IsAmong (number_in v a.word, a.hash) (pairs_of (without_gaps n.entries))) (sym version)
-        (subst (IsAmong (a.word, a.hash)) (sym (log_pairs_plain n.entries)) i)
+    -- the same under the roster's version of the log
+    as_listed : (a : Authenticator) → InLog a
+        → IsAmong (number_in w.member.log_version a.word, a.hash) (log_pairs n.entries)
+    as_listed a i =
+        subst (λ v. IsAmong (number_in v a.word, a.hash) (log_pairs n.entries)) (sym version) i
 
     unforged_in : (s : Step) → ShowsItsOwn n s → AreUnforged (authenticators_in s)
     unforged_in (Learn a) h =
-        (λ of signed. as_logged a (made_in_log h.before h.went_on h.number a h.made), tt)
+        (λ of signed. as_listed a (made_in_log h.before h.went_on h.number a h.made), tt)
     unforged_in (SendChallenge e) h = tt
     unforged_in (Answer c) h =
-        (λ of signed. as_logged c.segment.closing (closing_in_log c.segment h), tt)
+        (λ of signed. as_listed c.segment.closing (closing_in_log c.segment h), tt)
     unforged_in (AckIn a) h = tt
     unforged_in Audit h = tt
     unforged_in Begin h = tt
@@ -105,13 +102,13 @@ module _ (each : EachPlace) (of_log : OfItsLog) (n : NodeParts) where
 
     -- Where all that own steps show the node showed itself, no signature among them is forged.
     pub unforged : (past : Past) → AllByRecursion (λ p. ShowsItsOwn n p.0) past
-        → Unforged w (without_gaps n.entries) past
+        → Unforged w n.entries past
     unforged [] h = tt
     unforged (p ∷ past) h =
         all_joined (authenticators_in p.0) (flat_map (λ q. authenticators_in q.0) past) (unforged_in p.0 h.0)
         (unforged past h.1)
 
-  texts_within : (s : Step) → ShowsItsOwn n s → Within (texts_in s) (log_texts n.entries)
+  texts_within : (s : Step) → ShowsItsOwn n s → Within (texts_in s) (texts_of n.entries)
   texts_within (Learn a) h t i = absurd i
   texts_within (SendChallenge e) h t i = absurd i
   texts_within (Answer c) h t i = answered_texts c.segment h t i
@@ -124,17 +121,16 @@ module _ (each : EachPlace) (of_log : OfItsLog) (n : NodeParts) where
   texts_within (Ask q) h t i = absurd i
 
   all_within : (past : Past) → AllByRecursion (λ p. ShowsItsOwn n p.0) past
-      → Within (flat_map (λ p. texts_in p.0) past) (log_texts n.entries)
+      → Within (flat_map (λ p. texts_in p.0) past) (texts_of n.entries)
   all_within [] h t i = absurd i
   all_within (p ∷ past) h t i =
-      both (texts_in p.0) (flat_map (λ q. texts_in q.0) past) (log_texts n.entries) (texts_within p.0 h.0)
+      both (texts_in p.0) (flat_map (λ q. texts_in q.0) past) (texts_of n.entries) (texts_within p.0 h.0)
       (all_within past h.1) t i
 
   -- Nor are there other texts than the log's.
   pub unlike_texts : (past : Past) → AllByRecursion (λ p. ShowsItsOwn n p.0) past
-      → NoCollision (log_texts n.entries) → NoCollisionWith (without_gaps n.entries) past
+      → NoCollision (texts_of n.entries) → NoCollisionWith n.entries past
   unlike_texts past h unlike =
-      let texts = texts_of (without_gaps n.entries) in
-      fewer (texts ++ flat_map (λ p. texts_in p.0) past) (log_texts n.entries)
-      (both texts (flat_map (λ p. texts_in p.0) past) (log_texts n.entries)
-      (λ t i. subst (IsAmong t) (log_texts_plain n.entries) i) (all_within past h)) unlike
+      let texts = texts_of n.entries in
+      fewer (texts ++ flat_map (λ p. texts_in p.0) past) texts
+      (both texts (flat_map (λ p. texts_in p.0) past) texts (λ t i. i) (all_within past h)) unlike

@@ -8,17 +8,16 @@ use Rattle.xdr.specs.Texts.Text.{IsText}
 use Rattle.authenticator.specs.Roster.{member_of}
 use Rattle.authenticator.specs.Signed.{IsSignedBy, IsSignedIn}
 use Rattle.authenticator.specs.declared.authenticator.Authenticator.{Authenticator}
-use Rattle.secure_log.specs.Segment.{SegmentParts, segment_text, segment_value}
-use Rattle.secure_log.specs.Versioned.{IsClosedIn, of_plain, versioned_text}
+use Rattle.authenticator.specs.declared.member.LogVersion.{LogVersion}
+use Rattle.authenticator.specs.declared.member.LogVersion.TheVariants.{One, Two}
+use Rattle.secure_log.specs.Versioned.{FitsVersion, IsClosedIn, VersionedParts, versioned_text, versioned_value}
 use Rattle.secure_log.specs.declared.segment.TheConstants.{MAX_ENTRIES}
-use Rattle.secure_log.proofs.VersionedTexts.{plain_fits}
-use Rattle.authenticator.specs.declared.member.LogVersion.TheVariants.{One}
 use Rattle.envelopes.specs.Acknowledgement.{ack_shows, ack_text, ack_value}
 use Rattle.envelopes.specs.declared.acknowledgement.Ack.{Ack}
 use Rattle.packets.specs.Packet as packets
+use Rattle.packets.specs.Packet.{answer_number}
 use Rattle.packets.specs.Taking.{IsTaken}
 use Rattle.packets.specs.Laws.{JudgedAsMeant}
-use Rattle.witness_laws.proofs.evidence_spec.WithoutGaps.{text_plain}
 use Rattle.witness_laws.specs.witness_spec.Events.{Event}
 use Rattle.witness_laws.specs.witness_spec.Events as events
 use Rattle.witness_laws.specs.witness_spec.Replies.{is_want_of_memory}
@@ -39,6 +38,17 @@ unfolding number_spelling
 after_three bytes h =
     one_more 0 (0 ∷ 0 ∷ 3 ∷ bytes) (omega arith) (one_more 0 (0 ∷ 3 ∷ bytes) (omega arith)
     (one_more 0 (3 ∷ bytes) (omega arith) (one_more 3 bytes (omega arith) h)))
+
+after_five : (bytes : List ℕ) → IsBytes bytes → IsBytes (number_spelling 4 5 ++ bytes)
+unfolding number_spelling
+after_five bytes h =
+    one_more 0 (0 ∷ 0 ∷ 5 ∷ bytes) (omega arith) (one_more 0 (0 ∷ 5 ∷ bytes) (omega arith)
+    (one_more 0 (5 ∷ bytes) (omega arith) (one_more 5 bytes (omega arith) h)))
+
+after_answer : (v : LogVersion) (bytes : List ℕ) → IsBytes bytes
+    → IsBytes (number_spelling 4 (answer_number v) ++ bytes)
+after_answer One bytes h = after_three bytes h
+after_answer Two bytes h = after_five bytes h
 
 after_four : (bytes : List ℕ) → IsBytes bytes → IsBytes (number_spelling 4 4 ++ bytes)
 unfolding number_spelling
@@ -75,27 +85,25 @@ same_step w history bytes event o bound its v = record {
 }
 
 -- The packet of a closed segment's text is the same step as the segment.
-pub answer_packet : JudgedAsMeant → (w : Watched) (history : History) (s : SegmentParts)
-    (bytes : List ℕ) → IsBytes bytes → IsText segment_text (segment_value s) bytes
-    → IsClosedIn w.roster (of_plain s)
+pub answer_packet : JudgedAsMeant → (w : Watched) (history : History) (s : VersionedParts)
+    (bytes : List ℕ) → IsBytes bytes → FitsVersion MAX_ENTRIES s
+    → IsText (versioned_text s.log_version MAX_ENTRIES) (versioned_value s.log_version s) bytes
+    → IsClosedIn w.roster s
     → member_of w.roster s.closing.node ≡ Some w.member
-    → whose w.roster (events.Answer (record { segment = of_plain s; roster = w.roster }))
-    ≡ Ok (record { member = w.member; step = Answer (record { segment = of_plain s; roster = w.roster }) })
-    → IsSameStep w history (number_spelling 4 3 ++ bytes)
-    (events.Answer (record { segment = of_plain s; roster = w.roster }))
-answer_packet meant w history s bytes bound text closed member its =
-    let packet : List ℕ = number_spelling 4 3 ++ bytes in
-    let all : IsBytes packet = after_three bytes bound in
-    let taken : IsTaken w.roster packet (packets.Answer (of_plain s)) = record {
+    → whose w.roster (events.Answer (record { segment = s; roster = w.roster }))
+    ≡ Ok (record { member = w.member; step = Answer (record { segment = s; roster = w.roster }) })
+    → IsSameStep w history (number_spelling 4 (answer_number s.log_version) ++ bytes)
+    (events.Answer (record { segment = s; roster = w.roster }))
+answer_packet meant w history s bytes bound fits text closed member its =
+    let packet : List ℕ = number_spelling 4 (answer_number s.log_version) ++ bytes in
+    let all : IsBytes packet = after_answer s.log_version bytes bound in
+    let taken : IsTaken w.roster packet (packets.Answer s) = record {
       of_members = record {
         well = record {
           says = record {
             content = bytes;
             whole = refl;
-            is_content = record {
-              fits = plain_fits MAX_ENTRIES s text.0;
-              is = subst (λ v. IsText (versioned_text One MAX_ENTRIES) v bytes) (sym (text_plain s)) text;
-            };
+            is_content = record { fits = fits; is = text };
           };
           may_be = (closed.version, closed.ends);
         };
@@ -103,9 +111,9 @@ answer_packet meant w history s bytes bound text closed member its =
       };
       signed = closed.signed;
     } in
-    same_step w history packet (events.Answer (record { segment = of_plain s; roster = w.roster })) _ all
-    (ap (judged_step w.roster) ((meant w.roster packet (Ok (packets.Answer (of_plain s))) all).1 taken)
-    ∙ ap (λ x. step_of x (Answer (record { segment = of_plain s; roster = w.roster }))) member) its
+    same_step w history packet (events.Answer (record { segment = s; roster = w.roster })) _ all
+    (ap (judged_step w.roster) ((meant w.roster packet (Ok (packets.Answer s)) all).1 taken)
+    ∙ ap (λ x. step_of x (Answer (record { segment = s; roster = w.roster }))) member) its
 
 -- The packet of a signed acknowledgement's text is the same step as the acknowledgement under a key.
 pub ack_packet : JudgedAsMeant → (w : Watched) (history : History) (a : Ack) (event : Event)

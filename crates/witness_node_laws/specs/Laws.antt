@@ -5,16 +5,16 @@ use Rattle.xdr.specs.Item.{IsBytes, number_spelling}
 use Rattle.xdr.specs.Texts.Text.{IsText}
 use Rattle.authenticator.specs.Roster.{IsRoster}
 use Rattle.authenticator.specs.Signed.{IsSignedBy}
-use Rattle.authenticator.specs.declared.member.LogVersion.TheVariants.{One}
 use Rattle.authenticator.specs.declared.member.Member.{Member}
-use Rattle.secure_log.specs.LogEntries.Chain.{NoCollision, IsAmong, without_gaps}
-use Rattle.secure_log.specs.Segment.{SegmentParts, segment_text, segment_value}
-use Rattle.secure_log.specs.Versioned.{of_plain}
+use Rattle.secure_log.specs.LogEntries.Chain.{NoCollision, IsAmong}
+use Rattle.secure_log.specs.Versioned.{VersionedParts, versioned_text, versioned_value}
+use Rattle.secure_log.specs.declared.segment.TheConstants.{MAX_ENTRIES}
 use Rattle.envelopes.specs.Envelope.{envelope_message}
 use Rattle.envelopes.specs.Acknowledgement.{ack_shows, ack_text, ack_value}
 use Rattle.envelopes.specs.Checking.{IsTextOf}
 use Rattle.envelopes.specs.declared.envelope.Envelope.{Envelope}
 use Rattle.envelopes.specs.declared.acknowledgement.Ack.{Ack}
+use Rattle.packets.specs.Packet.{answer_number}
 use Rattle.secure_log.specs.declared.fault.SegmentFault.{SegmentFault}
 use Rattle.secure_log.specs.declared.fault.SegmentFault.TheVariants.{NoMemory}
 use Rattle.commitment.specs.Senders.Sender.{IsSender, signed_at}
@@ -30,7 +30,7 @@ use Rattle.node_logs.specs.Receiving.{Receives}
 use Rattle.node_logs.specs.Sending.{TakesReply}
 use Rattle.commitment.specs.declared.outcome.Received.TheVariants.{New, Repeat}
 use Rattle.node_logs.specs.declared.outcome.Receipt.{Receipt}
-use Rattle.witness_laws.specs.evidence_spec.Proving.{log_texts}
+use Rattle.witness_laws.specs.evidence_spec.Proving.{texts_of}
 use Rattle.witness_laws.specs.witness_spec.Events.{PublicKey, Event, IsEvent}
 use Rattle.witness_laws.specs.witness_spec.Events as events
 use Rattle.witness_laws.specs.witness_spec.Replies.{Reply, SendOf, Exposed}
@@ -40,7 +40,7 @@ use Rattle.witness_laws.specs.witness_spec.Standing.{Wanted, stage_of, open_chal
 use Rattle.witness_laws.specs.witness_spec.Histories.{History, IsOwed, IsHistory, own_of}
 use Rattle.witness_laws.specs.witness_spec.Premises.{Unforged, NoCollisionWith}
 use Rattle.witness_laws.specs.witness_spec.Laws.{AnswersAudit, ClosesChallenge}
-use Rattle.witness_node_laws.specs.Logs.{IsListedAs, ShowsItsOwn}
+use Rattle.witness_node_laws.specs.Logs.{IsListedAs, MayBegin, ShowsItsOwn}
 
 -- ---- who is never exposed
 
@@ -51,8 +51,8 @@ IsNeverExposed n =
     n.strayed ≡ false → (m : Member) (history : History)
     → let w : Watched = watched n.roster m in
     IsListedAs n m → IsInRoster w → IsHistory n.roster history
-    → Unforged w (without_gaps n.entries) (own_of w history)
-    → NoCollisionWith (without_gaps n.entries) (own_of w history)
+    → Unforged w n.entries (own_of w history)
+    → NoCollisionWith n.entries (own_of w history)
     → indication w (own_of w history) ≢ Exposed
 
 -- Nor is it where all that a witness was shown of its log is what the node itself showed, and no two texts of
@@ -63,7 +63,7 @@ OwnWordsNeverExpose n =
     → let w : Watched = watched n.roster m in
     IsListedAs n m → IsInRoster w → IsHistory n.roster history
     → AllByRecursion (λ p. ShowsItsOwn n p.0) (own_of w history)
-    → NoCollision (log_texts n.entries)
+    → NoCollision (texts_of n.entries)
     → indication w (own_of w history) ≢ Exposed
 
 -- ---- bytes
@@ -81,31 +81,35 @@ pub record IsSameStep (w : Watched) (history : History) (bytes : List ℕ) (even
 -- ---- who answers
 
 -- The bytes are the text of a segment that may be handed in, that answers the audit which is open and is
--- accepted for it; and so are they as a packet, after its number.
+-- accepted for it; and so are they as a packet, after the number of one with a segment of such a log.
 pub record IsAcceptedAnswer (w : Watched) (history : History) (bytes : List ℕ) : Type 0 where
-  pub segment : SegmentParts
-  pub text : IsText segment_text (segment_value segment) bytes
-  pub event : IsEvent (events.Answer (record { segment = of_plain segment; roster = w.roster }))
-  pub accepted : AnswersAudit w history (record { segment = of_plain segment; roster = w.roster })
-  pub packet : IsSameStep w history (number_spelling 4 3 ++ bytes)
-      (events.Answer (record { segment = of_plain segment; roster = w.roster }))
+  pub segment : VersionedParts
+  pub version : segment.log_version ≡ w.member.log_version
+  pub text : IsText (versioned_text segment.log_version MAX_ENTRIES)
+      (versioned_value segment.log_version segment) bytes
+  pub event : IsEvent (events.Answer (record { segment = segment; roster = w.roster }))
+  pub accepted : AnswersAudit w history (record { segment = segment; roster = w.roster })
+  pub packet : IsSameStep w history (number_spelling 4 (answer_number segment.log_version) ++ bytes)
+      (events.Answer (record { segment = segment; roster = w.roster }))
 
--- Where an audit is open, a node that signed at the last number refuses the challenge with its numbers
--- only where memory runs out.
+-- Where an audit is open, a node that signed at the last number, and in whose log a segment may begin with the
+-- first, refuses the challenge with its numbers only where memory runs out.
 abbrev pub AskedCanBeAnswered : Type 0
 AskedCanBeAnswered =
     (w : Watched) (history : History) (n : NodeParts) (first last : ℕ) (fault : SegmentFault)
     → IsInRoster w → IsHistory w.roster history
     → stage_of (own_of w history) ≡ Wanted first last
     → IsSender (sender_of n) → IsSome (signed_at (sender_of n) last)
+    → MayBegin n.log_version n.entries first
     → RefusesChallenge n first last fault → fault ≡ NoMemory
 
--- So it does where the roster gives its log version 1, as it is, and all that a witness was shown of its log
--- is what the node itself showed: then an audit asks up to a number at which the node signed.
+-- So it does where the roster gives its log the version that it has, and all that a witness was shown of its log
+-- is what the node itself showed: then an audit asks from after an entry on, up to a number at which the node
+-- signed.
 abbrev pub OwnWordsCanBeAnswered : NodeParts → Type 0
 OwnWordsCanBeAnswered n =
     (w : Watched) (history : History) (first last : ℕ) (fault : SegmentFault)
-    → IsInRoster w → w.member.log_version ≡ One → IsHistory w.roster history
+    → IsInRoster w → w.member.log_version ≡ n.log_version → IsHistory w.roster history
     → AllByRecursion (λ p. ShowsItsOwn n p.0) (own_of w history)
     → stage_of (own_of w history) ≡ Wanted first last
     → RefusesChallenge n first last fault → fault ≡ NoMemory

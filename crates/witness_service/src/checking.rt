@@ -12,7 +12,7 @@ use crate::cache::SignatureCache;
 use authenticator::{Authenticator, Checked, Refusal, Roster};
 use envelopes::{Ack, Envelope};
 use packets::SignatureCheck;
-use secure_log::ClosedVersioned;
+use secure_log::ClosedSegment;
 use std::alloc::Global;
 use xdr::texts::{TextFault, read_text};
 
@@ -47,7 +47,7 @@ impl SignatureCheck for SignatureCache {
         check_ack(alloc, roster, self, bytes)
     }
 
-    fn keep_closing(&mut self, alloc: Global, segment: &ClosedVersioned) {
+    fn keep_closing(&mut self, alloc: Global, segment: &ClosedSegment) {
         keep_closing(alloc, self, segment);
     }
 }
@@ -148,7 +148,7 @@ fn check_ack(
 }
 
 /// Keeps what closes a segment.
-fn keep_closing(alloc: Global, cache: &mut SignatureCache, segment: &ClosedVersioned)
+fn keep_closing(alloc: Global, cache: &mut SignatureCache, segment: &ClosedSegment)
     ensures { IfSome (member_of segment.now.roster segment.now.segment.closing.node)
         (λ m. MayUse (key_text m.root m.height segment.now.segment.closing) cache.old cache.new) }
 {

@@ -1,7 +1,7 @@
 -- What a step did, by its reply: each is None where the step did nothing of the kind.
 use Rattle.std.specs.Prelude.{ℕ, Option, Some, None}
 use Rattle.authenticator.specs.declared.authenticator.Authenticator.{Authenticator}
-use Rattle.secure_log.specs.Versioned.{ClosedVersionedParts}
+use Rattle.secure_log.specs.Versioned.{ClosedParts}
 use Rattle.packets.specs.envelopes.declared.envelope.Envelope.{Envelope}
 use Rattle.packets.specs.envelopes.declared.acknowledgement.Ack.{Ack}
 use Rattle.witness_spec.specs.Events.{JobParts}
@@ -21,7 +21,7 @@ opened (SendChallenge e) Opened = Some e
 opened _ _ = None
 
 -- the segment of an answer that was accepted
-abbrev pub accepted : Step → Reply → Option ClosedVersionedParts
+abbrev pub accepted : Step → Reply → Option ClosedParts
 accepted (Answer c) Accepted = Some c
 accepted _ _ = None
 

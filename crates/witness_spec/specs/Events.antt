@@ -4,7 +4,7 @@ use Rattle.xdr.specs.Item.{Fits, IsBytes}
 use Rattle.merkle_keys.specs.Signing.{Signed}
 use Rattle.authenticator.specs.Signed.{signed_digest, authenticator_item, authenticator_value}
 use Rattle.authenticator.specs.declared.authenticator.Authenticator.{Authenticator}
-use Rattle.secure_log.specs.Versioned.{ClosedVersionedParts, FitsVersion, IsClosedIn, is_whole_in}
+use Rattle.secure_log.specs.Versioned.{ClosedParts, FitsVersion, IsClosedIn, is_whole_in}
 use Rattle.secure_log.specs.Versioned.{versioned_value}
 use Rattle.secure_log.specs.declared.segment.TheConstants.{MAX_ENTRIES}
 use Rattle.packets.specs.envelopes.declared.envelope.Envelope.{Envelope}
@@ -26,7 +26,7 @@ pub record JobParts : Type 0 where
   pub node : ℕ
   pub number : ℕ
   pub state : State
-  pub segment : ClosedVersionedParts
+  pub segment : ClosedParts
 
 -- a replay that was done: the job, and its verdict
 pub record DoneParts : Type 0 where
@@ -45,7 +45,7 @@ pub data Event : Type 0 where
   Deliver : (bytes : List ℕ) → Event
   Learn : Authenticator → PublicKey → Event
   SendChallenge : Envelope → PublicKey → Event
-  Answer : ClosedVersionedParts → Event
+  Answer : ClosedParts → Event
   AckIn : Ack → PublicKey → Event
   Audit : (node : ℕ) → Event
   Begin : (node : ℕ) → Event
@@ -61,7 +61,7 @@ abbrev pub IsSignedUnder : PublicKey → Authenticator → Type 0
 IsSignedUnder key a = Signed key.root key.height (signed_digest a.node a.word a.hash) a.signature
 
 -- A segment has a text of its log's version, and is closed under the roster that is kept with it.
-pub record IsClosedUnder (c : ClosedVersionedParts) : Type 0 where
+pub record IsClosedUnder (c : ClosedParts) : Type 0 where
   pub fits : FitsVersion MAX_ENTRIES c.segment
   pub whole : IsTrue (is_whole_in c.segment.log_version (versioned_value c.segment.log_version c.segment))
   pub closed : IsClosedIn c.roster c.segment

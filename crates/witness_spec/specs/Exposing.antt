@@ -4,7 +4,7 @@ use Rattle.std.specs.Prelude.{Option, Some, None, option_map, option_and_then, i
 use Rattle.authenticator.specs.declared.authenticator.Authenticator.{Authenticator}
 use Rattle.authenticator.specs.declared.member.LogVersion.{LogVersion}
 use Rattle.secure_log.specs.LogEntries.Chain.{zeros}
-use Rattle.secure_log.specs.Versioned.{VersionedParts, ClosedVersionedParts}
+use Rattle.secure_log.specs.Versioned.{VersionedParts, ClosedParts}
 use Rattle.evidence_spec.specs.replay_spec.Replay.{Verdict, Sound, Fault}
 use Rattle.evidence_spec.specs.Showing.{ShowingParts, authenticator_showing, versioned_showing}
 use Rattle.evidence_spec.specs.Evidence.{Charge, Fork, Replay, EvidenceParts}
@@ -16,7 +16,7 @@ use Rattle.witness_spec.specs.Pairs.{Pair, pair_of, first_fork, number_of, first
 use Rattle.witness_spec.specs.Done.{noted, accepted, filed}
 use Rattle.witness_spec.specs.Standing.{end_of, audited, shown, is_exposed, kept, all_accepted, verdict_on}
 
--- ---- what showed a hash at a number before
+-- ---- what showed a mark at a number before
 
 -- the segment that holds a place, from its first number to its last
 abbrev pub segment_holding : (number : ℕ) → List VersionedParts → Option VersionedParts
@@ -36,8 +36,8 @@ showing_before v learned segments number =
 
 -- ---- the evidence
 
--- A showing that shows another hash at a number is a fork with what showed one there before; at 0 alone,
--- since every log has zeros there.
+-- A showing that shows another mark at a number, a hash or that no entry has it, is a fork with what showed one
+-- there before; at 0 alone, since every log has zeros there.
 abbrev pub fork_of : LogVersion → List Authenticator → List VersionedParts → (new : ShowingParts) (number : ℕ)
     → Option Charge
 fork_of v learned segments new number =
@@ -69,7 +69,7 @@ replay_of w past s (Fault fault number) = Some (Replay (audited_with w past s))
 
 -- the charge that follows from an authenticator noted, a segment accepted or a job filed, where there is one
 abbrev pub charge_of : Watched → Past
-    → Option Authenticator → Option ClosedVersionedParts → Option JobParts → Option Charge
+    → Option Authenticator → Option ClosedParts → Option JobParts → Option Charge
 charge_of w past (Some a) segment job =
     new_fork w past (authenticator_showing w.member.log_version a) (pair_of w.member.log_version a ∷ [])
 charge_of w past None (Some c) job =

@@ -1,20 +1,21 @@
 -- What holds of what a witness says. Each is the contract of a function in `witness_laws`.
 use Rattle.std.specs.Prelude.{◌≡◌, ◌≢◌, ◌⊎◌, ◌↔◌, ℕ, ◌≤◌, IsTrue, List, [], ◌∷◌, ◌++◌, map}
 use Rattle.std.specs.Prelude.{Some, Ok, Err, IsSome}
+use Rattle.std.specs.List.{AllByRecursion}
 use Rattle.sha2.specs.Sha256.{sha256}
 use Rattle.xdr.specs.Item.{Fits}
 use Rattle.merkle_keys.specs.Signing.{SignatureParts}
 use Rattle.authenticator.specs.Roster.{IsRoster}
-use Rattle.authenticator.specs.declared.member.LogVersion.TheVariants.{One}
 use Rattle.authenticator.specs.Signed.{IsSignedBy}
 use Rattle.authenticator.specs.declared.authenticator.Authenticator.{Authenticator}
 use Rattle.authenticator.specs.declared.member.Member.{Member}
 use Rattle.secure_log.specs.LogEntries.Chain.{Logged, IsAmong}
 use Rattle.secure_log.specs.declared.log_entries.entry.Entry.TheVariants as entries
 use Rattle.secure_log.specs.LogEntries.Messages.{message_hash}
+use Rattle.secure_log.specs.LogEntries.Words.{MaySkip}
 use Rattle.secure_log.specs.Log.{LogParts, IsOfPlace}
-use Rattle.secure_log.specs.Part.{GivesPart, with_closing}
-use Rattle.secure_log.specs.Versioned.{VersionedParts, ClosedVersionedParts, IsClosedIn, of_plain}
+use Rattle.secure_log.specs.Part.{GivesPart, open_links, with_closing}
+use Rattle.secure_log.specs.Versioned.{VersionedParts, ClosedParts, IsClosedIn}
 use Rattle.secure_log.specs.declared.open.OpenSegment.{OpenSegment}
 use Rattle.packets.specs.envelopes.Envelope.{envelope_message}
 use Rattle.packets.specs.envelopes.Acknowledgement.{acked_message}
@@ -25,7 +26,7 @@ use Rattle.state_spec.specs.State.{State}
 use Rattle.evidence_spec.specs.replay_spec.Opening.{opening_of}
 use Rattle.evidence_spec.specs.replay_spec.Placed.{places_in}
 use Rattle.evidence_spec.specs.replay_spec.Replay.{Honest}
-use Rattle.evidence_spec.specs.replay_spec.HonestLogs.{IsHonestWithGaps}
+use Rattle.evidence_spec.specs.replay_spec.HonestLogs.{IsHonestLog}
 use Rattle.evidence_spec.specs.Evidence.{EvidenceParts, evidence_item, evidence_value, Accepts}
 use Rattle.evidence_spec.specs.Proving.{IsLogOf, Proves}
 use Rattle.witness_spec.specs.Refusals.{Refusal, refusal_number}
@@ -132,7 +133,7 @@ OthersAreTaken =
 
 -- ---- who is exposed
 
--- A number has two hashes among pairs.
+-- A number has two marks among pairs: two hashes, or a hash and that no entry has it.
 pub record HasTwoHashes (pairs : List Pair) : Type 0 where
   pub number : ℕ
   pub one : List ℕ
@@ -154,7 +155,7 @@ abbrev pub HasFaultyFile : Watched → Past → Type 0
 HasFaultyFile w [] = ⊥
 HasFaultyFile w (p ∷ past) = IsFaultyFile w past p ⊎ HasFaultyFile w past
 
--- A node is Exposed exactly if a number has two hashes among what was shown, or such a File was filed.
+-- A node is Exposed exactly if a number has two marks among what was shown, or such a File was filed.
 abbrev pub ExposedExactlyIf : Type 0
 ExposedExactlyIf =
     (w : Watched) (past : Past)
@@ -188,7 +189,7 @@ abbrev pub HonestIsNeverExposed : Type 0
 HonestIsNeverExposed =
     (w : Watched) (history : History) (log : List Logged) (s : State)
     → IsInRoster w → IsHistory w.roster history
-    → IsLogOf w.member.log_version log → IsHonestWithGaps w.roster (opening_of w.member) log s
+    → IsLogOf w.member.log_version log → IsHonestLog w.roster (opening_of w.member) log s
     → Unforged w log (own_of w history) → NoCollisionWith log (own_of w history)
     → indication w (own_of w history) ≢ Exposed
 
@@ -219,7 +220,7 @@ EvidenceProves =
 
 -- A segment that was asked for is answered by that part of the node's log, closed by its signature there. The
 -- answer is the node's step, it is accepted, and after it no audit is open.
-pub record AnswersAudit (w : Watched) (history : History) (c : ClosedVersionedParts) : Type 0 where
+pub record AnswersAudit (w : Watched) (history : History) (c : ClosedParts) : Type 0 where
   pub closed : IsClosedIn w.roster c.segment
   pub its : whose w.roster (events.Answer c) ≡ Ok (record { member = w.member; step = Answer c })
   pub reply : (reply : Reply) → IsOwed w.roster history (events.Answer c) reply ↔ (reply ≡ Accepted)
@@ -228,18 +229,18 @@ pub record AnswersAudit (w : Watched) (history : History) (c : ClosedVersionedPa
       ¬ IsAmong (AuditOf first last) (open_challenges (own_of w after))
 
 -- a part of a log with its closing, under a roster
-abbrev pub answer_of : List Member → OpenSegment → Authenticator → ClosedVersionedParts
-answer_of ms s closing = record { segment = of_plain (with_closing s closing); roster = ms }
+abbrev pub answer_of : List Member → OpenSegment → Authenticator → ClosedParts
+answer_of ms s closing = record { segment = with_closing s closing; roster = ms }
 
--- The part of a node's log of version 1 that was asked for, closed by the node's signature at its last
--- number, answers the audit.
+-- The part of a node's log, of the version that the roster gives it, that was asked for, closed by the node's
+-- signature at its last number, answers the audit, where it skips no more than a text may.
 abbrev pub AnswersAreAccepted : Type 0
 AnswersAreAccepted =
     (w : Watched) (history : History) (log : LogParts) (first last : ℕ) (s : OpenSegment)
     (closing : Authenticator)
-    → IsRoster w.roster → IsInRoster w → log.node ≡ w.member.node → w.member.log_version ≡ One
-    → stage_of (own_of w history) ≡ Wanted first last
-    → GivesPart log first last (Ok s) → IsOfPlace log last closing → IsSignedBy w.member closing
+    → IsRoster w.roster → IsInRoster w → log.node ≡ w.member.node → log.log_version ≡ w.member.log_version
+    → stage_of (own_of w history) ≡ Wanted first last → GivesPart log first last (Ok s)
+    → AllByRecursion (MaySkip s.log_version) (open_links s) → IsOfPlace log last closing → IsSignedBy w.member closing
     → AnswersAudit w history (answer_of w.roster s closing)
 
 -- The acknowledgement by a node of a message that it is challenged with is the node's step, it closes the
@@ -271,7 +272,7 @@ pub record HasRecv (s : VersionedParts) (message : Message) : Type 0 where
 
 -- After a segment that was accepted no audit is open; nor is a challenge with a message whose RECV it has.
 -- All other challenges with messages stay open, and none is new.
-pub record ClosesWhatItAnswers (w : Watched) (history : History) (c : ClosedVersionedParts) : Type 0 where
+pub record ClosesWhatItAnswers (w : Watched) (history : History) (c : ClosedParts) : Type 0 where
   pub audits : (first last : ℕ)
       → let after : History = (events.Answer c, Accepted) ∷ history in
       ¬ IsAmong (AuditOf first last) (open_challenges (own_of w after))
@@ -284,6 +285,6 @@ pub record ClosesWhatItAnswers (w : Watched) (history : History) (c : ClosedVers
 -- A node's segment that is accepted closes the audit, and each challenge with a message whose RECV it has.
 abbrev pub AnswersCloseChallenges : Type 0
 AnswersCloseChallenges =
-    (w : Watched) (history : History) (c : ClosedVersionedParts)
+    (w : Watched) (history : History) (c : ClosedParts)
     → whose w.roster (events.Answer c) ≡ Ok (record { member = w.member; step = Answer c })
     → ClosesWhatItAnswers w history c

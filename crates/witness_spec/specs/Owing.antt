@@ -6,7 +6,7 @@ use Rattle.std.specs.Prelude.{Decides, if◌then◌else◌}
 use Rattle.std.specs.List.{list_any}
 use Rattle.authenticator.specs.declared.authenticator.Authenticator.{Authenticator}
 use Rattle.authenticator.specs.declared.member.LogVersion.{LogVersion}
-use Rattle.secure_log.specs.Versioned.{ClosedVersionedParts}
+use Rattle.secure_log.specs.Versioned.{ClosedParts}
 use Rattle.packets.specs.envelopes.Envelope.{envelope_message}
 use Rattle.packets.specs.envelopes.Acknowledgement.{acked_message}
 use Rattle.packets.specs.envelopes.declared.message.Message.{Message}
@@ -62,7 +62,7 @@ challenge_reply challenges e =
     else Opened
 
 -- the first and the last number of a segment are those that were asked for
-abbrev pub answer_reply : Stage → ClosedVersionedParts → Reply
+abbrev pub answer_reply : Stage → ClosedParts → Reply
 answer_reply NoAudit c = Refused NotAsked
 answer_reply (Wanted first last) c =
     if (first_of c.segment == first) && (last_of c.segment == last) then Accepted else Refused NotAsked
@@ -104,7 +104,7 @@ audit_reply w past (Given c) = Refused Busy
 audit_reply w past (Out c) = Refused Busy
 
 -- the job of a segment, with the number after the last
-abbrev pub next_job : Watched → Past → ClosedVersionedParts → JobParts
+abbrev pub next_job : Watched → Past → ClosedParts → JobParts
 next_job w past c = record (job_of w past c) { number = begins past + 1 }
 
 -- the reply where a job is to begin, by the stage

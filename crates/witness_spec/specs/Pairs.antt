@@ -1,4 +1,4 @@
--- Pairs of a number in a log and the hash there: which are shown, and whether two logs are.
+-- Pairs of a number in a log and the mark there: which are shown, and whether two logs are.
 use Rattle.std.specs.Prelude.{ℕ, Bool, false, not, ◌==◌, ◌&&◌, ◌||◌, List, [], ◌∷◌, Option, Some, None}
 use Rattle.std.specs.Prelude.{if◌then◌else◌}
 use Rattle.std.specs.List.{list_any}
@@ -41,7 +41,7 @@ first_pair = (0, zeros)
 abbrev pub same_pair : Pair → Pair → Bool
 same_pair p q = (p.0 == q.0) && is_same p.1 q.1
 
--- they are two hashes at one number
+-- they are two marks at one number
 abbrev pub differ : Pair → Pair → Bool
 differ p q = (p.0 == q.0) && not (is_same p.1 q.1)
 
@@ -49,16 +49,16 @@ differ p q = (p.0 == q.0) && not (is_same p.1 q.1)
 abbrev pub is_shown : Pair → List Pair → Bool
 is_shown p pairs = list_any (λ q. same_pair p q) pairs
 
--- another hash is shown at its number
+-- another mark is shown at its number
 abbrev pub is_fork : Pair → List Pair → Bool
 is_fork p pairs = list_any (λ q. differ p q) pairs
 
--- some number has two hashes
+-- some number has two marks
 abbrev pub has_fork : List Pair → Bool
 has_fork [] = false
 has_fork (p ∷ pairs) = is_fork p pairs || has_fork pairs
 
--- the number of the first of new pairs at which another hash is shown
+-- the number of the first of new pairs at which another mark is shown
 abbrev pub first_fork : (new pairs : List Pair) → Option ℕ
 first_fork [] pairs = None
 first_fork (p ∷ new) pairs = if is_fork p pairs then Some p.0 else first_fork new pairs

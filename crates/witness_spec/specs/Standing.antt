@@ -12,7 +12,7 @@ use Rattle.secure_log.specs.declared.log_entries.entry.Entry.{Entry}
 use Rattle.secure_log.specs.declared.log_entries.entry.Entry.TheVariants as entries
 use Rattle.secure_log.specs.LogEntries.Chain.{Logged}
 use Rattle.secure_log.specs.LogEntries.Messages.{message_hash}
-use Rattle.secure_log.specs.Versioned.{VersionedParts, ClosedVersionedParts}
+use Rattle.secure_log.specs.Versioned.{VersionedParts, ClosedParts}
 use Rattle.packets.specs.envelopes.Envelope.{envelope_message}
 use Rattle.packets.specs.envelopes.Acknowledgement.{acked_message}
 use Rattle.packets.specs.envelopes.declared.message.Message.{Message}
@@ -97,7 +97,7 @@ pairs_noted v true (Some a) = []
 pairs_noted v false (Some a) = pair_of v a ∷ []
 
 -- the pairs of a segment that was accepted
-abbrev pub pairs_accepted : Option ClosedVersionedParts → List Pair
+abbrev pub pairs_accepted : Option ClosedParts → List Pair
 pairs_accepted None = []
 pairs_accepted (Some c) = marks_of c.segment
 
@@ -109,7 +109,8 @@ shown w (p ∷ past) =
     pairs_noted w.member.log_version (has_fork (shown w past) || has_fault w past) (noted p.0 p.1)
     ++ (pairs_accepted (accepted p.0 p.1) ++ shown w past)
 
--- One number has two hashes among what was shown, or a segment was filed that isn't honest.
+-- One number has two marks among what was shown, two hashes or a hash and that no entry has it, or a segment was
+-- filed that isn't honest.
 abbrev pub is_exposed : Watched → Past → Bool
 is_exposed w past = has_fork (shown w past) || has_fault w past
 
@@ -133,7 +134,7 @@ kept w past =
     filter (λ a. nat_lt (end_of w past).number (number_of w.member.log_version a)) (noted_before w past)
 
 -- the segments that were accepted, the newest first
-abbrev pub segment_of : Option ClosedVersionedParts → List VersionedParts
+abbrev pub segment_of : Option ClosedParts → List VersionedParts
 segment_of None = []
 segment_of (Some c) = c.segment ∷ []
 
@@ -148,8 +149,8 @@ all_accepted (p ∷ past) = segment_of (accepted p.0 p.1) ++ all_accepted past
 pub data Stage : Type 0 where
   NoAudit : Stage
   Wanted : (first last : ℕ) → Stage
-  Given : ClosedVersionedParts → Stage
-  Out : ClosedVersionedParts → Stage
+  Given : ClosedParts → Stage
+  Out : ClosedParts → Stage
 
 -- the audit's stage after a step with its reply
 abbrev pub stage_after : Stage → Step → Reply → Stage
@@ -170,7 +171,7 @@ abbrev pub begins : Past → ℕ
 begins past = count_by (λ p. is_some (begun p.0 p.1)) past
 
 -- The job of a segment: it has the number of the last Begin and the end's state.
-abbrev pub job_of : Watched → Past → ClosedVersionedParts → JobParts
+abbrev pub job_of : Watched → Past → ClosedParts → JobParts
 job_of w past c =
     record { node = w.member.node; number = begins past; state = (end_of w past).state; segment = c }
 

@@ -2,7 +2,7 @@
 use Rattle.std.specs.Prelude.{List}
 use Rattle.authenticator.specs.declared.authenticator.Authenticator.{Authenticator}
 use Rattle.authenticator.specs.declared.member.Member.{Member}
-use Rattle.secure_log.specs.Versioned.{ClosedVersionedParts}
+use Rattle.secure_log.specs.Versioned.{ClosedParts}
 use Rattle.packets.specs.envelopes.declared.envelope.Envelope.{Envelope}
 use Rattle.packets.specs.envelopes.declared.acknowledgement.Ack.{Ack}
 use Rattle.witness_spec.specs.Events.{JobParts, DoneParts, Question}
@@ -12,7 +12,7 @@ use Rattle.witness_spec.specs.Replies.{Reply}
 pub data Step : Type 0 where
   Learn : Authenticator → Step
   SendChallenge : Envelope → Step
-  Answer : ClosedVersionedParts → Step
+  Answer : ClosedParts → Step
   AckIn : Ack → Step
   Audit : Step
   Begin : Step

@@ -12,6 +12,9 @@ pub enum SendRefusal {
     /// No key is left.
     #[error("all keys are used up")]
     KeysUsedUp,
+    /// In a log of version 2 its entry's number would pass 4,294,967,295.
+    #[error("gap too wide")]
+    GapTooWide,
     /// A growth was refused.
     #[error("out of memory")]
     NoMemory,

@@ -20,12 +20,13 @@ use Rattle.commitment.specs.Receiver.{Finds}
 use Rattle.commitment.specs.Senders.Sender.{IsSender}
 use Rattle.commitment.specs.declared.refusal.Refusal.{Refusal}
 use Rattle.commitment.specs.declared.refusal.Refusal.TheVariants.{Garbage, NotForMe, BadSignature, KeysUsedUp}
-use Rattle.commitment.specs.declared.refusal.Refusal.TheVariants.{NoMemory}
+use Rattle.commitment.specs.declared.refusal.Refusal.TheVariants.{NoMemory, NoGaps, GapTooWide}
 use Rattle.commitment.proofs.OfSenders.Meanings.{ack_law, authenticator_law, envelope_law}
 use Rattle.nfs_items.specs.Timeval.{Timeval}
 use Rattle.node_logs.specs.Steps.Nodes.{NodeParts, receiver_of, sender_of}
-use Rattle.node_logs.specs.Nodes.{LacksKeys}
+use Rattle.node_logs.specs.Nodes.{LacksKeys, LacksNumbers}
 use Rattle.node_logs.specs.Receiving.{Receives, ReceivesEnvelope}
+use Rattle.node_logs.specs.Steps.Serving.{entries_for}
 use Rattle.node_logs.specs.AckTaking.{TakesAck, with_ack}
 use Rattle.commitment.specs.declared.outcome.Received.{Received}
 use Rattle.commitment.specs.declared.outcome.Received.TheVariants.{New}
@@ -102,18 +103,23 @@ call_found a n b kind number e bytes text node is written same h =
 pub received_as : (n n' : NodeParts) (time : Timeval) (bytes : List ℕ) (e : Envelope) (r : Receipt)
     (h : Received Receipt)
     → Finds (receiver_of n) bytes e None → h ≡ New r → Receives n time bytes (Ok h) n'
-    → (LacksKeys 2 n → ⊥) × ReceivesEnvelope n time e r n'
+    → (LacksKeys 2 n → ⊥) × (LacksNumbers (entries_for e.body) n → ⊥) × ReceivesEnvelope n time e r n'
 received_as n n' time bytes e r h f is receives =
     by (subst (λ (x : Received Receipt). Receives n time bytes (Ok x) n') is receives)
   where
-    by : Receives n time bytes (Ok (New r)) n' → (LacksKeys 2 n → ⊥) × ReceivesEnvelope n time e r n'
+    by : Receives n time bytes (Ok (New r)) n'
+        → (LacksKeys 2 n → ⊥) × (LacksNumbers (entries_for e.body) n → ⊥) × ReceivesEnvelope n time e r n'
     by x =
-        let same : x.0 ≡ e = one_envelope bytes x.0 e x.1.0.opened.0.text f.opened.0.text in
-        (x.1.1, subst (λ (y : Envelope). ReceivesEnvelope n time y r n') same x.1.2)
+        let same : x.0 ≡ e = one_envelope bytes x.0 e x.1.0.opened.0.text f.opened.0.text in (
+          x.1.1,
+          subst (λ (y : Envelope). LacksNumbers (entries_for y.body) n → ⊥) same x.1.2,
+          subst (λ (y : Envelope). ReceivesEnvelope n time y r n') same x.1.3,
+        )
 
 -- ---- acknowledgements
 
--- The text of an acknowledgement that a node accepts is taken there, unless memory is refused.
+-- The text of an acknowledgement that a node accepts is taken there, unless memory is refused, or its log has no
+-- number for the ACK.
 pub accepted : {F : Type 0} (told : Refusal → F) (twice : F) (b b' : NodeParts) (k : Ack) (bytes : List ℕ)
     (result : Result AckTaken Refusal) → IsText ack_text (ack_value k) bytes → IsAccepted b k
     → TakesAck b bytes result b' → IsTaken told b k (ack_told told twice result) b'
@@ -130,7 +136,7 @@ accepted told twice b b' k bytes result text h takes = by result takes
     none_some (Some x) e s = absurd (cc)
 
     by : (r : Result AckTaken Refusal) → TakesAck b bytes r b' → IsTaken told b k (ack_told told twice r) b'
-    by (Ok (Logged n)) t = inl (refl, t.1.3 ∙ ap (with_ack b) (same t.0 t.1.0.text))
+    by (Ok (Logged n)) t = inl (refl, t.1.4 ∙ ap (with_ack b) (same t.0 t.1.0.text))
     by (Ok Already) t =
         let none : get b.state.sends k.seq ≡ None =
         sym (ap (λ (x : Ack). get b.state.sends x.seq) (same t.0 t.1.0.text)) ∙ t.1.2 in
@@ -141,7 +147,9 @@ accepted told twice b b' k bytes result text h takes = by result takes
     by (Err BadSignature) t =
         absurd (t.1.1 (subst (λ (x : Ack). IsSignedIn b.roster (ack_shows x))
         (sym (same t.0 t.1.0.text)) h.signed))
-    by (Err NoMemory) t = inr (refl, t)
+    by (Err NoMemory) t = inr (inl (refl, t))
+    by (Err GapTooWide) t = inr (inr (refl, t.1.3, t.1.4))
+    by (Err NoGaps) t = absurd t
     by (Err KeysUsedUp) t = absurd t
 
 -- The same, by what a call made of it.

@@ -1,6 +1,6 @@
 -- Bytes are the text of one envelope, or of one acknowledgement, and a text that is written reads back.
 -- Serves: Reached, Answered, laws.calls_are_accepted.
-use Rattle.std.proofs.Common.{◌≡◌, ℕ, List, [], Ok, Option, Some, refl, sym, ap, ◌∙◌}
+use Rattle.std.proofs.Common.{◌≡◌, ℕ, List, [], Ok, Some, refl, sym, ap, ◌∙◌}
 use Rattle.std.proofs.lemmas.List.{append-nil}
 use Rattle.std.proofs.lemmas.Option.{same_Some}
 use Rattle.xdr.specs.Item.{Value, spelling}

@@ -1,8 +1,10 @@
 -- What an exchange is, between a client and a server that are joined without anyone between them: the client
 -- logs SEND; the server RECV, CLOCK and the SEND of its reply, if one is owed; the client takes the server's
 -- acknowledgement (ACK), and then the reply (RECV); the server takes the client's acknowledgement (ACK).
-use Rattle.std.specs.Prelude.{◌≡◌, ◌≢◌, ◌+◌, ℕ, false, List, [], length, Option, Some, None}
+use Rattle.std.specs.Prelude.{◌≡◌, ◌≢◌, ℕ, false, List, [], Option, Some, None}
 use Rattle.authenticator.specs.declared.member.Kind.TheVariants as kinds
+use Rattle.authenticator.specs.Numbers.{number_in}
+use Rattle.secure_log.specs.LogEntries.Chain.{span}
 use Rattle.envelopes.specs.declared.envelope.Envelope.{Envelope}
 use Rattle.envelopes.specs.declared.acknowledgement.Ack.{Ack}
 use Rattle.commitment.specs.Senders.LookUps.{ack_at, envelope_at}
@@ -10,9 +12,10 @@ use Rattle.nfs_items.specs.Timeval.{Timeval}
 use Rattle.server_spec.specs.World.{World}
 use Rattle.server_spec.specs.Replies.{reply_owed, world_after}
 use Rattle.state_spec.specs.State.{Idle, Server}
-use Rattle.node_logs.specs.Steps.Nodes.{NodeParts, sender_of}
-use Rattle.node_logs.specs.Nodes.{LacksKeys}
+use Rattle.node_logs.specs.Steps.Nodes.{NodeParts, next_number, next_word, sender_of}
+use Rattle.node_logs.specs.Nodes.{LacksKeys, LacksNumbers}
 use Rattle.node_logs.specs.Receiving.{ReceivesEnvelope}
+use Rattle.node_logs.specs.Steps.Serving.{entries_for}
 use Rattle.node_logs.specs.Steps.Logging.{with_receipt, with_send}
 use Rattle.node_logs.specs.AckTaking.{with_ack}
 use Rattle.node_logs.specs.declared.outcome.Receipt.{Receipt}
@@ -26,8 +29,8 @@ pub record IsJoined (c s : NodeParts) : Type 0 where
   pub two : c.node ≢ s.node
   pub client : IsListed s.roster kinds.Client c
   pub server : IsListed c.roster kinds.Server s
-  pub heard : ReceivesUpTo c.node (length c.entries) s.entries
-  pub received : ReceivesUpTo s.node (length s.entries) c.entries
+  pub heard : ReceivesUpTo c.log_version c.node (span c.entries) s.entries
+  pub received : ReceivesUpTo s.log_version s.node (span s.entries) c.entries
   pub plain : s.lies ≡ false
 
 -- A client and a server that may be joined: nothing is logged yet, they are two nodes, each is listed in the
@@ -46,22 +49,25 @@ pub record MayJoin (c s : NodeParts) : Type 0 where
 abbrev pub having_called : NodeParts → NodeParts → List ℕ → NodeParts
 having_called c s body = with_send c s.node body
 
--- The envelope of the call: from the client to the server, of the SEND that the client logged last, with this
--- body.
+-- The envelope of the call: from the client to the server, of the SEND that the client logged last, with its
+-- word, which stands for its number in the client's log, and with this body.
 pub record IsCall (c s : NodeParts) (body : List ℕ) (e : Envelope) : Type 0 where
-  pub shown : envelope_at (sender_of (having_called c s body)) (length c.entries + 1) ≡ Some e
+  pub shown : envelope_at (sender_of (having_called c s body)) (next_number c) ≡ Some e
   pub sender : e.from ≡ c.node
   pub receiver : e.to ≡ s.node
-  pub numbered : e.seq ≡ length c.entries + 1
+  pub numbered : e.seq ≡ next_word c
+  pub stands : number_in c.log_version e.seq ≡ next_number c
   pub says : e.body ≡ body
 
 -- The client sent a body, and the server received it.
 pub record IsHeard (c s : NodeParts) (time : Timeval) (body : List ℕ) (r : Receipt) (s' : NodeParts)
     : Type 0 where
   pub left : ¬ LacksKeys 1 c
+  pub numbers : ¬ LacksNumbers 1 c
   pub envelope : Envelope
   pub call : IsCall c s body envelope
   pub server_left : ¬ LacksKeys 2 s
+  pub server_numbers : ¬ LacksNumbers (entries_for body) s
   pub receives : ReceivesEnvelope s time envelope r s'
 
 -- And the client took the server's acknowledgement.
@@ -78,6 +84,7 @@ pub record IsAsked (c s : NodeParts) (time : Timeval) (body : List ℕ) (r : Rec
 pub record IsReceived (c s : NodeParts) (number : ℕ) (e : Envelope) (c' : NodeParts) : Type 0 where
   pub envelope : envelope_at (sender_of s) number ≡ Some e
   pub left : ¬ LacksKeys 1 c
+  pub numbers : ¬ LacksNumbers 1 c
   pub received : c' ≡ with_receipt c e
 
 -- And the server took the client's acknowledgement. The reply is the body that was sent.
@@ -86,7 +93,7 @@ pub record IsReplied (c s : NodeParts) (number : ℕ) (reply : List ℕ) (c' s' 
   pub received : IsReceived c s number envelope c'
   pub body : reply ≡ envelope.body
   pub ack : Ack
-  pub made : ack_at (sender_of c') (length c'.entries) ≡ Some ack
+  pub made : ack_at (sender_of c') (span c'.entries) ≡ Some ack
   pub taken : s' ≡ with_ack s ack
 
 -- ---- both

@@ -13,17 +13,20 @@ use Rattle.sha2.specs.Sha256.{sha256}
 use Rattle.secure_log.specs.LogEntries.Messages.{message_hash}
 use Rattle.secure_log.specs.declared.log_entries.entry.Entry.{Entry}
 use Rattle.secure_log.specs.declared.log_entries.entry.Entry.TheVariants.{Send, Recv, Ack, Clock, Check}
+use Rattle.secure_log.specs.authenticator.Numbers.{word_of}
+use Rattle.secure_log.specs.LogEntries.Chain.{Logged, span}
 use Rattle.secure_log.specs.Log.{log_hash}
 use Rattle.state_spec.specs.State.{ReceivedMessage, received_cmp, is_received, with_received}
 use Rattle.state_spec.specs.State.{Machine, State}
 use Rattle.state_spec.specs.State.{opened_with}
-use Rattle.replay_spec.specs.Placed.{place}
+use Rattle.replay_spec.specs.Placed.{Placed, logged_place}
 use Rattle.replay_spec.specs.Steps.{received_message, after_entry, Takes, MayStand}
 use Rattle.replay_spec.specs.HonestLogs.{IsHonestLog}
-use Rattle.replay_spec.specs.LogLaws.LoggedMessages.{entry_at, IsReceivedAt}
+use Rattle.replay_spec.specs.LogLaws.LoggedMessages.{entries_of, entry_at, IsReceivedAt}
 use Rattle.state_spec.proofs.Orders.{received_total, ties_equal, equal_ties}
 use Rattle.replay_spec.proofs.Logs.{carried, node_step}
 use Rattle.replay_spec.proofs.OfLogLaws.Entries.{entry_more, entry_last, entry_less, entry_within}
+use Rattle.replay_spec.proofs.OfLogLaws.Entries.{one_entry_more}
 
 -- ---- one entry
 
@@ -40,19 +43,20 @@ abbrev with_message : FinSet received_cmp → Option ReceivedMessage → FinSet 
 with_message received None = received
 with_message received (Some m) = with_received received m
 
-received_after : (s : State) (number : ℕ) (before : List ℕ) (e : Entry)
-    → (after_entry s number before e).received ≡ with_message s.received (message_in s.node e)
-received_after s number before (Send to body) = refl
-received_after s number before (Recv from seq prev body signature) = refl
-received_after s number before (Ack to seq mine theirs prev signature) = refl
-received_after s number before (Clock seconds microseconds) = refl
-received_after s number before (Check digest) = refl
+received_after : (s : State) (entry_word : ℕ) (before : List ℕ) (e : Entry)
+    → (after_entry s entry_word before e).received ≡ with_message s.received (message_in s.node e)
+received_after s entry_word before (Send to body) = refl
+received_after s entry_word before (Recv from seq prev body signature) = refl
+received_after s entry_word before (Ack to seq mine theirs prev signature) = refl
+received_after s entry_word before (Clock seconds microseconds) = refl
+received_after s entry_word before (Check digest) = refl
 
 -- what a step does to the messages that were received
-pub received_step : (ms : List Member) (s t : State) (number : ℕ) (before : List ℕ) (e : Entry)
-    → Takes ms s (place number before e) t → t.received ≡ with_message s.received (message_in s.node e)
-received_step ms s t number before e h =
-    ap (λ (x : State). x.received) h.after ∙ received_after s number before e
+pub received_step : (ms : List Member) (s t : State) (p : Placed) → Takes ms s p t
+    → t.received ≡ with_message s.received (message_in s.node p.entry)
+received_step ms s t p h =
+    ap (λ (x : State). x.received) h.after
+    ∙ received_after s (word_of p.skipped p.number) p.before p.entry
 
 -- a message that is taken in wasn't there
 new_message : (ms : List Member) (s : State) (e : Entry) (m : ReceivedMessage) → MayStand ms s e
@@ -101,11 +105,11 @@ old_or_new received (Some new) m h = by (eq_by_cmp received_cmp m new) refl (sym
 
 -- ---- logs
 
--- a log's entry at a number takes in a message
+-- a log's entry at a place takes in a message
 pub record TakesIn (node : ℕ) (es : List Entry) (number : ℕ) (m : ReceivedMessage) : Type 0 where
   -- the entry
   pub entry : Entry
-  -- it stands at the number
+  -- it stands at the place
   pub there : entry_at es number ≡ Some entry
   -- it brings the message
   pub brings : message_in node entry ≡ Some m
@@ -143,7 +147,7 @@ pub record IsLogged (o : State) (es : List Entry) (s : State) : Type 0 where
   pub before : (m : ReceivedMessage) → is_received o.received m ≡ true → is_received s.received m ≡ true
   -- none that the log takes in was there before
   pub fresh : (k : ℕ) (m : ReceivedMessage) → TakesIn o.node es k m → is_received o.received m ≡ false
-  -- no message is taken in at two numbers
+  -- no message is taken in at two places
   pub once : (j k : ℕ) (m : ReceivedMessage) → TakesIn o.node es j m → TakesIn o.node es k m → j ≡ k
 
 nothing_there : (node : ℕ) (k : ℕ) (m : ReceivedMessage) → TakesIn node [] k m → ⊥
@@ -230,22 +234,27 @@ module _ (o : State) (es : List Entry) (e : Entry) (s t : State) (i : IsLogged o
     once = one_place;
   }
 
-logged_next : (ms : List Member) (o : State) (es : List Entry) (e : Entry) (s t : State) → IsLogged o es s
-    → Takes ms s (place (length es + 1) (log_hash es) e) t → IsLogged o (es ++ e ∷ []) t
-logged_next ms o es e s t i h =
-    logged_more o es e s t i (node_step ms s t (length es + 1) (log_hash es) e h)
-    (subst (λ n. t.received ≡ with_message s.received (message_in n e)) i.of_node
-    (received_step ms s t (length es + 1) (log_hash es) e h))
-    (λ m k. new_message ms s e m h.stands (ap (λ n. message_in n e) i.of_node ∙ k))
+logged_next : (ms : List Member) (o : State) (log : List Logged) (l : Logged) (s t : State)
+    → IsLogged o (entries_of log) s
+    → Takes ms s (logged_place (span log + 1 + l.skipped) (log_hash log) l) t
+    → IsLogged o (entries_of (log ++ l ∷ [])) t
+logged_next ms o log l s t i h =
+    let p = logged_place (span log + 1 + l.skipped) (log_hash log) l in
+    subst (λ es. IsLogged o es t) (sym (one_entry_more log l))
+    (logged_more o (entries_of log) l.entry s t i (node_step ms s t p h)
+    (subst (λ n. t.received ≡ with_message s.received (message_in n l.entry)) i.of_node
+    (received_step ms s t p h))
+    (λ m k. new_message ms s l.entry m h.stands (ap (λ n. message_in n l.entry) i.of_node ∙ k)))
 
 -- of every honest log
-pub logged : (ms : List Member) (o : State) (es : List Entry) (s : State) → IsHonestLog ms o es s
-    → IsLogged o es s
-logged ms o es s h = carried ms o (IsLogged o) (logged_start o) (logged_next ms o) es s h
+pub logged : (ms : List Member) (o : State) (log : List Logged) (s : State) → IsHonestLog ms o log s
+    → IsLogged o (entries_of log) s
+logged ms o log s h =
+    carried ms o (λ log. IsLogged o (entries_of log)) (logged_start o) (logged_next ms o) log s h
 
 -- ---- RECVs
 
--- a message that was received at a number is taken in there
+-- a message that was received at a place is taken in there
 pub at_recv : (node : ℕ) (es : List Entry) (k : ℕ) (m : ReceivedMessage) → IsReceivedAt node es k m
     → TakesIn node es k m
 at_recv node es k m h = record {
@@ -276,14 +285,17 @@ recv_at node es k m h = by h.entry h.there h.brings
     by (Check digest) there brings = absurd (cc)
 
 -- the messages that were received in the last state of a log from a state without messages
-pub received_are_logged : (ms : List Member) (node : ℕ) (machine : Machine) (s : State) (es : List Entry)
-    (m : ReceivedMessage) → IsHonestLog ms (opened_with node machine) es s
-    → ((is_received s.received m ≡ true) → ((k : ℕ) × IsReceivedAt node es k m))
-    × (((k : ℕ) × IsReceivedAt node es k m) → (is_received s.received m ≡ true))
-received_are_logged ms node machine s es m h = (to, λ x. i.all x.0 m (at_recv node es x.0 m x.1))
+pub received_are_logged : (ms : List Member) (node : ℕ) (machine : Machine) (s : State) (log : List Logged)
+    (m : ReceivedMessage) → IsHonestLog ms (opened_with node machine) log s
+    → ((is_received s.received m ≡ true) → ((k : ℕ) × IsReceivedAt node (entries_of log) k m))
+    × (((k : ℕ) × IsReceivedAt node (entries_of log) k m) → (is_received s.received m ≡ true))
+received_are_logged ms node machine s log m h = (to, λ x. i.all x.0 m (at_recv node es x.0 m x.1))
   where
+    es : List Entry
+    es = entries_of log
+
     i : IsLogged (opened_with node machine) es s
-    i = logged ms (opened_with node machine) es s h
+    i = logged ms (opened_with node machine) log s h
 
     by : (is_received (opened_with node machine).received m ≡ true) ⊎ ((k : ℕ) × TakesIn node es k m)
         → (k : ℕ) × IsReceivedAt node es k m

@@ -1,12 +1,11 @@
 -- The messages that were sent in the last state of an honest log are those of its SENDs that have no ACK.
 -- Serves: messages_are_logged.
-use Rattle.std.proofs.Common.{◌≡◌, ◌≢◌, ◌⊎◌, inl, inr, ℕ, ◌+◌, ◌-◌, ◌≤◌, true, false, cond, List, []}
-use Rattle.std.proofs.Common.{◌∷◌, ◌++◌, length, take, Option, Some, None, nat_cmp, eq-eqb, ne_eqb}
-use Rattle.std.proofs.Common.{length-append, refl, sym, ap, subst, ◌∙◌, arith}
+use Rattle.std.proofs.Common.{◌≡◌, ◌≢◌, ◌⊎◌, inl, inr, ℕ, ◌+◌, true, false, cond, List, []}
+use Rattle.std.proofs.Common.{◌∷◌, ◌++◌, length, Option, Some, None, nat_cmp, eq-eqb, ne_eqb}
+use Rattle.std.proofs.Common.{refl, sym, ap, ap₂, subst, ◌∙◌, arith}
 use Rattle.std.specs.FinMap as finite
 use Rattle.std.specs.Ordering.{eq_by_cmp}
 use Rattle.std.specs.Cmp.{nat_cmp_total, unsigned_tied}
-use Rattle.std.proofs.lemmas.List.{take-append-le, take_all}
 use Rattle.std.proofs.lemmas.Bool.{cases_eq}
 use Rattle.std.proofs.lemmas.Option.{same_Some}
 use Rattle.sha2.specs.Sha256.{sha256}
@@ -14,16 +13,21 @@ use Rattle.merkle_keys.specs.Signing.{SignatureParts}
 use Rattle.secure_log.specs.authenticator.declared.member.Member.{Member}
 use Rattle.secure_log.specs.declared.log_entries.entry.Entry.{Entry}
 use Rattle.secure_log.specs.declared.log_entries.entry.Entry.TheVariants.{Send, Recv, Ack, Clock, Check}
-use Rattle.secure_log.specs.Log.{log_hash}
+use Rattle.secure_log.specs.authenticator.declared.member.LogVersion.{LogVersion}
+use Rattle.secure_log.specs.authenticator.Numbers.{word_of}
+use Rattle.secure_log.specs.LogEntries.Chain.{Logged, span}
+use Rattle.secure_log.specs.Log.{HasNumbers, log_hash}
 use Rattle.state_spec.specs.State.{SentMessage, Machine, State, opened_with}
-use Rattle.replay_spec.specs.Placed.{place}
 use Rattle.replay_spec.specs.Steps.{sent_message, after_entry, MayStand}
 use Rattle.replay_spec.specs.HonestLogs.{IsHonestLog}
-use Rattle.replay_spec.specs.LogLaws.LoggedMessages.{entry_at, IsSentAt, HasNoAck}
+use Rattle.replay_spec.specs.LogLaws.LoggedMessages.{entries_of, entry_at, IsSentAt, HasNoAck}
 use Rattle.replay_spec.proofs.Logs.{carried}
 use Rattle.replay_spec.proofs.OfLogLaws.Entries.{entry_more, entry_last, entry_less, entry_within}
+use Rattle.replay_spec.proofs.OfLogLaws.Entries.{one_entry_more}
+use Rattle.replay_spec.proofs.OfLogLaws.Numbers.{entry_stays, last_entry, numbers_front, parts_of_more}
+use Rattle.replay_spec.proofs.OfLogLaws.Numbers.{word_apart}
 
--- ---- maps by numbers
+-- ---- maps by words
 
 abbrev Sends : Type 0
 Sends = finite.FinMap nat_cmp SentMessage
@@ -58,139 +62,174 @@ none_some h = absurd (cc)
 
 -- ---- a log with one entry more
 
-hash_within : (es : List Entry) (e : Entry) (k : ℕ) → k ≤ length es
-    → log_hash (take (k - 1) (es ++ e ∷ [])) ≡ log_hash (take (k - 1) es)
-hash_within es e k h = ap log_hash (take-append-le (k - 1) es (e ∷ []) (omega arith))
+-- the word of the entry more
+abbrev next_word : List Logged → Logged → ℕ
+next_word log l = word_of l.skipped (span log + 1 + l.skipped)
 
-hash_last : (es : List Entry) (e : Entry) (k : ℕ) → k ≡ length es + 1
-    → log_hash (take (k - 1) (es ++ e ∷ [])) ≡ log_hash es
-hash_last es e k h =
-    let low : k - 1 ≤ length es = omega arith in
-    let all : length es ≤ k - 1 = omega arith in
-    ap log_hash (take-append-le (k - 1) es (e ∷ []) low ∙ take_all (k - 1) es all)
-
-sent_within : (es : List Entry) (k : ℕ) (m : SentMessage) → IsSentAt es k m → (1 ≤ k) × (k ≤ length es)
-sent_within es k m h = entry_within es k (Send m.to h.body) h.there
-
-sent_more : (es : List Entry) (e : Entry) (k : ℕ) (m : SentMessage) → IsSentAt es k m
-    → IsSentAt (es ++ e ∷ []) k m
-sent_more es e k m h = record {
+sent_more : (log : List Logged) (l : Logged) (k : ℕ) (m : SentMessage) → IsSentAt log k m
+    → IsSentAt (log ++ l ∷ []) k m
+unfolding entry_stays
+sent_more log l k m h = record {
   body = h.body;
-  there = entry_more es e k (Send m.to h.body) h.there;
+  skipped = h.skipped;
+  number = h.number;
+  there = entry_stays log l h.number (record { skipped = h.skipped; entry = Send m.to h.body }) h.there;
+  is_word = h.is_word;
   digest = h.digest;
-  before = h.before ∙ sym (hash_within es e k (sent_within es k m h).1);
+  before = h.before;
 }
 
-sent_last : (es : List Entry) (to : ℕ) (body : List ℕ) (k : ℕ) → k ≡ length es + 1
-    → IsSentAt (es ++ Send to body ∷ []) k (sent_message to (log_hash es) body)
-sent_last es to body k h = record {
+sent_last : (log : List Logged) (skipped to : ℕ) (body : List ℕ) (k : ℕ)
+    → k ≡ next_word log (record { skipped = skipped; entry = Send to body })
+    → IsSentAt (log ++ record { skipped = skipped; entry = Send to body } ∷ []) k
+    (sent_message to (log_hash log) body)
+unfolding last_entry
+sent_last log skipped to body k h = record {
   body = body;
-  there = entry_last es (Send to body) k h;
+  skipped = skipped;
+  number = span log + 1 + skipped;
+  there = last_entry log (record { skipped = skipped; entry = Send to body });
+  is_word = h;
   digest = refl;
-  before = sym (hash_last es (Send to body) k h);
+  before = refl;
 }
 
 -- the entry more sends a message
-record IsNew (es : List Entry) (e : Entry) (k : ℕ) (m : SentMessage) : Type 0 where
-  number : k ≡ length es + 1
+record IsNew (log : List Logged) (l : Logged) (k : ℕ) (m : SentMessage) : Type 0 where
+  is_word : k ≡ next_word log l
   body : List ℕ
-  is : e ≡ Send m.to body
+  is : l.entry ≡ Send m.to body
   digest : m.body_hash ≡ sha256 body
-  before : m.prev ≡ log_hash es
+  before : m.prev ≡ log_hash log
 
-sent_less : (es : List Entry) (e : Entry) (k : ℕ) (m : SentMessage) → IsSentAt (es ++ e ∷ []) k m
-    → IsSentAt es k m ⊎ IsNew es e k m
-sent_less es e k m h = by (entry_less es e k (Send m.to h.body) h.there)
+sent_less : (log : List Logged) (l : Logged) (k : ℕ) (m : SentMessage) → IsSentAt (log ++ l ∷ []) k m
+    → IsSentAt log k m ⊎ IsNew log l k m
+sent_less log l k m h = by (parts_of_more log l h.there.before sent h.there.rest h.there.whole)
   where
-    by : (entry_at es k ≡ Some (Send m.to h.body)) ⊎ ((k ≡ length es + 1) × (e ≡ Send m.to h.body))
-        → IsSentAt es k m ⊎ IsNew es e k m
+    sent : Logged
+    sent = record { skipped = h.skipped; entry = Send m.to h.body }
+
+    by : ((others : List Logged) × (log ≡ h.there.before ++ sent ∷ others))
+        ⊎ ((h.there.before ≡ log) × (l ≡ sent))
+        → IsSentAt log k m ⊎ IsNew log l k m
     by (inl old) = inl (record {
       body = h.body;
-      there = old;
+      skipped = h.skipped;
+      number = h.number;
+      there = record { before = h.there.before; rest = old.0; whole = old.1; place = h.there.place };
+      is_word = h.is_word;
       digest = h.digest;
-      before = h.before ∙ hash_within es e k (entry_within es k (Send m.to h.body) old).1;
+      before = h.before;
     })
     by (inr new) = inr (record {
-      number = new.0;
+      is_word = h.is_word ∙ ap (word_of h.skipped) (sym h.there.place)
+          ∙ ap₂ (λ ls (x : Logged). word_of x.skipped (span ls + 1 + x.skipped)) new.0 (sym new.1);
       body = h.body;
-      is = new.1;
+      is = ap (λ (x : Logged). x.entry) new.1;
       digest = h.digest;
-      before = h.before ∙ hash_last es e k new.0;
+      before = h.before ∙ ap log_hash new.0;
     })
 
--- the entry isn't an ACK of the message at a number
+-- the entry isn't an ACK of the message under a word
 abbrev IsNoAckOf : Entry → ℕ → Type 0
 IsNoAckOf e k =
     (to : ℕ) (mine : List ℕ) (number : ℕ) (prev : List ℕ) (signature : SignatureParts)
     → e ≢ Ack to k mine number prev signature
 
-no_ack_more : (es : List Entry) (e : Entry) (k : ℕ) → HasNoAck es k → IsNoAckOf e k
-    → HasNoAck (es ++ e ∷ []) k
-no_ack_more es e k h not place to mine number prev signature there =
-    by (entry_less es e place (Ack to k mine number prev signature) there)
+-- what stands in the longer log stood in the log, or is the entry more
+logged_less : (log : List Logged) (l : Logged) (place : ℕ) (x : Entry)
+    → entry_at (entries_of (log ++ l ∷ [])) place ≡ Some x
+    → (entry_at (entries_of log) place ≡ Some x) ⊎ (l.entry ≡ x)
+logged_less log l place x there =
+    by (entry_less (entries_of log) l.entry place x
+    (subst (λ es. entry_at es place ≡ Some x) (one_entry_more log l) there))
   where
-    by : (entry_at es place ≡ Some (Ack to k mine number prev signature))
-        ⊎ ((place ≡ length es + 1) × (e ≡ Ack to k mine number prev signature)) → ⊥
-    by (inl old) = h place to mine number prev signature old
-    by (inr new) = not to mine number prev signature new.1
+    by : (entry_at (entries_of log) place ≡ Some x) ⊎ ((place ≡ length (entries_of log) + 1) × (l.entry ≡ x))
+        → (entry_at (entries_of log) place ≡ Some x) ⊎ (l.entry ≡ x)
+    by (inl old) = inl old
+    by (inr new) = inr new.1
 
-no_ack_less : (es : List Entry) (e : Entry) (k : ℕ) → HasNoAck (es ++ e ∷ []) k → HasNoAck es k
-no_ack_less es e k h place to mine number prev signature there =
+no_ack_more : (log : List Logged) (l : Logged) (k : ℕ) → HasNoAck (entries_of log) k → IsNoAckOf l.entry k
+    → HasNoAck (entries_of (log ++ l ∷ [])) k
+no_ack_more log l k h not place to mine number prev signature there =
+    by (logged_less log l place (Ack to k mine number prev signature) there)
+  where
+    by : (entry_at (entries_of log) place ≡ Some (Ack to k mine number prev signature))
+        ⊎ (l.entry ≡ Ack to k mine number prev signature) → ⊥
+    by (inl old) = h place to mine number prev signature old
+    by (inr new) = not to mine number prev signature new
+
+no_ack_less : (log : List Logged) (l : Logged) (k : ℕ) → HasNoAck (entries_of (log ++ l ∷ [])) k
+    → HasNoAck (entries_of log) k
+no_ack_less log l k h place to mine number prev signature there =
     h place to mine number prev signature
-    (entry_more es e place (Ack to k mine number prev signature) there)
+    (subst (λ es. entry_at es place ≡ Some (Ack to k mine number prev signature)) (sym (one_entry_more log l))
+    (entry_more (entries_of log) l.entry place (Ack to k mine number prev signature) there))
 
 -- ---- what is carried along
 
--- Messages sent are those of SENDs without an ACK; each ACK is of a message at a number of the log.
-record AreLogged (es : List Entry) (s : State) : Type 0 where
-  from : (k : ℕ) (m : SentMessage) → finite.get s.sends k ≡ Some m → IsSentAt es k m × HasNoAck es k
-  all : (k : ℕ) (m : SentMessage) → IsSentAt es k m → HasNoAck es k → finite.get s.sends k ≡ Some m
+-- Messages sent are those of SENDs without an ACK; each ACK is of a message that a SEND of the log sent.
+record AreLogged (log : List Logged) (s : State) : Type 0 where
+  from : (k : ℕ) (m : SentMessage) → finite.get s.sends k ≡ Some m
+      → IsSentAt log k m × HasNoAck (entries_of log) k
+  all : (k : ℕ) (m : SentMessage) → IsSentAt log k m → HasNoAck (entries_of log) k
+      → finite.get s.sends k ≡ Some m
   acked : (place to k : ℕ) (mine : List ℕ) (number : ℕ) (prev : List ℕ) (signature : SignatureParts)
-      → entry_at es place ≡ Some (Ack to k mine number prev signature) → k ≤ length es
+      → entry_at (entries_of log) place ≡ Some (Ack to k mine number prev signature)
+      → (m : SentMessage) × IsSentAt log k m
 
 nothing_there : (k : ℕ) (e : Entry) → entry_at [] k ≡ Some e → ⊥
 nothing_there k e h = let within = entry_within [] k e h in omega (arith, within.0, within.1)
+
+nothing_sent : (k : ℕ) (m : SentMessage) → IsSentAt [] k m → ⊥
+nothing_sent k m h = by h.there.before h.there.whole
+  where
+    by : (before : List Logged)
+        → [] ≡ before ++ record { skipped = h.skipped; entry = Send m.to h.body } ∷ h.there.rest → ⊥
+    by [] e = absurd cc
+    by (x ∷ before) e = absurd cc
 
 are_logged_start : (o : State) → o.sends ≡ finite.empty → AreLogged [] o
 are_logged_start o none = record {
   from = λ k m h.
       absurd (none_some (sym (finite.get-empty nat_cmp k) ∙ sym (ap (λ x. finite.get x k) none) ∙ h));
-  all = λ k m h n. absurd (nothing_there k (Send m.to h.body) h.there);
+  all = λ k m h n. absurd (nothing_sent k m h);
   acked = λ place to k mine number prev signature h.
       absurd (nothing_there place (Ack to k mine number prev signature) h);
 }
 
-longer_length : (es : List Entry) (e : Entry) → length (es ++ e ∷ []) ≡ length es + 1
-longer_length es e = length-append es (e ∷ [])
-
 -- an entry that is no ACK leaves the ACKs as they were
-acked_more : (es : List Entry) (e : Entry) (s : State) → AreLogged es s → ((k : ℕ) → IsNoAckOf e k)
+acked_more : (log : List Logged) (l : Logged) (s : State) → AreLogged log s → ((k : ℕ) → IsNoAckOf l.entry k)
     → (place to k : ℕ) (mine : List ℕ) (number : ℕ) (prev : List ℕ) (signature : SignatureParts)
-    → entry_at (es ++ e ∷ []) place ≡ Some (Ack to k mine number prev signature) → k ≤ length (es ++ e ∷ [])
-acked_more es e s i not place to k mine number prev signature there =
-    by (entry_less es e place (Ack to k mine number prev signature) there)
+    → entry_at (entries_of (log ++ l ∷ [])) place ≡ Some (Ack to k mine number prev signature)
+    → (m : SentMessage) × IsSentAt (log ++ l ∷ []) k m
+acked_more log l s i not place to k mine number prev signature there =
+    by (logged_less log l place (Ack to k mine number prev signature) there)
   where
-    by : (entry_at es place ≡ Some (Ack to k mine number prev signature))
-        ⊎ ((place ≡ length es + 1) × (e ≡ Ack to k mine number prev signature))
-        → k ≤ length (es ++ e ∷ [])
-    by (inl old) = omega (arith, longer_length es e, i.acked place to k mine number prev signature old)
-    by (inr new) = absurd (not k to mine number prev signature new.1)
+    by : (entry_at (entries_of log) place ≡ Some (Ack to k mine number prev signature))
+        ⊎ (l.entry ≡ Ack to k mine number prev signature)
+        → (m : SentMessage) × IsSentAt (log ++ l ∷ []) k m
+    by (inl old) =
+        let sent = i.acked place to k mine number prev signature old in
+        (sent.0, sent_more log l k sent.0 sent.1)
+    by (inr new) = absurd (not k to mine number prev signature new)
 
 -- ---- an entry that neither sends nor acknowledges
 
-same_sends : (es : List Entry) (e : Entry) (s t : State) → AreLogged es s → t.sends ≡ s.sends
-    → ((to : ℕ) (body : List ℕ) → e ≢ Send to body) → ((k : ℕ) → IsNoAckOf e k) → AreLogged (es ++ e ∷ []) t
-same_sends es e s t i same no_send no_ack = record {
+same_sends : (log : List Logged) (l : Logged) (s t : State) → AreLogged log s → t.sends ≡ s.sends
+    → ((to : ℕ) (body : List ℕ) → l.entry ≢ Send to body) → ((k : ℕ) → IsNoAckOf l.entry k)
+    → AreLogged (log ++ l ∷ []) t
+same_sends log l s t i same no_send no_ack = record {
   from = λ k m h.
       let old = i.from k m (sym (ap (λ x. finite.get x k) same) ∙ h) in
-      (sent_more es e k m old.0, no_ack_more es e k old.1 (no_ack k));
-  all = λ k m h n. ap (λ x. finite.get x k) same ∙ by k m n (sent_less es e k m h);
-  acked = acked_more es e s i no_ack;
+      (sent_more log l k m old.0, no_ack_more log l k old.1 (no_ack k));
+  all = λ k m h n. ap (λ x. finite.get x k) same ∙ by k m n (sent_less log l k m h);
+  acked = acked_more log l s i no_ack;
 }
   where
-    by : (k : ℕ) (m : SentMessage) → HasNoAck (es ++ e ∷ []) k → IsSentAt es k m ⊎ IsNew es e k m
-        → finite.get s.sends k ≡ Some m
-    by k m n (inl old) = i.all k m old (no_ack_less es e k n)
+    by : (k : ℕ) (m : SentMessage) → HasNoAck (entries_of (log ++ l ∷ [])) k
+        → IsSentAt log k m ⊎ IsNew log l k m → finite.get s.sends k ≡ Some m
+    by k m n (inl old) = i.all k m old (no_ack_less log l k n)
     by k m n (inr new) = absurd (no_send m.to new.body new.is)
 
 -- ---- SEND
@@ -201,61 +240,75 @@ send_same a b x y h = (cc, cc)
 send_no_ack : (to : ℕ) (body : List ℕ) (k : ℕ) → IsNoAckOf (Send to body) k
 send_no_ack to body k whom mine number prev signature h = absurd (cc)
 
-module _ (es : List Entry) (to : ℕ) (body : List ℕ) (s t : State) (i : AreLogged es s)
-    (after : t.sends ≡ finite.insert s.sends (length es + 1) (sent_message to (log_hash es) body)) where
+module _ (v : LogVersion) (log : List Logged) (skipped to : ℕ) (body : List ℕ) (s t : State)
+    (has : HasNumbers v (log ++ record { skipped = skipped; entry = Send to body } ∷ []))
+    (i : AreLogged log s)
+    (after : t.sends ≡ finite.insert s.sends (word_of skipped (span log + 1 + skipped))
+    (sent_message to (log_hash log) body)) where
   abbrev sent : SentMessage
-  sent = sent_message to (log_hash es) body
+  sent = sent_message to (log_hash log) body
 
-  abbrev more : List Entry
-  more = es ++ Send to body ∷ []
+  abbrev send : Logged
+  send = record { skipped = skipped; entry = Send to body }
+
+  abbrev new_word : ℕ
+  new_word = word_of skipped (span log + 1 + skipped)
+
+  abbrev more : List Logged
+  more = log ++ send ∷ []
+
+  -- no message of the log was sent under the new word
+  apart : (k : ℕ) (m : SentMessage) → IsSentAt log k m → k ≢ new_word
+  apart k m old e =
+      word_apart v log send old.number (record { skipped = old.skipped; entry = Send m.to old.body }) has old.there
+      (sym old.is_word ∙ e)
 
   -- no ACK is of the new message
-  none_yet : (k : ℕ) → k ≡ length es + 1 → HasNoAck es k
+  none_yet : (k : ℕ) → k ≡ new_word → HasNoAck (entries_of log) k
   none_yet k h place whom mine number prev signature there =
-      let low = i.acked place whom k mine number prev signature there in omega (arith, low, h)
+      let old = i.acked place whom k mine number prev signature there in apart k old.0 old.1 h
 
-  new_from : (k : ℕ) (m : SentMessage) → finite.get t.sends k ≡ Some m → IsSentAt more k m × HasNoAck more k
-  new_from k m h = by (cases_eq k (length es + 1))
+  new_from : (k : ℕ) (m : SentMessage) → finite.get t.sends k ≡ Some m
+      → IsSentAt more k m × HasNoAck (entries_of more) k
+  new_from k m h = by (cases_eq k new_word)
     where
-      by : (k ≡ length es + 1) ⊎ (k ≢ length es + 1) → IsSentAt more k m × HasNoAck more k
+      by : (k ≡ new_word) ⊎ (k ≢ new_word) → IsSentAt more k m × HasNoAck (entries_of more) k
       by (inl last) =
           let same : sent ≡ m =
-          same_Some _ _ (sym (get_new s.sends (length es + 1) sent k last)
+          same_Some _ _ (sym (get_new s.sends new_word sent k last)
           ∙ sym (ap (λ x. finite.get x k) after) ∙ h) in (
-            subst (IsSentAt more k) same (sent_last es to body k last),
-            no_ack_more es (Send to body) k (none_yet k last) (send_no_ack to body k),
+            subst (IsSentAt more k) same (sent_last log skipped to body k last),
+            no_ack_more log send k (none_yet k last) (send_no_ack to body k),
           )
       by (inr other) =
-          let old = i.from k m (sym (get_other s.sends (length es + 1) sent k other)
+          let old = i.from k m (sym (get_other s.sends new_word sent k other)
           ∙ sym (ap (λ x. finite.get x k) after) ∙ h) in (
-            sent_more es (Send to body) k m old.0,
-            no_ack_more es (Send to body) k old.1 (send_no_ack to body k),
+            sent_more log send k m old.0,
+            no_ack_more log send k old.1 (send_no_ack to body k),
           )
 
-  new_all : (k : ℕ) (m : SentMessage) → IsSentAt more k m → HasNoAck more k → finite.get t.sends k ≡ Some m
-  new_all k m h n = ap (λ x. finite.get x k) after ∙ by (sent_less es (Send to body) k m h)
+  new_all : (k : ℕ) (m : SentMessage) → IsSentAt more k m → HasNoAck (entries_of more) k
+      → finite.get t.sends k ≡ Some m
+  new_all k m h n = ap (λ x. finite.get x k) after ∙ by (sent_less log send k m h)
     where
-      by : IsSentAt es k m ⊎ IsNew es (Send to body) k m
-          → finite.get (finite.insert s.sends (length es + 1) sent) k ≡ Some m
+      by : IsSentAt log k m ⊎ IsNew log send k m
+          → finite.get (finite.insert s.sends new_word sent) k ≡ Some m
       by (inl old) =
-          let within = sent_within es k m old in
-          let other : k ≢ length es + 1 = λ e. omega (arith, within.1, e) in
-          get_other s.sends (length es + 1) sent k other
-          ∙ i.all k m old (no_ack_less es (Send to body) k n)
+          get_other s.sends new_word sent k (apart k m old) ∙ i.all k m old (no_ack_less log send k n)
       by (inr new) =
           let e = send_same to m.to body new.body new.is in
           let same : sent ≡ m =
-          ap (λ x. record { to = x; prev = log_hash es; body_hash = sha256 body }) e.0
+          ap (λ x. record { to = x; prev = log_hash log; body_hash = sha256 body }) e.0
           ∙ ap (λ x. record { to = m.to; prev = x; body_hash = sha256 body }) (sym new.before)
           ∙ ap (λ x. record { to = m.to; prev = m.prev; body_hash = x })
           (ap sha256 e.1 ∙ sym new.digest) in
-          get_new s.sends (length es + 1) sent k new.number ∙ ap (λ x. Some x) same
+          get_new s.sends new_word sent k new.is_word ∙ ap (λ x. Some x) same
 
   new_logged : AreLogged more t
   new_logged = record {
     from = new_from;
     all = new_all;
-    acked = acked_more es (Send to body) s i (send_no_ack to body);
+    acked = acked_more log send s i (send_no_ack to body);
   }
 
 -- ---- ACK
@@ -269,92 +322,112 @@ ack_no_send : (to seq : ℕ) (mine : List ℕ) (number : ℕ) (prev : List ℕ) 
     → (whom : ℕ) (body : List ℕ) → Ack to seq mine number prev signature ≢ Send whom body
 ack_no_send to seq mine number prev signature whom body h = absurd (cc)
 
-module _ (es : List Entry) (to seq : ℕ) (mine : List ℕ) (number : ℕ) (prev : List ℕ)
-    (signature : SignatureParts) (s t : State) (i : AreLogged es s)
+module _ (log : List Logged) (skipped to seq : ℕ) (mine : List ℕ) (number : ℕ) (prev : List ℕ)
+    (signature : SignatureParts) (s t : State) (i : AreLogged log s)
     (after : t.sends ≡ finite.remove s.sends seq)
     (message : SentMessage) (sent : finite.get s.sends seq ≡ Some message) where
-  abbrev ack : Entry
-  ack = Ack to seq mine number prev signature
+  abbrev ack : Logged
+  ack = record { skipped = skipped; entry = Ack to seq mine number prev signature }
 
-  abbrev acks : List Entry
-  acks = es ++ ack ∷ []
+  abbrev acks : List Logged
+  acks = log ++ ack ∷ []
 
   -- it is of no other message
-  ack_of_one : (k : ℕ) → k ≢ seq → IsNoAckOf ack k
+  ack_of_one : (k : ℕ) → k ≢ seq → IsNoAckOf ack.entry k
   ack_of_one k other whom own place before sign e =
       other (sym (ack_same to whom seq k mine own number place prev before signature sign e))
 
-  ack_from : (k : ℕ) (m : SentMessage) → finite.get t.sends k ≡ Some m → IsSentAt acks k m × HasNoAck acks k
+  ack_from : (k : ℕ) (m : SentMessage) → finite.get t.sends k ≡ Some m
+      → IsSentAt acks k m × HasNoAck (entries_of acks) k
   ack_from k m h = by (cases_eq k seq)
     where
-      by : (k ≡ seq) ⊎ (k ≢ seq) → IsSentAt acks k m × HasNoAck acks k
+      by : (k ≡ seq) ⊎ (k ≢ seq) → IsSentAt acks k m × HasNoAck (entries_of acks) k
       by (inl same) =
           absurd (none_some (sym (get_removed s.sends seq k same) ∙ sym (ap (λ x. finite.get x k) after) ∙ h))
       by (inr other) =
           let old = i.from k m (sym (get_kept s.sends seq k other)
           ∙ sym (ap (λ x. finite.get x k) after) ∙ h) in
-          (sent_more es ack k m old.0, no_ack_more es ack k old.1 (ack_of_one k other))
+          (sent_more log ack k m old.0, no_ack_more log ack k old.1 (ack_of_one k other))
 
-  ack_all : (k : ℕ) (m : SentMessage) → IsSentAt acks k m → HasNoAck acks k → finite.get t.sends k ≡ Some m
-  ack_all k m h n = ap (λ x. finite.get x k) after ∙ by (sent_less es ack k m h)
+  -- the new ACK stands in the log
+  stands : entry_at (entries_of acks) (length (entries_of log) + 1)
+      ≡ Some (Ack to seq mine number prev signature)
+  stands =
+      ap (λ es. entry_at es (length (entries_of log) + 1)) (one_entry_more log ack)
+      ∙ entry_last (entries_of log) ack.entry (length (entries_of log) + 1) refl
+
+  ack_all : (k : ℕ) (m : SentMessage) → IsSentAt acks k m → HasNoAck (entries_of acks) k
+      → finite.get t.sends k ≡ Some m
+  ack_all k m h n = ap (λ x. finite.get x k) after ∙ by (sent_less log ack k m h)
     where
-      -- the new ACK stands in the log
       other : k ≢ seq
       other e =
-          n (length es + 1) to mine number prev signature
-          (entry_last es ack (length es + 1) refl
-          ∙ ap (λ x. Some (Ack to x mine number prev signature)) (sym e))
+          n (length (entries_of log) + 1) to mine number prev signature
+          (stands ∙ ap (λ x. Some (Ack to x mine number prev signature)) (sym e))
 
-      by : IsSentAt es k m ⊎ IsNew es ack k m → finite.get (finite.remove s.sends seq) k ≡ Some m
-      by (inl old) = get_kept s.sends seq k other ∙ i.all k m old (no_ack_less es ack k n)
+      by : IsSentAt log k m ⊎ IsNew log ack k m → finite.get (finite.remove s.sends seq) k ≡ Some m
+      by (inl old) = get_kept s.sends seq k other ∙ i.all k m old (no_ack_less log ack k n)
       by (inr new) = absurd (ack_no_send to seq mine number prev signature m.to new.body new.is)
 
   ack_acked : (place whom k : ℕ) (own : List ℕ) (theirs : ℕ) (before : List ℕ) (sign : SignatureParts)
-      → entry_at acks place ≡ Some (Ack whom k own theirs before sign) → k ≤ length acks
+      → entry_at (entries_of acks) place ≡ Some (Ack whom k own theirs before sign)
+      → (m : SentMessage) × IsSentAt acks k m
   ack_acked place whom k own theirs before sign there =
-      by (entry_less es ack place (Ack whom k own theirs before sign) there)
+      by (logged_less log ack place (Ack whom k own theirs before sign) there)
     where
-      by : (entry_at es place ≡ Some (Ack whom k own theirs before sign))
-          ⊎ ((place ≡ length es + 1) × (ack ≡ Ack whom k own theirs before sign)) → k ≤ length acks
-      by (inl old) = omega (arith, longer_length es ack, i.acked place whom k own theirs before sign old)
+      by : (entry_at (entries_of log) place ≡ Some (Ack whom k own theirs before sign))
+          ⊎ (ack.entry ≡ Ack whom k own theirs before sign) → (m : SentMessage) × IsSentAt acks k m
+      by (inl old) =
+          let was = i.acked place whom k own theirs before sign old in
+          (was.0, sent_more log ack k was.0 was.1)
       by (inr new) =
           let same : seq ≡ k =
-          ack_same to whom seq k mine own number theirs prev before signature sign new.1 in
-          let within = sent_within es seq message (i.from seq message sent).0 in
-          omega (arith, longer_length es ack, within.1, same)
+          ack_same to whom seq k mine own number theirs prev before signature sign new in (
+            message,
+            subst (λ n. IsSentAt acks n message) same
+                (sent_more log ack seq message (i.from seq message sent).0),
+          )
 
   ack_logged : AreLogged acks t
   ack_logged = record { from = ack_from; all = ack_all; acked = ack_acked }
 
 -- ---- each entry
 
-are_logged_by : (es : List Entry) (e : Entry) (ms : List Member) (s t : State) → AreLogged es s
-    → MayStand ms s e → t ≡ after_entry s (length es + 1) (log_hash es) e → AreLogged (es ++ e ∷ []) t
-are_logged_by es (Send to body) ms s t i h after =
-    new_logged es to body s t i (ap (λ (x : State). x.sends) after)
-are_logged_by es (Recv from seq prev body signature) ms s t i h after =
-    same_sends es (Recv from seq prev body signature) s t i (ap (λ (x : State). x.sends) after)
+are_logged_by : (v : LogVersion) (log : List Logged) (skipped : ℕ) (e : Entry) (ms : List Member) (s t : State)
+    → HasNumbers v (log ++ record { skipped = skipped; entry = e } ∷ []) → AreLogged log s → MayStand ms s e
+    → t ≡ after_entry s (word_of skipped (span log + 1 + skipped)) (log_hash log) e
+    → AreLogged (log ++ record { skipped = skipped; entry = e } ∷ []) t
+are_logged_by v log skipped (Send to body) ms s t has i h after =
+    new_logged v log skipped to body s t has i (ap (λ (x : State). x.sends) after)
+are_logged_by v log skipped (Recv from seq prev body signature) ms s t has i h after =
+    same_sends log (record { skipped = skipped; entry = Recv from seq prev body signature }) s t i
+    (ap (λ (x : State). x.sends) after)
     (λ to sent e. absurd (cc)) (λ k to mine number before sign e. absurd (cc))
-are_logged_by es (Ack to seq mine number prev signature) ms s t i h after =
-    ack_logged es to seq mine number prev signature s t i (ap (λ (x : State). x.sends) after) h.message h.sent
-are_logged_by es (Clock seconds microseconds) ms s t i h after =
-    same_sends es (Clock seconds microseconds) s t i (ap (λ (x : State). x.sends) after)
+are_logged_by v log skipped (Ack to seq mine number prev signature) ms s t has i h after =
+    ack_logged log skipped to seq mine number prev signature s t i (ap (λ (x : State). x.sends) after) h.message
+    h.sent
+are_logged_by v log skipped (Clock seconds microseconds) ms s t has i h after =
+    same_sends log (record { skipped = skipped; entry = Clock seconds microseconds }) s t i
+    (ap (λ (x : State). x.sends) after)
     (λ to sent e. absurd (cc)) (λ k to mine number before sign e. absurd (cc))
-are_logged_by es (Check digest) ms s t i h after =
-    same_sends es (Check digest) s t i (ap (λ (x : State). x.sends) after)
+are_logged_by v log skipped (Check digest) ms s t has i h after =
+    same_sends log (record { skipped = skipped; entry = Check digest }) s t i (ap (λ (x : State). x.sends) after)
     (λ to sent e. absurd (cc)) (λ k to mine number before sign e. absurd (cc))
 
-are_logged : (ms : List Member) (o : State) → o.sends ≡ finite.empty → (es : List Entry) (s : State)
-    → IsHonestLog ms o es s → AreLogged es s
-are_logged ms o none es s h =
-    carried ms o AreLogged (are_logged_start o none)
-    (λ es e s t i k. are_logged_by es e ms s t i k.stands k.after) es s h
+are_logged : (v : LogVersion) (ms : List Member) (o : State) → o.sends ≡ finite.empty → (log : List Logged)
+    (s : State) → HasNumbers v log → IsHonestLog ms o log s → AreLogged log s
+are_logged v ms o none log s has h =
+    carried ms o (λ log s. HasNumbers v log → AreLogged log s) (λ begins. are_logged_start o none)
+    (λ log l s t i k more.
+    are_logged_by v log l.skipped l.entry ms s t more (i (numbers_front v log l more)) k.stands k.after)
+    log s h has
 
 -- the messages that were sent in the last state of a log from a state without messages
-pub sends_are_logged : (ms : List Member) (node : ℕ) (machine : Machine) (s : State) (es : List Entry) (k : ℕ)
-    (m : SentMessage) → IsHonestLog ms (opened_with node machine) es s
-    → ((finite.get s.sends k ≡ Some m) → (IsSentAt es k m × HasNoAck es k))
-    × ((IsSentAt es k m × HasNoAck es k) → (finite.get s.sends k ≡ Some m))
-sends_are_logged ms node machine s es k m h =
-    let i = are_logged ms (opened_with node machine) refl es s h in
+pub sends_are_logged : (v : LogVersion) (ms : List Member) (node : ℕ) (machine : Machine) (s : State)
+    (log : List Logged) (k : ℕ) (m : SentMessage) → HasNumbers v log
+    → IsHonestLog ms (opened_with node machine) log s
+    → ((finite.get s.sends k ≡ Some m) → (IsSentAt log k m × HasNoAck (entries_of log) k))
+    × ((IsSentAt log k m × HasNoAck (entries_of log) k) → (finite.get s.sends k ≡ Some m))
+sends_are_logged v ms node machine s log k m has h =
+    let i = are_logged v ms (opened_with node machine) refl log s has h in
     (i.from k m, λ x. i.all k m x.0 x.1)

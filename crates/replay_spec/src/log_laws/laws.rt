@@ -13,14 +13,15 @@ pub fn honest_servers_replay()
 {}
 
 /// No message is received at two places of an honest log, nor one that was received before it, by sender,
-/// number and hash.
+/// word and hash.
 pub fn no_message_twice()
     ensures places { NoMessageTwice }
     ensures before { NoneOfBefore }
 {}
 
 /// The messages received in the last state of an honest log are those of its RECVs; those sent are those of
-/// its SENDs that have no ACK. They are at most as many as its RECVs, and its SENDs.
+/// its SENDs that have no ACK, where its numbers are such as its version has. They are at most as many as its
+/// RECVs, and its SENDs.
 pub fn messages_are_logged()
     ensures received { ReceivedAreLogged }
     ensures sends { SendsAreLogged }
@@ -28,7 +29,7 @@ pub fn messages_are_logged()
 {}
 
 /// After any state honest entries bring at most as many messages as they have RECVs, and SENDs, with numbers
-/// below that of the next entry.
+/// up to that of the last entry.
 pub fn messages_are_bounded()
     ensures count { MessagesAreCountedOn }
     ensures numbers { NumbersLieBelow }

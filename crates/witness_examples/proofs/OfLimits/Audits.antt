@@ -11,7 +11,7 @@ use Rattle.std.proofs.lemmas.List.Sums.{sum_by-cons}
 use Rattle.authenticator.specs.declared.authenticator.Authenticator.{Authenticator}
 use Rattle.authenticator.specs.declared.member.LogVersion.TheVariants.{One}
 use Rattle.authenticator.proofs.Signed.{list_same}
-use Rattle.secure_log.specs.Versioned.{ClosedVersionedParts, segment_marks}
+use Rattle.secure_log.specs.Versioned.{ClosedParts, segment_marks}
 use Rattle.state_spec.specs.State.{State}
 use Rattle.replay_spec.specs.Replay.{Sound}
 use Rattle.witness_spec.specs.Events.{JobParts, DoneParts}
@@ -252,7 +252,7 @@ module _ (node : Watched) (past : Past) (h : ℕ → List ℕ) (end begun : ℕ)
 
   module _ (j : JobParts) (k : ℕ → List ℕ) (t : State) (new : List Authenticator) (f : Follows j k t new)
     where
-      abbrev c : ClosedVersionedParts
+      abbrev c : ClosedParts
       c = j.segment
 
       abbrev a : Authenticator

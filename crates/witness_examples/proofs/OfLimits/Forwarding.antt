@@ -11,13 +11,14 @@ use Rattle.authenticator.specs.Signed.{signed_digest}
 use Rattle.authenticator.specs.Signing.{is_signed_in}
 use Rattle.authenticator.specs.declared.authenticator.Authenticator.{Authenticator}
 use Rattle.authenticator.proofs.Signed.{signed_by_member}
-use Rattle.secure_log.specs.LogEntries.Chain.{zeros, hash_after, link_of}
+use Rattle.secure_log.specs.LogEntries.Chain.{zeros, hash_after, logged_link}
 use Rattle.secure_log.specs.declared.log_entries.entry.Entry.{Entry}
 use Rattle.secure_log.specs.declared.log_entries.entry.Entry.TheVariants.{Recv}
 use Rattle.replay_spec.specs.Stepping.{BadReceive, Repeated, ReplayFault, step, shown_by, unless_fault}
 use Rattle.state_spec.specs.State.{State, ReceivedMessage, received_cmp, is_received, opening_client}
-use Rattle.replay_spec.specs.Placed.{Placed, place}
+use Rattle.replay_spec.specs.Placed.{Placed, logged_place}
 use Rattle.replay_spec.specs.Replay.{Verdict, Sound, Fault, behind, verdict_of}
+use Rattle.replay_spec.specs.LogLaws.HonestServers.{next_logged}
 use Rattle.witness_spec.specs.Watched.{watched}
 use Rattle.witness_spec.specs.Standing.{verdict_on}
 use Rattle.witness_examples.specs.Worked.{five}
@@ -52,7 +53,7 @@ signed =
     (leaf_signature_signs its_secret 1 1 (signed_digest 6 1 other_sent_hash) (omega arith) (omega arith))
 
 other_step : (number : ℕ) (before : List ℕ)
-    → step clients state_heard (place number before other_receipt) ≡ Ok state_both
+    → step clients state_heard (logged_place number before (next_logged other_receipt)) ≡ Ok state_both
 unfolding step
 other_step number before =
     ap₂ (λ b c. unless_fault state_both (cond (not b) (Some BadReceive) (cond c (Some Repeated) None)))
@@ -61,13 +62,13 @@ other_step number before =
 -- ---- the audit
 
 abbrev first_hash : List ℕ
-first_hash = hash_after zeros (link_of 1 receipt)
+first_hash = hash_after zeros (logged_link 1 (next_logged receipt))
 
 -- the hashes of the log with both
 abbrev pub both_at : ℕ → List ℕ
 both_at zero = zeros
 both_at (suc zero) = first_hash
-both_at (suc (suc n)) = hash_after first_hash (link_of 2 other_receipt)
+both_at (suc (suc n)) = hash_after first_hash (logged_link 2 (next_logged other_receipt))
 
 abbrev then_found : (s : State) → Entry → List Placed → ℕ → Result State ReplayFault → Verdict
 then_found s e ps number r = elim r [
@@ -77,7 +78,7 @@ then_found s e ps number r = elim r [
 
 both_sound : verdict_on clients (opening_client 5) both_job ≡ Sound state_both (sender ∷ other_sender ∷ [])
 both_sound =
-    let second : Placed = place 2 first_hash other_receipt in
+    let second : Placed = logged_place 2 first_hash (next_logged other_receipt) in
     ap (then_found (opening_client 5) receipt (second ∷ []) 1) (receipt_step 1 zeros)
     ∙ ap (behind (Some sender)) (ap (then_found state_heard other_receipt [] 2) (other_step 2 first_hash))
 

@@ -11,17 +11,16 @@ use Rattle.merkle_keys.proofs.LeafSignatures.{leaf_signature_signs}
 use Rattle.authenticator.specs.Signed.{signed_digest}
 use Rattle.authenticator.specs.Signing.{is_signed_in}
 use Rattle.authenticator.proofs.Signed.{signed_by_member}
-use Rattle.secure_log.specs.LogEntries.Chain.{hash_after, link_of, links_from, pairs}
-use Rattle.secure_log.specs.Segment.{SegmentParts}
-use Rattle.secure_log.specs.Versioned.{of_plain, segment_marks}
+use Rattle.secure_log.specs.LogEntries.Chain.{hash_after, logged_link, logged_links, marks, without_gaps}
+use Rattle.secure_log.specs.Versioned.{segment_marks}
 use Rattle.replay_spec.specs.Stepping.{BadReceive, Repeated, ReplayFault, step, shown_by, unless_fault}
 use Rattle.state_spec.specs.State.{State, ReceivedMessage, received_cmp, is_received, opening_client}
-use Rattle.replay_spec.specs.Placed.{place, placed}
+use Rattle.replay_spec.specs.LogLaws.HonestServers.{next_logged}
+use Rattle.replay_spec.specs.Placed.{logged_place, places_from}
 use Rattle.replay_spec.specs.Replay.{Sound, Fault, behind, verdict_of}
 use Rattle.witness_spec.specs.Watched.{watched}
 use Rattle.witness_spec.specs.Standing.{verdict_on}
-use Rattle.witness_spec.proofs.evidence_spec.PlainSegments.{marks_plain, verdict_plain}
-use Rattle.witness_examples.specs.Worked.{five, learned}
+use Rattle.witness_examples.specs.Worked.{five}
 use Rattle.witness_examples.specs.Limits.Audits.{tick, ticks, hash_at, ticked, ticked_job, its_secret, six}
 use Rattle.witness_examples.specs.Limits.Audits.{clients}
 use Rattle.witness_examples.specs.Limits.Audits.{rounds, sent_hash, sender, receipt, heard_hash}
@@ -29,63 +28,46 @@ use Rattle.witness_examples.specs.Limits.Audits.{heard_segment}
 use Rattle.witness_examples.specs.Limits.Audits.{heard_job, state_heard, heard}
 use Rattle.witness_examples.proofs.OfLimits.Audits.{OnLog, Quiet, goes_on}
 
--- a segment that skips nothing shows a log's hashes where its pairs are
-plain_on : (h : ℕ → List ℕ) (end : ℕ) (s : SegmentParts) → 0 < s.first
-    → OnLog h end (pairs (s.first - 1) s.opening (links_from s.first s.entries))
-    → OnLog h end (segment_marks (of_plain s))
-plain_on h end s some on = subst (OnLog h end) (sym (marks_plain s some)) on
-
 -- ---- readings of the clock
 
--- so many after an end, as a segment of a log of version 1
-abbrev plain_ticked : (end size : ℕ) → SegmentParts
-plain_ticked end size = record {
-  node = 5;
-  first = end + 1;
-  opening = hash_at end;
-  entries = ticks size;
-  closing = learned (end + size) (hash_at (end + size));
-}
-
 ticks_sound : (n first : ℕ) (before : List ℕ)
-    → verdict_of clients (opening_client 5) (placed first before (replicate n tick)) ≡ Sound
-    (opening_client 5) []
+    → verdict_of clients (opening_client 5) (places_from first before (without_gaps (replicate n tick)))
+    ≡ Sound (opening_client 5) []
 unfolding step
 ticks_sound zero first before = refl
 ticks_sound (suc n) first before = ap (behind None)
-    (ticks_sound n (first + 1) (hash_after before (link_of first tick)))
+    (ticks_sound n (first + 0 + 1) (hash_after before (logged_link (first + 0) (next_logged tick))))
 
-next_hash : (n : ℕ) → hash_at (n + 1) ≡ hash_after (hash_at n) (link_of (n + 1) tick)
+next_hash : (n m : ℕ) → m ≡ n + 1 → hash_at m ≡ hash_after (hash_at n) (logged_link m (next_logged tick))
 unfolding hash_at
-next_hash n =
-    let same : suc n ≡ n + 1 = omega arith in
-    subst (λ k. hash_at k ≡ hash_after (hash_at n) (link_of k tick)) same refl
+next_hash n m e =
+    let same : suc n ≡ m = omega (arith, e) in
+    subst (λ k. hash_at k ≡ hash_after (hash_at n) (logged_link k (next_logged tick))) same refl
 
 ticks_on : (size n end : ℕ) (before : List ℕ) → before ≡ hash_at n → n + size ≤ end
-    → OnLog hash_at end (pairs n before (links_from (n + 1) (replicate size tick)))
+    → OnLog hash_at end (marks n before (logged_links n (without_gaps (replicate size tick))))
 ticks_on zero n end before e low = (omega arith, e, tt)
-ticks_on (suc size) n end before e low = (
-  omega arith,
-  e,
-  ticks_on size (n + 1) end (hash_after before (link_of (n + 1) tick))
-      (ap (λ b. hash_after b (link_of (n + 1) tick)) e ∙ sym (next_hash n)) (omega arith),
-)
+ticks_on (suc size) n end before e low =
+    let m = n + 1 + 0 in (
+      omega arith,
+      e,
+      ticks_on size m end (hash_after before (logged_link m (next_logged tick)))
+          (ap (λ b. hash_after b (logged_link m (next_logged tick))) e ∙ sym (next_hash n m (omega arith)))
+          (omega arith),
+    )
 
 ticked_on : (end size : ℕ) → OnLog hash_at (end + size) (segment_marks (ticked end size))
 unfolding ticks
 ticked_on end size =
     let same : end ≡ (end + 1) - 1 = omega arith in
-    plain_on hash_at (end + size) (plain_ticked end size) (omega arith)
-    (subst (λ n. OnLog hash_at (end + size) (pairs n (hash_at end)
-    (links_from (end + 1) (replicate size tick)))) same
-    (ticks_on size end (end + size) (hash_at end) refl (omega arith)))
+    subst (λ n. OnLog hash_at (end + size)
+    (marks n (hash_at end) (logged_links n (without_gaps (replicate size tick))))) same
+    (ticks_on size end (end + size) (hash_at end) refl (omega arith))
 
 ticked_sound : (number end size : ℕ)
     → verdict_on clients (opening_client 5) (ticked_job number end size) ≡ Sound (opening_client 5) []
 unfolding ticks
-ticked_sound number end size =
-    verdict_plain clients (opening_client 5) (plain_ticked end size)
-    ∙ ticks_sound size (end + 1) (hash_at end)
+ticked_sound number end size = ticks_sound size (end + 1) (hash_at end)
 
 -- after so many rounds the end is 4,096 for each, and nothing was found
 abbrev pub QuietRounds : ℕ → Type 0
@@ -141,16 +123,6 @@ quiet_rounds (suc k) few = one_more k (omega arith) (quiet_rounds k (omega arith
 
 -- ---- a message that was received
 
--- it alone, as a segment of a log of version 1
-abbrev plain_heard : (end : ℕ) → SegmentParts
-plain_heard end = record {
-  node = 5;
-  first = end + 1;
-  opening = hash_at end;
-  entries = receipt ∷ [];
-  closing = learned (end + 1) (heard_hash end);
-}
-
 signed : is_signed_in clients sender ≡ true
 signed =
     signed_by_member clients sender six refl
@@ -158,7 +130,7 @@ signed =
 
 -- the message's step
 pub receipt_step : (number : ℕ) (before : List ℕ)
-    → step clients (opening_client 5) (place number before receipt) ≡ Ok state_heard
+    → step clients (opening_client 5) (logged_place number before (next_logged receipt)) ≡ Ok state_heard
 unfolding step
 receipt_step number before =
     let message : ReceivedMessage = record { from = 6; seq = 1; hash = sent_hash } in
@@ -170,11 +142,10 @@ receipt_step number before =
 heard_sound : (number end : ℕ)
     → verdict_on clients (opening_client 5) (heard_job number end) ≡ Sound state_heard (sender ∷ [])
 heard_sound number end =
-    verdict_plain clients (opening_client 5) (plain_heard end)
-    ∙ ap (λ (r : Result State ReplayFault). elim r [
+    ap (λ (r : Result State ReplayFault). elim r [
       | Ok t ↦ behind (shown_by (opening_client 5) receipt) (verdict_of clients t [])
-      | Err fault ↦ Fault fault (end + 1)
-    ]) (receipt_step (end + 1) (hash_at end))
+      | Err fault ↦ Fault fault (end + 1 + 0)
+    ]) (receipt_step (end + 1 + 0) (hash_at end))
 
 module _ (end : ℕ) where
   -- the hashes of the log with it
@@ -189,14 +160,19 @@ module _ (end : ℕ) where
       let out : nat_le (end + 1) end ≡ false = grind (arith, nat_tests) in
       sym (ap (λ b. cond b (hash_at (end + 1)) (heard_hash end)) out)
 
+  number_same : end + 1 ≡ end + 1 + 0
+  number_same = omega arith
+
   heard_on : OnLog heard_at (end + 1) (segment_marks (heard_segment end))
   unfolding heard_hash
   heard_on =
       let same : end ≡ (end + 1) - 1 = omega arith in
-      plain_on heard_at (end + 1) (plain_heard end) (omega arith)
-      (subst (λ n. OnLog heard_at (end + 1) (pairs n (hash_at end)
-      (links_from (end + 1) (receipt ∷ [])))) same
-      (omega arith, sym (before_same end (omega arith)), (omega arith, last_same, tt)))
+      let last : hash_after (hash_at end) (logged_link (end + 1 + 0) (next_logged receipt))
+      ≡ heard_at (end + 1 + 0) =
+      subst (λ n. hash_after (hash_at end) (logged_link n (next_logged receipt)) ≡ heard_at n) number_same
+      last_same in
+      subst (λ n. OnLog heard_at (end + 1) (marks n (hash_at end) (logged_links n (next_logged receipt ∷ []))))
+      same (omega arith, sym (before_same end (omega arith)), (omega arith, last, tt))
 
 -- after so many rounds a message was received and audited
 pub quiet_heard : (k : ℕ) → k < 16

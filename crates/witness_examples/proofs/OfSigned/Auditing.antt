@@ -1,23 +1,25 @@
 -- A history of signed values is a history, and meets what the law on honest nodes supposes.
 -- Serves: audits.
-use Rattle.std.proofs.Common.{◌≡◌, ◌⊎◌, inl, inr, ℕ, ◌+◌, ◌<◌, ◌^◌, true, cond, ◌==◌, ◌&&◌, List, [], ◌∷◌}
+use Rattle.std.proofs.Common.{◌≡◌, ◌⊎◌, inl, inr, ℕ, ◌+◌, ◌-◌, ◌<◌, ◌^◌, true, cond, ◌==◌, ◌&&◌, List, [], ◌∷◌}
 use Rattle.std.proofs.Common.{◌++◌, Ok, Err}
 use Rattle.std.proofs.Common.{length, refl, sym, ap, ap₂, subst, arith}
+use Rattle.std.specs.List.{AllByRecursion}
 use Rattle.std.proofs.lemmas.Bool.{and_from}
 use Rattle.sha2.proofs.Facts256.{length-sha256}
 use Rattle.merkle_keys.specs.Tree.{root}
+use Rattle.authenticator.specs.declared.member.LogVersion.TheVariants.{One}
 use Rattle.authenticator.specs.Signed.{signed_digest}
 use Rattle.authenticator.proofs.Signed.{list_same}
-use Rattle.secure_log.specs.declared.log_entries.entry.Entry.{Entry}
-use Rattle.secure_log.specs.LogEntries.Chain.{hash_after, zeros, without_gaps, IsAmong}
-use Rattle.secure_log.specs.Part.{GivesPart}
+use Rattle.secure_log.specs.LogEntries.Chain.{Logged, hash_after, logged_links, span, zeros, without_gaps, IsAmong}
+use Rattle.secure_log.specs.LogEntries.Words.{MaySkip}
+use Rattle.secure_log.specs.Part.{GivesPart, open_entries, open_links}
 use Rattle.secure_log.specs.declared.open.OpenSegment.{OpenSegment}
 use Rattle.replay_spec.specs.Opening.{opening_of}
 use Rattle.state_spec.specs.State.{opening_client}
 use Rattle.replay_spec.specs.Stepping.{step}
 use Rattle.replay_spec.specs.Placed.{places_in}
 use Rattle.replay_spec.specs.Replay.{Sound, verdict_of}
-use Rattle.replay_spec.specs.HonestLogs.{IsHonestWithGaps}
+use Rattle.replay_spec.specs.HonestLogs.{IsHonestLog}
 use Rattle.witness_spec.specs.evidence_spec.Proving.{texts_of}
 use Rattle.witness_spec.proofs.evidence_spec.OneReading.{reading_texts}
 use Rattle.authenticator.specs.Signing.{is_same}
@@ -176,7 +178,7 @@ module _ (secret : List ℕ) where
   -- ---- what the law on honest nodes supposes
 
   -- the client's log, one reading of a clock, is honest
-  pub reading_honest : IsHonestWithGaps (alone secret) (opening_of (client secret)) (without_gaps readings)
+  pub reading_honest : IsHonestLog (alone secret) (opening_of (client secret)) (without_gaps readings)
       state_read
   reading_honest = record {
     states = state_read ∷ [];
@@ -210,19 +212,29 @@ unlike secret s t i j e =
     reading_texts s t (in_both s texts i) (in_both t texts j) e
 
 -- The part with all entries of its log is the log's.
-pub whole_part : (s : OpenSegment) → s.node ≡ 5 → s.first ≡ 1 → s.opening ≡ zeros → s.entries.now ≡ readings
-    → GivesPart its_log 1 1 (Ok s)
-whole_part s node first opening entries = (
-  record { some = omega arith; order = omega arith; there = omega arith },
-  omega arith,
+pub whole_part : (s : OpenSegment) → s.log_version ≡ One → s.node ≡ 5 → s.first ≡ 1 → s.opening ≡ zeros
+    → open_entries s ≡ without_gaps readings → GivesPart its_log 1 1 (Ok s)
+whole_part s version node first opening entries = (
+  record { some = omega arith; order = omega arith; after = refl; there = refl },
+  omega (arith, ap length entries),
   record {
+    version = version;
     node = node;
     number = first;
-    before = [];
-    rest = [];
-    whole = ap (λ (es : List Entry). es ++ []) (sym entries);
-    place = refl;
-    count = ap (λ (es : List Entry). 1 + length es) entries;
+    part = record {
+      before = [];
+      rest = [];
+      whole = ap (λ (ls : List Logged). ls ++ []) (sym entries);
+      place = refl;
+      count = ap (λ (ls : List Logged). 0 + span ls) entries;
+    };
     opening = opening;
   },
 )
+
+-- and skips nothing
+pub none_skipped : (s : OpenSegment) → s.log_version ≡ One → open_entries s ≡ without_gaps readings
+    → AllByRecursion (MaySkip s.log_version) (open_links s)
+none_skipped s version entries =
+    subst (λ v. AllByRecursion (MaySkip v) (open_links s)) (sym version)
+    (subst (λ ls. AllByRecursion (MaySkip One) (logged_links (s.first - 1) ls)) (sym entries) (refl, tt))

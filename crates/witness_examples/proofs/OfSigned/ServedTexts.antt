@@ -7,13 +7,14 @@ use Rattle.std.proofs.lemmas.Bool.{true≢false, and_parts}
 use Rattle.sha2.specs.Sha256.{first_words, schedule, rounds, compress, digest_bytes, sha256}
 use Rattle.sha2.specs.Sha256 as sha
 use Rattle.xdr.specs.Item.{number_spelling}
+use Rattle.replay_spec.specs.LogLaws.HonestServers.{next_logged}
 use Rattle.secure_log.specs.declared.log_entries.entry.Entry.{Entry}
 use Rattle.secure_log.specs.declared.log_entries.entry.Entry.TheVariants.{Recv, Clock, Send}
 use Rattle.secure_log.specs.LogEntries.Entry.{content, send_content, recv_content}
-use Rattle.secure_log.specs.LogEntries.Chain.{NoCollision, chain_text, hash_after, link_of, zeros, IsAmong}
-use Rattle.secure_log.specs.LogEntries.Chain.{without_gaps}
+use Rattle.secure_log.specs.LogEntries.Chain.{IsAmong, Link, NoCollision, chain_text, hash_after, logged_link}
+use Rattle.secure_log.specs.LogEntries.Chain.{without_gaps, zeros}
 use Rattle.secure_log.specs.LogEntries.Signatures.{signature_digest}
-use Rattle.witness_spec.specs.evidence_spec.Proving.{log_texts, texts_of, signature_text}
+use Rattle.witness_spec.specs.evidence_spec.Proving.{texts_of, signature_text}
 use Rattle.witness_spec.specs.Premises.{NoCollisionWith}
 use Rattle.witness_examples.specs.Signed.Served.{call, reply, call_signature, served, served_steps}
 use Rattle.witness_examples.proofs.OfSigned.Auditing.{in_both}
@@ -154,14 +155,24 @@ unfolding first_words schedule rounds compress sha.hash_after digest_bytes sha25
     chain_text
 first_from = refl
 
-first_worked : sha256 (chain_text zeros (link_of 1 received)) ≡ first_bytes
+-- the links of the log
+abbrev first_link : Link
+first_link = logged_link 1 (next_logged received)
+
+abbrev second_link : Link
+second_link = logged_link 2 (next_logged read)
+
+abbrev third_link : Link
+third_link = logged_link 3 (next_logged sent)
+
+first_worked : sha256 (chain_text zeros first_link) ≡ first_bytes
 first_worked = ap (λ d. sha256 (link_text zeros 1 2 d)) received_worked ∙ first_from
 
 second_from : sha256 (link_text first_bytes 2 4 read_bytes) ≡ second_bytes
 unfolding first_words schedule rounds compress sha.hash_after digest_bytes sha256 number_spelling chain_text
 second_from = refl
 
-second_worked : sha256 (chain_text (hash_after zeros (link_of 1 received)) (link_of 2 read)) ≡ second_bytes
+second_worked : sha256 (chain_text (hash_after zeros first_link) second_link) ≡ second_bytes
 unfolding hash_after
 second_worked = ap₂ (λ h d. sha256 (link_text h 2 4 d)) first_worked read_worked ∙ second_from
 
@@ -169,8 +180,7 @@ third_from : sha256 (link_text second_bytes 3 1 sent_bytes) ≡ third_bytes
 unfolding first_words schedule rounds compress sha.hash_after digest_bytes sha256 number_spelling chain_text
 third_from = refl
 
-third_worked : sha256 (chain_text (hash_after (hash_after zeros (link_of 1 received)) (link_of 2 read))
-    (link_of 3 sent)) ≡ third_bytes
+third_worked : sha256 (chain_text (hash_after (hash_after zeros first_link) second_link) third_link) ≡ third_bytes
 unfolding hash_after
 third_worked = ap₂ (λ h d. sha256 (link_text h 3 1 d)) second_worked sent_worked ∙ third_from
 
@@ -179,7 +189,8 @@ unfolding signature_digest
 signature_text_worked = signature_worked
 
 -- the first bytes of their digests
-first_bytes_are : map first_byte (log_texts served) ≡ 25 ∷ 45 ∷ 61 ∷ 49 ∷ 231 ∷ 55 ∷ 203 ∷ 130 ∷ 107 ∷ []
+first_bytes_are : map first_byte (texts_of (without_gaps served))
+    ≡ 25 ∷ 45 ∷ 61 ∷ 49 ∷ 231 ∷ 55 ∷ 203 ∷ 130 ∷ 107 ∷ []
 first_bytes_are =
     let first = λ (d : List ℕ). slice_index d 0 in
     λ k. first (first_worked k) ∷ first (second_worked k) ∷ first (third_worked k)
@@ -187,11 +198,11 @@ first_bytes_are =
     ∷ first (read_worked k) ∷ first (sent_worked k) ∷ first (reply_worked k) ∷ []
 
 -- no two of them have one digest
-log_texts_differ : NoCollision (log_texts served)
-log_texts_differ = no_two (log_texts served) (ap all_differ first_bytes_are)
+texts_differ : NoCollision (texts_of (without_gaps served))
+texts_differ = no_two (texts_of (without_gaps served)) (ap all_differ first_bytes_are)
 
 -- no two texts of the log and of what was answered have one digest
 pub unlike : (secret : List ℕ) → NoCollisionWith (without_gaps served) (served_steps secret)
 unlike secret s t i j e =
     let texts = texts_of (without_gaps served) in
-    log_texts_differ s t (in_both s texts i) (in_both t texts j) e
+    texts_differ s t (in_both s texts i) (in_both t texts j) e

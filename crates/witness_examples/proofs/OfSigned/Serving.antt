@@ -19,21 +19,21 @@ use Rattle.authenticator.specs.declared.member.LogVersion.TheVariants.{One}
 use Rattle.authenticator.specs.Signing.{is_same}
 use Rattle.authenticator.specs.Signed.{IsSignedBy, signed_digest}
 use Rattle.authenticator.proofs.Signed.{list_same}
-use Rattle.secure_log.specs.LogEntries.Chain.{zeros, hash_after, link_of, without_gaps}
+use Rattle.secure_log.specs.LogEntries.Chain.{zeros, hash_after, without_gaps, logged_link}
 use Rattle.secure_log.specs.declared.log_entries.entry.Entry.TheVariants.{Recv, Clock}
 use Rattle.secure_log.specs.Versioned.{segment_marks}
 use Rattle.state_spec.specs.server_spec.Replies.{reply_owed}
 use Rattle.state_spec.specs.State.{State, received_cmp, opening_server}
 use Rattle.replay_spec.specs.Opening.{opening_of}
-use Rattle.replay_spec.specs.Placed.{placed}
+use Rattle.replay_spec.specs.Placed.{Placed, logged_places}
 use Rattle.replay_spec.specs.Steps.{received_message}
 use Rattle.replay_spec.specs.Placed.{places_in}
 use Rattle.replay_spec.specs.Replay.{Honest, found, Sound, verdict_of}
-use Rattle.replay_spec.specs.HonestLogs.{IsHonestLog, IsHonestWithGaps}
+use Rattle.replay_spec.specs.HonestLogs.{IsHonestLog}
 use Rattle.replay_spec.specs.Laws.{SoundExactlyIf}
 use Rattle.replay_spec.specs.LogLaws.Laws.{HonestServersStay}
-use Rattle.replay_spec.specs.LogLaws.HonestServers.{MayHear, heard_entries}
-use Rattle.witness_spec.specs.evidence_spec.Proving.{IsLog, IsLogOf}
+use Rattle.replay_spec.specs.LogLaws.HonestServers.{MayHear, heard_entries, next_logged}
+use Rattle.witness_spec.specs.evidence_spec.Proving.{IsLogOf}
 use Rattle.witness_spec.specs.Refusals.{BadSignature}
 use Rattle.witness_spec.specs.Events.{IsEvent, IsClosedUnder, ItsIndication}
 use Rattle.witness_spec.specs.Events as events
@@ -111,8 +111,8 @@ are_bytes [] h i = omega arith
 are_bytes (x ∷ xs) h zero = ltb-true x 256 (and_parts _ _ h).0
 are_bytes (x ∷ xs) h (suc i) = are_bytes xs (and_parts _ _ h).1 i
 
--- each entry has a text
-pub served_log : IsLog served
+-- it is a log of version 1: each entry has a text, and no number is skipped
+pub served_log : IsLogOf One (without_gaps served)
 served_log = record {
   each = (
     (
@@ -135,14 +135,6 @@ served_log = record {
     ),
   );
   bytes = (are_bytes call refl, (tt, (are_bytes reply refl, tt)));
-  few = omega arith;
-}
-
--- so it is a log of version 1, where no number is skipped
-pub served_log_of : IsLogOf One (without_gaps served)
-served_log_of = record {
-  each = served_log.each;
-  bytes = served_log.bytes;
   numbers = ((refl, (refl, (refl, tt))), omega arith);
 }
 
@@ -150,13 +142,14 @@ served_log_of = record {
 
 -- the hash after the call
 abbrev heard_hash : List ℕ
-heard_hash = hash_after zeros (link_of 1 (Recv 6 1 zeros call call_signature))
+heard_hash = hash_after zeros (logged_link 1 (next_logged (Recv 6 1 zeros call call_signature)))
 
 -- the hash at each number
 abbrev pub hash_at : ℕ → List ℕ
 hash_at n =
     cond (n == 0) zeros
-    (cond (n == 1) heard_hash (cond (n == 2) (hash_after heard_hash (link_of 2 (Clock 1 0))) served_hash))
+    (cond (n == 1) heard_hash
+    (cond (n == 2) (hash_after heard_hash (logged_link 2 (next_logged (Clock 1 0)))) served_hash))
 
 module _ (secret : List ℕ) where
   abbrev pub roster : Watched
@@ -177,23 +170,19 @@ module _ (secret : List ℕ) where
 
   -- from the state that a server begins with
   pub served_honest : HonestServersStay
-      → IsHonestLog (server_and_caller secret) (opening_of (server secret)) served state_after
+      → IsHonestLog (server_and_caller secret) (opening_of (server secret)) (without_gaps served) state_after
   served_honest stays =
       subst (λ o. IsHonestLog (server_and_caller secret) (opening_server 5)
-      (heard_entries 6 1 zeros call call_signature call_time o) state_after) reply_is
+      (heard_entries 0 6 1 zeros call call_signature call_time o) state_after) reply_is
       (stays (server_and_caller secret) (opening_server 5) (opening_server 5) [] world_before 6 1 zeros call
-      call_signature call_time (record { states = []; honest = tt; last = refl }) may_hear)
+      call_signature call_time 0 (record { states = []; honest = tt; last = refl }) may_hear)
 
-  -- the same of the log with what is skipped before each entry, which is nothing
-  pub served_with_gaps : HonestServersStay
-      → IsHonestWithGaps (server_and_caller secret) (opening_of (server secret)) (without_gaps served)
-      state_after
-  served_with_gaps stays =
-      let h = served_honest stays in
-      record { states = h.states; honest = h.honest; last = h.last }
+  -- its entries' places
+  abbrev places : List Placed
+  places = logged_places 0 zeros (without_gaps served)
 
-  shows : (ts : List State) → Honest (server_and_caller secret) (opening_server 5) (placed 1 zeros served) ts
-      → found (opening_server 5) (placed 1 zeros served) ts ≡ caller_shown ∷ []
+  shows : (ts : List State) → Honest (server_and_caller secret) (opening_server 5) places ts
+      → found (opening_server 5) places ts ≡ caller_shown ∷ []
   shows [] h = absurd h
   shows (t ∷ []) h = absurd h.1
   shows (t ∷ u ∷ []) h = absurd h.1.1
@@ -205,7 +194,7 @@ module _ (secret : List ℕ) where
       ≡ Sound state_after (caller_shown ∷ [])
   served_sound sound stays =
       let h = served_honest stays in
-      (sound (server_and_caller secret) (opening_server 5) state_after (placed 1 zeros served)
+      (sound (server_and_caller secret) (opening_server 5) state_after places
       (caller_shown ∷ [])).1 (h.states, h.honest, h.last, shows h.states h.honest)
 
   -- ---- what may be handed in

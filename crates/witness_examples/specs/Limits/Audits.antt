@@ -8,7 +8,7 @@ use Rattle.authenticator.specs.declared.authenticator.Authenticator.{Authenticat
 use Rattle.authenticator.specs.declared.member.Kind.TheVariants.{Client}
 use Rattle.authenticator.specs.declared.member.LogVersion.TheVariants.{One}
 use Rattle.authenticator.specs.declared.member.Member.{Member}
-use Rattle.secure_log.specs.LogEntries.Chain.{zeros, hash_after, link_of, links_from, last_hash}
+use Rattle.secure_log.specs.LogEntries.Chain.{zeros, hash_after, last_hash, without_gaps, logged_links, logged_link}
 use Rattle.secure_log.specs.declared.log_entries.entry.Entry.{Entry}
 use Rattle.secure_log.specs.declared.log_entries.entry.Entry.TheVariants.{Clock, Recv}
 use Rattle.secure_log.specs.Versioned.{VersionedParts, of_plain}
@@ -16,6 +16,7 @@ use Rattle.replay_spec.specs.Shown.{sender_shown}
 use Rattle.state_spec.specs.State.{State, opening_client}
 use Rattle.state_spec.specs.Steps.{having_received, having_read}
 use Rattle.replay_spec.specs.Replay.{Verdict, Sound}
+use Rattle.replay_spec.specs.LogLaws.HonestServers.{next_logged}
 use Rattle.witness_spec.specs.Events.{JobParts}
 use Rattle.witness_spec.specs.Replies.{Noted, Accepted, Asked, Job, Filed, Forwarded}
 use Rattle.witness_spec.specs.Steps.{Learn, Answer, Audit, Begin, File, Forward, Past}
@@ -43,7 +44,7 @@ second_segment = of_plain (record {
   first = 2;
   opening = read_hash;
   entries = second_entries;
-  closing = learned 2 (last_hash read_hash (links_from 2 second_entries));
+  closing = learned 2 (last_hash read_hash (logged_links 1 (without_gaps second_entries)));
 })
 
 -- it begins in the state where the first audit ended
@@ -78,7 +79,7 @@ ticks n = replicate n tick
 -- the hash at a number in their log
 unfoldable pub hash_at : ℕ → List ℕ
 hash_at zero = zeros
-hash_at (suc n) = hash_after (hash_at n) (link_of (suc n) tick)
+hash_at (suc n) = hash_after (hash_at n) (logged_link (suc n) (next_logged tick))
 
 -- so many after an end, closed
 abbrev pub ticked : (end size : ℕ) → VersionedParts
@@ -137,7 +138,7 @@ receipt = Recv 6 1 zeros (7 ∷ []) its_signature
 
 -- the hash at the number after an end, where it was received
 unfoldable pub heard_hash : (end : ℕ) → List ℕ
-heard_hash end = hash_after (hash_at end) (link_of (end + 1) receipt)
+heard_hash end = hash_after (hash_at end) (logged_link (end + 1) (next_logged receipt))
 
 -- a segment with it alone
 abbrev pub heard_segment : (end : ℕ) → VersionedParts

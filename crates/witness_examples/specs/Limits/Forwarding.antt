@@ -4,10 +4,11 @@ use Rattle.std.specs.Prelude.{ℕ, List, [], ◌∷◌}
 use Rattle.merkle_keys.specs.Signing.{SignatureParts, signature_of}
 use Rattle.authenticator.specs.Signed.{signed_digest}
 use Rattle.authenticator.specs.declared.authenticator.Authenticator.{Authenticator}
-use Rattle.secure_log.specs.LogEntries.Chain.{zeros, links_from, last_hash}
+use Rattle.secure_log.specs.LogEntries.Chain.{zeros, without_gaps}
 use Rattle.secure_log.specs.declared.log_entries.entry.Entry.{Entry}
 use Rattle.secure_log.specs.declared.log_entries.entry.Entry.TheVariants.{Recv}
 use Rattle.secure_log.specs.Versioned.{VersionedParts, of_plain}
+use Rattle.secure_log.specs.Log.{log_hash}
 use Rattle.replay_spec.specs.Shown.{sender_shown}
 use Rattle.state_spec.specs.State.{State, opening_client}
 use Rattle.state_spec.specs.Steps.{having_received}
@@ -42,7 +43,7 @@ both_segment = of_plain (record {
   first = 1;
   opening = zeros;
   entries = both_receipts;
-  closing = learned 2 (last_hash zeros (links_from 1 both_receipts));
+  closing = learned 2 (log_hash (without_gaps both_receipts));
 })
 
 -- the job of it

@@ -8,11 +8,11 @@ use Rattle.authenticator.specs.declared.authenticator.Authenticator.{Authenticat
 use Rattle.authenticator.specs.declared.member.Kind.TheVariants.{Client}
 use Rattle.authenticator.specs.declared.member.LogVersion.TheVariants.{One}
 use Rattle.authenticator.specs.declared.member.Member.{Member}
-use Rattle.secure_log.specs.LogEntries.Chain.{zeros, links_from, last_hash}
+use Rattle.secure_log.specs.LogEntries.Chain.{zeros, without_gaps}
 use Rattle.secure_log.specs.declared.log_entries.entry.Entry.{Entry}
 use Rattle.secure_log.specs.declared.log_entries.entry.Entry.TheVariants.{Clock}
-use Rattle.secure_log.specs.Log.{LogParts}
-use Rattle.secure_log.specs.Versioned.{VersionedParts, ClosedVersionedParts, of_plain}
+use Rattle.secure_log.specs.Log.{LogParts, log_hash}
+use Rattle.secure_log.specs.Versioned.{VersionedParts, ClosedParts, of_plain}
 use Rattle.state_spec.specs.State.{State, opening_client}
 use Rattle.state_spec.specs.Steps.{having_read}
 use Rattle.replay_spec.specs.Replay.{Sound}
@@ -40,11 +40,11 @@ readings = Clock 1 0 ∷ []
 
 -- a log of these entries
 abbrev pub its_log : LogParts
-its_log = record { node = 5; entries = readings; spare = 0 }
+its_log = record { node = 5; log_version = One; entries = without_gaps readings; spare = 0 }
 
 -- the hash at its end
 abbrev pub read_hash : List ℕ
-read_hash = last_hash zeros (links_from 1 readings)
+read_hash = log_hash (without_gaps readings)
 
 -- the client's state after it
 abbrev pub state_read : State
@@ -74,7 +74,7 @@ signed_segment secret = of_plain (record {
 })
 
 -- the same under the client's roster
-abbrev pub signed_closed : (secret : List ℕ) → ClosedVersionedParts
+abbrev pub signed_closed : (secret : List ℕ) → ClosedParts
 signed_closed secret = record { segment = signed_segment secret; roster = alone secret }
 
 -- the job of replaying it

@@ -1,10 +1,11 @@
 -- A history of values that are really signed, of a client whose clock goes back: it reads 1 second, then 0.
 use Rattle.std.specs.Prelude.{ℕ, List, [], ◌∷◌}
 use Rattle.authenticator.specs.declared.authenticator.Authenticator.{Authenticator}
-use Rattle.secure_log.specs.LogEntries.Chain.{zeros, links_from, last_hash}
+use Rattle.secure_log.specs.LogEntries.Chain.{zeros, without_gaps}
 use Rattle.secure_log.specs.declared.log_entries.entry.Entry.{Entry}
 use Rattle.secure_log.specs.declared.log_entries.entry.Entry.TheVariants.{Clock}
-use Rattle.secure_log.specs.Versioned.{VersionedParts, ClosedVersionedParts, of_plain}
+use Rattle.secure_log.specs.Versioned.{VersionedParts, ClosedParts, of_plain}
+use Rattle.secure_log.specs.Log.{log_hash}
 use Rattle.state_spec.specs.State.{opening_client}
 use Rattle.replay_spec.specs.Stepping.{ClockBack}
 use Rattle.replay_spec.specs.Replay.{Fault}
@@ -21,7 +22,7 @@ back_readings = Clock 1 0 ∷ Clock 0 0 ∷ []
 
 -- the hash at its end
 abbrev pub back_hash : List ℕ
-back_hash = last_hash zeros (links_from 1 back_readings)
+back_hash = log_hash (without_gaps back_readings)
 
 -- its authenticator of that
 abbrev pub back_end : (secret : List ℕ) → Authenticator
@@ -38,7 +39,7 @@ back_segment secret = of_plain (record {
 })
 
 -- the same under the client's roster
-abbrev pub back_closed : (secret : List ℕ) → ClosedVersionedParts
+abbrev pub back_closed : (secret : List ℕ) → ClosedParts
 back_closed secret = record { segment = back_segment secret; roster = alone secret }
 
 -- the job of replaying it

@@ -11,11 +11,12 @@ use Rattle.authenticator.specs.declared.authenticator.Authenticator.{Authenticat
 use Rattle.authenticator.specs.declared.member.Kind.TheVariants.{Server, Client}
 use Rattle.authenticator.specs.declared.member.LogVersion.TheVariants.{One}
 use Rattle.authenticator.specs.declared.member.Member.{Member}
-use Rattle.secure_log.specs.LogEntries.Chain.{zeros, links_from, last_hash}
+use Rattle.secure_log.specs.LogEntries.Chain.{zeros, without_gaps}
 use Rattle.secure_log.specs.LogEntries.Messages.{message_hash}
 use Rattle.secure_log.specs.declared.log_entries.entry.Entry.{Entry}
 use Rattle.secure_log.specs.declared.log_entries.entry.Entry.TheVariants.{Recv, Clock, Send}
-use Rattle.secure_log.specs.Versioned.{VersionedParts, ClosedVersionedParts, of_plain}
+use Rattle.secure_log.specs.Versioned.{VersionedParts, ClosedParts, of_plain}
+use Rattle.secure_log.specs.Log.{log_hash}
 use Rattle.state_spec.specs.State.{State, opening_server}
 use Rattle.nfs_items.specs.Timeval.{Timeval}
 use Rattle.state_spec.specs.server_spec.World.{World, opening_world}
@@ -102,11 +103,11 @@ served = Recv 6 1 zeros call call_signature ∷ Clock 1 0 ∷ Send 6 reply ∷ [
 
 -- the hash at its end
 abbrev pub served_hash : List ℕ
-served_hash = last_hash zeros (links_from 1 served)
+served_hash = log_hash (without_gaps served)
 
 -- the server's state after it
 abbrev pub state_after : State
-state_after = state_served (opening_server 5) world_before 6 1 zeros call call_signature call_time 1 zeros
+state_after = state_served (opening_server 5) world_before 0 6 1 zeros call call_signature call_time 0 zeros
 
 -- the server's authenticator of its log's end
 abbrev pub served_end : (secret : List ℕ) → Authenticator
@@ -123,7 +124,7 @@ served_segment secret = of_plain (record {
 })
 
 -- the same under the roster
-abbrev pub served_closed : (secret : List ℕ) → ClosedVersionedParts
+abbrev pub served_closed : (secret : List ℕ) → ClosedParts
 served_closed secret = record { segment = served_segment secret; roster = server_and_caller secret }
 
 -- the job of replaying it

@@ -7,7 +7,7 @@ ghost use Rattle.authenticator.specs.Roster.{IsRoster, member_of};
 ghost use Rattle.secure_log.specs.LogEntries.Chain.{without_gaps};
 ghost use Rattle.state_spec.specs.server_spec.Replies.{reply_owed};
 ghost use Rattle.replay_spec.specs.Opening.{opening_of};
-ghost use Rattle.replay_spec.specs.HonestLogs.{IsHonestWithGaps};
+ghost use Rattle.replay_spec.specs.HonestLogs.{IsHonestLog};
 ghost use Rattle.witness_spec.specs.evidence_spec.Proving.{IsLogOf};
 ghost use Rattle.witness_spec.specs.Events.{ItsIndication};
 ghost use Rattle.witness_spec.specs.Replies.{Noted, Asked, Accepted, Job, Filed, Forwarded, Told, Trusted};
@@ -81,7 +81,7 @@ pub fn histories_of_answers_are_possible()
 pub fn premises_of_answers_are_possible()
     ensures log { IsLogOf One (without_gaps served) }
     ensures honest { (secret : List ℕ) →
-        IsHonestWithGaps (server_and_caller secret) (opening_of (server secret)) (without_gaps served)
+        IsHonestLog (server_and_caller secret) (opening_of (server secret)) (without_gaps served)
         state_after }
     ensures unforged { (secret : List ℕ) →
         Unforged (watched (server_and_caller secret) (server secret)) (without_gaps served)

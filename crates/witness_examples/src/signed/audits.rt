@@ -1,15 +1,17 @@
 //! A history of values that are really signed: what the laws on honest nodes suppose holds of it.
 
 ghost use Rattle.std.specs.Prelude.{◌≡◌, ℕ, List, [], Some, Ok};
+ghost use Rattle.std.specs.List.{AllByRecursion};
 ghost use Rattle.authenticator.specs.declared.member.LogVersion.TheVariants.{One};
 ghost use Rattle.authenticator.specs.Roster.{IsRoster, member_of};
 ghost use Rattle.authenticator.specs.Signed.{IsSignedBy};
 ghost use Rattle.secure_log.specs.LogEntries.Chain.{zeros, without_gaps};
 ghost use Rattle.secure_log.specs.Log.{IsOfPlace};
-ghost use Rattle.secure_log.specs.Part.{GivesPart};
+ghost use Rattle.secure_log.specs.LogEntries.Words.{MaySkip};
+ghost use Rattle.secure_log.specs.Part.{GivesPart, open_entries, open_links};
 ghost use Rattle.secure_log.specs.declared.open.OpenSegment.{OpenSegment};
 ghost use Rattle.replay_spec.specs.Opening.{opening_of};
-ghost use Rattle.replay_spec.specs.HonestLogs.{IsHonestWithGaps};
+ghost use Rattle.replay_spec.specs.HonestLogs.{IsHonestLog};
 ghost use Rattle.witness_spec.specs.evidence_spec.Proving.{IsLogOf};
 ghost use Rattle.witness_spec.specs.Events.{ItsIndication};
 ghost use Rattle.witness_spec.specs.Replies.{Noted, Asked, Accepted, Job, Filed, Told, Trusted};
@@ -63,7 +65,7 @@ pub fn signed_histories_are_possible()
 pub fn honest_premises_are_possible()
     ensures log { IsLogOf One (without_gaps readings) }
     ensures honest { (secret : List ℕ) →
-        IsHonestWithGaps (alone secret) (opening_of (client secret)) (without_gaps readings) state_read }
+        IsHonestLog (alone secret) (opening_of (client secret)) (without_gaps readings) state_read }
     ensures unforged { (secret : List ℕ) →
         Unforged (watched (alone secret) (client secret)) (without_gaps readings)
         (own (alone secret) 5 (audited_events secret)) }
@@ -74,14 +76,18 @@ pub fn honest_premises_are_possible()
 }
 
 /// All that the law on answers supposes holds after the second of these events: the whole log was asked for,
-/// the part that holds it is the log's, and what closes it is of the log's last place, and signed.
+/// the part that holds it is the log's and skips nothing, and what closes it is of the log's last place, and
+/// signed.
 pub fn answer_premises_are_possible()
     ensures history { (secret : List ℕ) → IsHistory (alone secret) (asked_event secret) }
     ensures asked { (secret : List ℕ) →
         stage_of (own (alone secret) 5 (asked_event secret)) ≡ Wanted 1 1 }
     ensures part { (s : OpenSegment) →
-        s.node ≡ 5 → s.first ≡ 1 → s.opening ≡ zeros → s.entries.now ≡ readings →
-        GivesPart its_log 1 1 (Ok s) }
+        s.log_version ≡ One → s.node ≡ 5 → s.first ≡ 1 → s.opening ≡ zeros →
+        open_entries s ≡ without_gaps readings → GivesPart its_log 1 1 (Ok s) }
+    ensures skips { (s : OpenSegment) →
+        s.log_version ≡ One → open_entries s ≡ without_gaps readings →
+        AllByRecursion (MaySkip s.log_version) (open_links s) }
     ensures place { (secret : List ℕ) → IsOfPlace its_log 1 (signed_end secret) }
     ensures signed { (secret : List ℕ) → IsSignedBy (client secret) (signed_end secret) }
 {

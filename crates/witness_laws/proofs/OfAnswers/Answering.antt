@@ -1,21 +1,24 @@
 -- Answers are their node's steps, and close what is open.
 -- Serves: answers_are_accepted, acknowledgements_close, answers_close_challenges.
-use Rattle.std.proofs.Common.{◌≡◌, ◌↔◌, inl, inr, ℕ, Bool, true, false, cond, not, ◌==◌, ◌&&◌}
-use Rattle.std.proofs.Common.{List, [], ◌∷◌, ◌++◌, filter, IsSomeAnd, Ok, Err}
-use Rattle.std.proofs.Common.{refl, sym, ap, ap₂, subst, ◌∙◌, eq-eqb, arith, ◌<◌}
+use Rattle.std.proofs.Common.{◌≡◌, ◌↔◌, inl, inr, ℕ, ◌+◌, ◌-◌, ◌<◌, Bool, true, false, cond, not, ◌==◌, ◌&&◌}
+use Rattle.std.proofs.Common.{List, [], ◌∷◌, ◌++◌, length, filter, IsSomeAnd, Some, Ok, Err}
+use Rattle.std.proofs.Common.{refl, sym, ap, ap₂, subst, ◌∙◌, append_assoc, eq-eqb, arith}
+use Rattle.std.specs.List.{AllByRecursion}
 use Rattle.std.proofs.lemmas.Bool.{and_from, or_left, or_right, true≢false}
 use Rattle.authenticator.specs.Roster.{member_of, is_of_version, kind_number, log_number, same_version}
-use Rattle.authenticator.specs.declared.member.LogVersion.TheVariants.{One}
 use Rattle.authenticator.specs.Signed.{IsSignedBy}
 use Rattle.authenticator.specs.declared.authenticator.Authenticator.{Authenticator}
 use Rattle.authenticator.specs.declared.member.Member.{Member}
-use Rattle.secure_log.specs.LogEntries.Chain.{IsAmong}
-use Rattle.secure_log.specs.Log.{LogParts, IsOfPlace}
-use Rattle.secure_log.specs.Part.{GivesPart, with_closing}
-use Rattle.secure_log.specs.Segment.{IsClosed}
-use Rattle.secure_log.specs.Versioned.{ClosedVersionedParts}
+use Rattle.secure_log.specs.LogEntries.Chain.{IsAmong, Logged, last_hash, span, zeros}
+use Rattle.secure_log.specs.LogEntries.Words.{MaySkip}
+use Rattle.secure_log.specs.Log.{LogParts, IsOfPlace, hash_at, log_hash, log_pairs}
+use Rattle.secure_log.specs.Part.{GivesPart, HasPlaces, IsPart, open_entries, open_links}
+use Rattle.secure_log.specs.Versioned.{ClosedParts, EndsIn, IsClosedIn}
 use Rattle.secure_log.specs.declared.open.OpenSegment.{OpenSegment}
-use Rattle.secure_log.proofs.Places.{closed_at_its_last}
+use Rattle.secure_log.proofs.Gaps.{closing_number}
+use Rattle.secure_log.proofs.OfLogEntries.Pairs.{at_place, last_number_is, span-append}
+use Rattle.secure_log.proofs.Parts.{closed_at_its_last, part_end}
+use Rattle.secure_log.proofs.Places.{each_place}
 use Rattle.envelopes.specs.Envelope.{envelope_message}
 use Rattle.envelopes.specs.Acknowledgement.{acked_message}
 use Rattle.envelopes.specs.declared.envelope.Envelope.{Envelope}
@@ -36,7 +39,6 @@ use Rattle.witness_spec.specs.Owing.{reply_told, answer_reply, is_open, IsOut, O
 use Rattle.witness_spec.specs.Histories.{History, OwesTo, IsOwed, own_of}
 use Rattle.witness_spec.specs.Laws.{AnswersAudit, answer_of, ClosesChallenge}
 use Rattle.witness_spec.specs.Pairs.{last_of}
-use Rattle.witness_spec.proofs.evidence_spec.WithoutGaps.{closed_plain}
 use Rattle.witness_laws.proofs.Replied.{one_reply}
 use Rattle.witness_laws.proofs.OwnSteps.{its_own}
 
@@ -112,7 +114,33 @@ only_reply w history e step good its none told reply =
 
 -- ---- answers
 
-answer_told : (stage : Stage) (c : ClosedVersionedParts) (first last : ℕ) → stage ≡ Wanted first last
+-- a part has some entry
+some_entries : (log : LogParts) (from to : ℕ) (s : OpenSegment) → HasPlaces log from to → IsPart log from to s
+    → 0 < length (open_entries s)
+some_entries log from to s places part =
+    let p = part.part in by (open_entries s) (omega (arith, places.order, p.place, p.count))
+  where
+    by : (ls : List Logged) → 0 < span ls → 0 < length ls
+    by [] some = absurd (omega (arith, some))
+    by (l ∷ ls) some = omega arith
+
+-- at its last number the log has the hash after its links
+pub part_hash : (log : LogParts) (from to : ℕ) (s : OpenSegment) → IsPart log from to s
+    → hash_at log.entries to ≡ Some (last_hash s.opening (open_links s))
+part_hash log from to s part =
+    let p = part.part in
+    let own = open_entries s in
+    let front : List Logged = p.before ++ own in
+    let whole : log.entries ≡ front ++ p.rest = p.whole ∙ sym (append_assoc p.before own p.rest) in
+    let number : 0 + span front ≡ to = omega (arith, span-append p.before own, p.count) in
+    let there : IsAmong (to, log_hash front) (log_pairs log.entries) =
+    subst (λ ls. IsAmong (to, log_hash front) (log_pairs ls)) (sym whole)
+    (subst (λ n. IsAmong (n, log_hash front) (log_pairs (front ++ p.rest))) number
+    (at_place 0 zeros front p.rest)) in
+    (each_place log.entries to (log_hash front)).1 there
+    ∙ ap Some (sym (part_end log.entries from to s.first s.opening own p part.number part.opening))
+
+answer_told : (stage : Stage) (c : ClosedParts) (first last : ℕ) → stage ≡ Wanted first last
     → c.segment.first ≡ first → last_of c.segment ≡ last → Accepted ≡ answer_reply stage c
 answer_told stage c first last is e f =
     sym (ap (λ s. answer_reply s c) is
@@ -121,13 +149,13 @@ answer_told stage c first last is e f =
     (eq-eqb c.segment.first first e) (eq-eqb (last_of c.segment) last f)))
 
 module _ (w : Watched) (history : History) (is : IsInRoster w) where
-  answer_its : (c : ClosedVersionedParts) → c.roster ≡ w.roster → c.segment.closing.node ≡ w.member.node
+  answer_its : (c : ClosedParts) → c.roster ≡ w.roster → c.segment.closing.node ≡ w.member.node
       → whose w.roster (events.Answer c) ≡ Ok (record { member = w.member; step = Answer c })
   answer_its c roster node =
       ap₂ (λ x b. closed_step x b (Answer c)) (ap (member_of w.roster) node ∙ is)
       (ap (λ r. same_roster r w.roster) roster ∙ roster_self w.roster)
 
-  answer_closes : (c : ClosedVersionedParts)
+  answer_closes : (c : ClosedParts)
       → whose w.roster (events.Answer c) ≡ Ok (record { member = w.member; step = Answer c })
       → (first last : ℕ)
       → ¬ IsAmong (AuditOf first last)
@@ -143,28 +171,34 @@ module _ (w : Watched) (history : History) (is : IsInRoster w) where
 
   -- the part of a log that an audit asked for, closed by the node's signature, answers the audit
   pub answers : (log : LogParts) (first last : ℕ) (s : OpenSegment) (closing : Authenticator)
-      → log.node ≡ w.member.node → w.member.log_version ≡ One → stage_of (own_of w history) ≡ Wanted first last
-      → GivesPart log first last (Ok s) → IsOfPlace log last closing → IsSignedBy w.member closing
-      → AnswersAudit w history (answer_of w.roster s closing)
-  answers log first last s closing node version stage part place signed =
-      let c : ClosedVersionedParts = answer_of w.roster s closing in
+      → log.node ≡ w.member.node → log.log_version ≡ w.member.log_version
+      → stage_of (own_of w history) ≡ Wanted first last → GivesPart log first last (Ok s)
+      → AllByRecursion (MaySkip s.log_version) (open_links s) → IsOfPlace log last closing
+      → IsSignedBy w.member closing → AnswersAudit w history (answer_of w.roster s closing)
+  answers log first last s closing node version stage part may place signed =
+      let c : ClosedParts = answer_of w.roster s closing in
+      let p = part.2.part in
       let here : closing.node ≡ w.member.node = place.node ∙ node in
       let its = answer_its c refl here in
-      let plain = with_closing s closing in
-      let ends = (closed_at_its_last log first last s part.0 part.2 closing).1 place in
-      let some : 0 < plain.first = omega (arith, part.2.number, part.0.some) in
-      let closed : IsClosed w.roster plain = record {
-        version = ap (is_of_version One) (ap (member_of w.roster) (sym ends.node ∙ here) ∙ is)
-            ∙ ap (λ v. same_version v One) version;
+      let ends : EndsIn c.segment =
+      (closed_at_its_last log first last s part.2 (some_entries log first last s part.0 part.2)
+      (last_hash s.opening (open_links s)) (part_hash log first last s part.2) refl closing may).1 place in
+      let number = closing_number s.log_version (s.first - 1) (open_links s) closing.word may ends.last in
+      let up_to : last_of c.segment ≡ last =
+      omega (arith, number, last_number_is (s.first - 1) (open_entries s), part.2.number, p.place, p.count) in
+      let closed : IsClosedIn w.roster c.segment = record {
+        version = ap (is_of_version s.log_version) (ap (member_of w.roster) (part.2.node ∙ node) ∙ is)
+            ∙ eq-eqb (log_number w.member.log_version) (log_number s.log_version)
+            (ap log_number (sym (part.2.version ∙ version)));
         ends = ends;
         signed = subst (λ x. IsSomeAnd x (λ n. IsSignedBy n closing))
             (sym (ap (member_of w.roster) here ∙ is)) signed;
       } in
       record {
-        closed = (closed_plain plain some w.roster).0 closed;
+        closed = closed;
         its = its;
         reply = only_reply w history (events.Answer c) (Answer c) Accepted its (λ h. h)
-            (answer_told (stage_of (own_of w history)) c first last stage part.2.number place.number);
+            (answer_told (stage_of (own_of w history)) c first last stage part.2.number up_to);
         closes = answer_closes c its;
       }
 

@@ -9,7 +9,7 @@ use Rattle.authenticator.specs.Signing.{is_same}
 use Rattle.authenticator.proofs.Signed.{same_list}
 use Rattle.secure_log.specs.declared.log_entries.entry.Entry.{Entry}
 use Rattle.secure_log.specs.declared.log_entries.entry.Entry.TheVariants as entries
-use Rattle.secure_log.specs.Versioned.{VersionedParts, ClosedVersionedParts}
+use Rattle.secure_log.specs.Versioned.{VersionedParts, ClosedParts}
 use Rattle.envelopes.specs.Envelope.{envelope_message}
 use Rattle.envelopes.specs.declared.envelope.Envelope.{Envelope}
 use Rattle.envelopes.specs.declared.message.Message.{Message}
@@ -137,7 +137,7 @@ true_not : (b : Bool) → ¬ (b ≡ true) → not b ≡ true
 true_not true h = absurd (h refl)
 true_not false h = refl
 
-module _ (w : Watched) (history : History) (c : ClosedVersionedParts)
+module _ (w : Watched) (history : History) (c : ClosedParts)
     (its : whose w.roster (events.Answer c) ≡ Ok (record { member = w.member; step = Answer c })) where
   -- what is open before the answer
   abbrev before : List Challenge

@@ -15,7 +15,7 @@ use Rattle.authenticator.specs.declared.member.Member.{Member}
 use Rattle.secure_log.specs.LogEntries.Chain.{Link, Logged, zeros, last_hash, logged_link}
 use Rattle.secure_log.specs.LogEntries.Chain.{logged_links, span, IsAmong}
 use Rattle.secure_log.specs.LogEntries.Words.{ClosesAt, MaySkip, last_word}
-use Rattle.secure_log.specs.Versioned.{VersionedParts, ClosedVersionedParts, logged_item, logged_values}
+use Rattle.secure_log.specs.Versioned.{VersionedParts, ClosedParts, logged_item, logged_values}
 use Rattle.secure_log.specs.Versioned.{segment_marks, start_number, versioned_links, versioned_value}
 use Rattle.secure_log.proofs.Gaps.{length-logged_links}
 use Rattle.secure_log.proofs.VersionedTexts.{length-values, whole_is}
@@ -27,7 +27,9 @@ use Rattle.witness_spec.specs.replay_spec.Replay.{Sound, Fault, Honest, last_sta
 use Rattle.witness_spec.proofs.replay_spec.Runs.{is_sound, first_fault, is_fault, joined, last_joined}
 use Rattle.witness_spec.specs.evidence_spec.Evidence.{AcceptsReplay, Replay, replay_item}
 use Rattle.witness_spec.proofs.evidence_spec.Chained.{zeros-length}
-use Rattle.witness_spec.proofs.evidence_spec.Reached.{hash_joined, logged_joined, places_logged, span-append}
+use Rattle.witness_spec.proofs.evidence_spec.Reached.{places_logged}
+use Rattle.witness_spec.proofs.replay_spec.Places.{places_joined}
+use Rattle.secure_log.proofs.OfLogEntries.Pairs.{hash_joined, span-append}
 use Rattle.witness_spec.specs.Events.{JobParts}
 use Rattle.witness_spec.specs.Replies.{Reply}
 use Rattle.witness_spec.specs.Watched.{Watched, IsInRoster}
@@ -151,7 +153,7 @@ record IsJoined (w : Watched) (past : Past) (s : VersionedParts) : Type 0 where
   places : logged_places 0 zeros (audited w past ++ s.entries)
       ≡ logged_places 0 zeros (audited w past) ++ places_in s
 
-is_joined : (w : Watched) (past : Past) (c : ClosedVersionedParts) → IsInRoster w → is_exposed w past ≡ false
+is_joined : (w : Watched) (past : Past) (c : ClosedParts) → IsInRoster w → is_exposed w past ≡ false
     → IsAudited w past → IsNext w past c → IsGoodSegment w c.segment → IsJoined w past c.segment
 is_joined w past c member e a next good =
     let s = c.segment in
@@ -192,14 +194,14 @@ is_joined w past c member e a next good =
       closes = subst (λ ls. ClosesAt v 0 ls word) (sym (links_joined 0 front es))
           (closes_after v 0 (s.first - 1) (logged_links 0 front) (logged_links (0 + span front) es) word
           (omega (arith, length-logged_links (0 + span front) es, has_entry w s good)) last);
-      places = logged_joined 0 zeros front es
+      places = places_joined 0 zeros front es
           ∙ ap (λ n. logged_places 0 zeros front ++ logged_places n hash es) place
           ∙ ap (λ h. logged_places 0 zeros front ++ logged_places (s.first - 1) h es) opening
           ∙ ap (λ ps. logged_places 0 zeros front ++ ps) (sym own);
     }
 
 -- its last pair was shown
-last_shown : (w : Watched) (past : Past) (c : ClosedVersionedParts) → IsNext w past c
+last_shown : (w : Watched) (past : Past) (c : ClosedParts) → IsNext w past c
     → IsGoodSegment w c.segment
     → IsAmong (last_of c.segment, c.segment.closing.hash) (shown w past)
 last_shown w past c next good =

@@ -9,7 +9,7 @@ use Rattle.authenticator.specs.Roster.{member_of, log_number, is_of_version}
 use Rattle.secure_log.specs.LogEntries.Chain.{IsAmong}
 use Rattle.secure_log.specs.LogEntries.Chain.{AreNumbered, last_number}
 use Rattle.secure_log.specs.declared.segment.TheConstants.{MAX_ENTRIES}
-use Rattle.secure_log.specs.Versioned.{VersionedParts, ClosedVersionedParts, FitsVersion, IsClosedIn}
+use Rattle.secure_log.specs.Versioned.{VersionedParts, ClosedParts, FitsVersion, IsClosedIn}
 use Rattle.secure_log.specs.Versioned.{is_whole_in, versioned_links, versioned_value}
 use Rattle.secure_log.proofs.Gaps.{closing_number, logged_after, rise}
 use Rattle.witness_spec.specs.Pairs.{last_of}
@@ -42,7 +42,7 @@ pub record IsGoodSegment (w : Watched) (s : VersionedParts) : Type 0 where
   pub node : s.closing.node ≡ w.member.node
 
 -- a segment that a checked answer gives is one of the node's, closed, with a text
-pub good_given : (w : Watched) (c : ClosedVersionedParts) → IsGiven w c
+pub good_given : (w : Watched) (c : ClosedParts) → IsGiven w c
     → IsGoodSegment w c.segment
 good_given w c given =
     record { fits = given.fits; whole = given.whole; closed = given.closed; node = given.node }
@@ -90,7 +90,7 @@ pub record IsHeld (past : Past) (number : ℕ) : Type 0 where
   pub to : number ≤ last_of segment
 
 -- a segment that was accepted lies after the end
-pub record IsNext (w : Watched) (past : Past) (c : ClosedVersionedParts) : Type 0 where
+pub record IsNext (w : Watched) (past : Past) (c : ClosedParts) : Type 0 where
   -- it was accepted
   pub among : IsAmong c.segment (all_accepted past)
   -- its first number is the one after the end
@@ -133,7 +133,7 @@ module _ (w : Watched) (past : Past) (p : Step × Reply) where
       → IsAmong s (all_accepted (p ∷ past))
   accepted_stays s i = by (accepted p.0 p.1)
     where
-      by : (o : Option ClosedVersionedParts) → IsAmong s (segment_of o ++ all_accepted past)
+      by : (o : Option ClosedParts) → IsAmong s (segment_of o ++ all_accepted past)
       by None = i
       by (Some c) = inr i
 
@@ -141,7 +141,7 @@ module _ (w : Watched) (past : Past) (p : Step × Reply) where
   held_stays n h =
       record { segment = h.segment; among = accepted_stays h.segment h.among; from = h.from; to = h.to }
 
-  next_stays : (c : ClosedVersionedParts) → filed p.0 p.1 ≡ None → IsNext w past c → IsNext w (p ∷ past) c
+  next_stays : (c : ClosedParts) → filed p.0 p.1 ≡ None → IsNext w past c → IsNext w (p ∷ past) c
   next_stays c h k = record {
     among = accepted_stays c.segment k.among;
     first = k.first ∙ ap (λ (e : End). e.number + 1) (sym (end_stays h));
@@ -180,7 +180,7 @@ module _ (w : Watched) (past : Past) (p : Step × Reply) where
   }
 
   -- a segment is accepted
-  gives : (c : ClosedVersionedParts) → IsGoodSegment w c.segment
+  gives : (c : ClosedParts) → IsGoodSegment w c.segment
       → stage_of past ≡ Wanted c.segment.first (last_of c.segment)
       → Did past p None (Some c) None (Given c) → Stand w past → Stand w (p ∷ past)
   gives c good wanted did k =

@@ -10,7 +10,7 @@ use Rattle.std.proofs.lemmas.Bool.{and_parts, and_from, true≢false, ltb-true, 
 use Rattle.std.proofs.lemmas.Option.{same_Some}
 use Rattle.authenticator.specs.declared.authenticator.Authenticator.{Authenticator}
 use Rattle.secure_log.specs.LogEntries.Chain.{IsAmong}
-use Rattle.secure_log.specs.Versioned.{VersionedParts, ClosedVersionedParts, segment_marks, versioned_links}
+use Rattle.secure_log.specs.Versioned.{VersionedParts, ClosedParts, segment_marks, versioned_links}
 use Rattle.authenticator.specs.Signing.{is_same}
 use Rattle.authenticator.proofs.Signed.{same_list, list_same, is_false}
 use Rattle.witness_spec.specs.evidence_spec.Showing.{ShowingParts}
@@ -138,7 +138,7 @@ module _ (w : Watched) where
       (pairs_accepted (accepted p.0 p.1) ++ shown w past)
       (by (accepted p.0 p.1) i (λ k. accepted_shown past s q k j))
     where
-      by : (o : Option ClosedVersionedParts) → IsAmong s (segment_of o ++ all_accepted past)
+      by : (o : Option ClosedParts) → IsAmong s (segment_of o ++ all_accepted past)
           → (IsAmong s (all_accepted past) → IsAmong q (shown w past))
           → IsAmong q (pairs_accepted o ++ shown w past)
       by None i rest = rest i
@@ -245,7 +245,7 @@ module _ (w : Watched) where
           (subst (λ o. IsAmong a (unless_exposed false o ++ noted_before w past)) (sym h) (inl refl)))
           same
 
-      by_accepted : (o : Option ClosedVersionedParts) → accepted p.0 p.1 ≡ o
+      by_accepted : (o : Option ClosedParts) → accepted p.0 p.1 ≡ o
           → IsAmong (n, x) (pairs_accepted o)
           → Source (p ∷ past) n x
       by_accepted None h i = absurd i

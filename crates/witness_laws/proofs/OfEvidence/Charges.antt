@@ -14,7 +14,7 @@ use Rattle.authenticator.specs.declared.authenticator.Authenticator.{Authenticat
 use Rattle.authenticator.specs.declared.member.LogVersion.{LogVersion}
 use Rattle.authenticator.specs.declared.member.LogVersion.TheVariants.{One, Two}
 use Rattle.secure_log.specs.LogEntries.Chain.{zeros, IsAmong}
-use Rattle.secure_log.specs.Versioned.{VersionedParts, ClosedVersionedParts, segment_marks, versioned_links}
+use Rattle.secure_log.specs.Versioned.{VersionedParts, ClosedParts, segment_marks, versioned_links}
 use Rattle.secure_log.specs.Versioned.{versioned_value}
 use Rattle.secure_log.proofs.OfLogEntries.Marks.{one_mark}
 use Rattle.authenticator.specs.Signing.{is_same}
@@ -364,7 +364,7 @@ module _ (w : Watched) (past : Past) (p : Step × Reply) (member : IsInRoster w)
 
   -- ---- what a step does
 
-  shown_by : (a : Option Authenticator) (c : Option ClosedVersionedParts) → noted p.0 p.1 ≡ a
+  shown_by : (a : Option Authenticator) (c : Option ClosedParts) → noted p.0 p.1 ≡ a
       → accepted p.0 p.1 ≡ c
       → shown w (p ∷ past)
       ≡ pairs_noted w.member.log_version false a ++ (pairs_accepted c ++ shown w past)
@@ -378,7 +378,7 @@ module _ (w : Watched) (past : Past) (p : Step × Reply) (member : IsInRoster w)
       → has_fault w (p ∷ past) ≡ (finds_fault w.roster (end_of w past).state j || has_fault w past)
   fault_by j is = ap (λ x. finds_fault w.roster (end_of w past).state x || has_fault w past) is
 
-  charge_by : (a : Option Authenticator) (c : Option ClosedVersionedParts) (j : Option JobParts)
+  charge_by : (a : Option Authenticator) (c : Option ClosedParts) (j : Option JobParts)
       → noted p.0 p.1 ≡ a
       → accepted p.0 p.1 ≡ c → filed p.0 p.1 ≡ j → new_charge w past p.0 p.1 ≡ charge_of w past a c j
   charge_by a c j is_a is_c is_j =

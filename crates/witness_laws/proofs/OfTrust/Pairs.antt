@@ -1,15 +1,26 @@
--- Marks of one log have no fork.
+-- Pairs of a log are marks of it, and its marks have no fork.
 -- Serves: honest_is_never_exposed.
-use Rattle.std.proofs.Common.{◌≡◌, ◌⊎◌, inl, inr, Bool, true, false, not, ◌==◌, ◌&&◌, List, [], ◌∷◌}
+use Rattle.std.proofs.Common.{◌≡◌, ◌⊎◌, inl, inr, ℕ, ◌+◌, Bool, true, false, not, ◌==◌, ◌&&◌, List, [], ◌∷◌}
 use Rattle.std.proofs.Common.{◌++◌, refl, sym, ap, subst, eqb-true}
 use Rattle.std.proofs.lemmas.Bool.{or_from}
 use Rattle.authenticator.proofs.Signed.{list_same}
-use Rattle.secure_log.specs.LogEntries.Chain.{Logged, IsAmong, zeros}
+use Rattle.secure_log.specs.LogEntries.Chain.{Link, Logged, IsAmong, hash_after, marks, none_from, pairs, zeros}
 use Rattle.secure_log.proofs.Gaps.{logged_after}
+use Rattle.secure_log.proofs.OfLogEntries.FewerTexts.{right}
 use Rattle.secure_log.proofs.OfLogEntries.Marks.{one_mark}
 use Rattle.witness_spec.specs.evidence_spec.Proving.{log_links, marks_of}
 use Rattle.authenticator.specs.Signing.{is_same}
 use Rattle.witness_spec.specs.Pairs.{Pair, differ, is_fork, has_fork}
+
+-- each pair of links is a mark of them
+pub pair_is_mark : (before : ℕ) (opening : List ℕ) (links : List Link) (p : Pair)
+    → IsAmong p (pairs before opening links) → IsAmong p (marks before opening links)
+pair_is_mark before opening [] p i = i
+pair_is_mark before opening (l ∷ ls) p (inl e) = inl e
+pair_is_mark before opening (l ∷ ls) p (inr i) =
+    let after = hash_after opening l in
+    inr (right (none_from (before + 1) l.skipped) (marks l.number after ls) p
+    (pair_is_mark l.number after ls p i))
 
 module _ (log : List Logged) where
   no_difference : (p q : Pair) → IsAmong p (marks_of log) → IsAmong q (marks_of log) → differ p q ≡ false

@@ -9,20 +9,20 @@ use Rattle.xdr.specs.Item.{Fits}
 use Rattle.authenticator.specs.declared.authenticator.Authenticator.{Authenticator}
 use Rattle.secure_log.specs.LogEntries.Chain.{zeros, Logged, NoCollision, IsAmong, span}
 use Rattle.secure_log.specs.declared.segment.TheConstants.{MAX_ENTRIES}
-use Rattle.secure_log.specs.Versioned.{VersionedParts, ClosedVersionedParts, FitsVersion, segment_marks}
+use Rattle.secure_log.specs.Log.{log_pairs}
+use Rattle.secure_log.specs.Versioned.{VersionedParts, ClosedParts, FitsVersion, segment_marks}
 use Rattle.secure_log.specs.Versioned.{versioned_value}
 use Rattle.witness_spec.specs.evidence_spec.Laws.{Reached, IsNextIn}
-use Rattle.witness_spec.proofs.evidence_spec.Places.{head_among}
 use Rattle.witness_spec.proofs.evidence_spec.Reached.{reached_first, goes_on}
 use Rattle.witness_spec.proofs.evidence_spec.Shown.{segment_in_log, segment_is_part, segment_opens}
-use Rattle.witness_spec.proofs.evidence_spec.ShownMarks.{pair_is_mark}
+use Rattle.secure_log.proofs.OfLogEntries.Pairs.{head_among}
 use Rattle.secure_log.proofs.OfLogEntries.FewerTexts.{Within, fewer, left, right, both}
 use Rattle.witness_spec.specs.state_spec.State.{State}
 use Rattle.witness_spec.specs.replay_spec.Opening.{opening_of}
 use Rattle.witness_spec.specs.replay_spec.Placed.{logged_places}
 use Rattle.witness_spec.specs.replay_spec.Replay.{Honest, Sound}
 use Rattle.witness_spec.specs.evidence_spec.Evidence.{replay_item}
-use Rattle.witness_spec.specs.evidence_spec.Proving.{IsLogOf, IsUnforgedIn, log_links, marks_of, pairs_of}
+use Rattle.witness_spec.specs.evidence_spec.Proving.{IsLogOf, IsUnforgedIn, log_links, marks_of}
 use Rattle.witness_spec.specs.evidence_spec.Proving.{texts_of}
 use Rattle.witness_spec.specs.evidence_spec.Proving.{versioned_texts}
 use Rattle.witness_spec.specs.Events.{JobParts}
@@ -43,7 +43,7 @@ use Rattle.witness_laws.proofs.Doing.{Did, Doing, Nothing, Notes, Accepts, Asks,
 use Rattle.witness_laws.proofs.Doing.{doing}
 use Rattle.witness_laws.proofs.OfEvidence.Audits.{IsGoodSegment, good_given, its_log_version, last_is}
 use Rattle.witness_laws.proofs.OfEvidence.Marks.{last_spans}
-use Rattle.witness_laws.proofs.OfTrust.Pairs.{no_fork, among_parts}
+use Rattle.witness_laws.proofs.OfTrust.Pairs.{no_fork, among_parts, pair_is_mark}
 
 -- a segment that has a text has one as audited entries too
 audited_fits : (s : VersionedParts) → FitsVersion MAX_ENTRIES s
@@ -86,7 +86,7 @@ module _ (w : Watched) (member : IsInRoster w) (log : List Logged) (is : IsLogOf
 
   -- ---- what is shown
 
-  noted_in : (b : Bool) (a : Authenticator) → IsAmong (pair_of w.member.log_version a) (pairs_of log)
+  noted_in : (b : Bool) (a : Authenticator) → IsAmong (pair_of w.member.log_version a) (log_pairs log)
       → InLog (pairs_noted w.member.log_version b (Some a))
   noted_in true a i q j = absurd j
   noted_in false a i q (inl e) =
@@ -98,7 +98,7 @@ module _ (w : Watched) (member : IsInRoster w) (log : List Logged) (is : IsLogOf
   joined_in xs ys h k q i = elim (among_parts q xs ys i) [ inl a ↦ h q a | inr b ↦ k q b ]
 
   shown_is : (past : Past) (p : Step × Reply) (learned : Option Authenticator)
-      (answer : Option ClosedVersionedParts)
+      (answer : Option ClosedParts)
       → noted p.0 p.1 ≡ learned → accepted p.0 p.1 ≡ answer
       → shown w (p ∷ past)
       ≡ pairs_noted w.member.log_version (is_exposed w past) learned
@@ -108,7 +108,7 @@ module _ (w : Watched) (member : IsInRoster w) (log : List Logged) (is : IsLogOf
       ++ (pairs_accepted a ++ shown w past)) e f
 
   shown_on : (past : Past) (p : Step × Reply) (learned : Option Authenticator)
-      (answer : Option ClosedVersionedParts)
+      (answer : Option ClosedParts)
       → noted p.0 p.1 ≡ learned → accepted p.0 p.1 ≡ answer
       → InLog (pairs_noted w.member.log_version (is_exposed w past) learned) → InLog (pairs_accepted answer)
       → InLog (shown w past) → InLog (shown w (p ∷ past))
@@ -124,7 +124,7 @@ module _ (w : Watched) (member : IsInRoster w) (log : List Logged) (is : IsLogOf
   -- ---- a step that files nothing
 
   unfiled : (past : Past) (p : Step × Reply) (learned : Option Authenticator)
-      (answer : Option ClosedVersionedParts) (to : Stage) → Did past p learned answer None to
+      (answer : Option ClosedParts) (to : Stage) → Did past p learned answer None to
       → InLog (pairs_noted w.member.log_version (is_exposed w past) learned) → InLog (pairs_accepted answer)
       → StageFits (end_of w past) to → Trusted past → Trusted (p ∷ past)
   unfiled past p learned answer to did h k fits g =
@@ -141,8 +141,8 @@ module _ (w : Watched) (member : IsInRoster w) (log : List Logged) (is : IsLogOf
 
   -- ---- a segment is accepted
 
-  next_in : (end : End) (c : ClosedVersionedParts) → IsGiven w c
-      → IsAmong (pair_of w.member.log_version c.segment.closing) (pairs_of log)
+  next_in : (end : End) (c : ClosedParts) → IsGiven w c
+      → IsAmong (pair_of w.member.log_version c.segment.closing) (log_pairs log)
       → Within (texts_in (Answer c)) all → c.segment.first ≡ end.number + 1
       → IsNextIn log end.number c.segment × InLog (segment_marks c.segment)
   next_in end c given i within first =
@@ -150,8 +150,8 @@ module _ (w : Watched) (member : IsInRoster w) (log : List Logged) (is : IsLogOf
       let good : IsGoodSegment w s = good_given w c given in
       let version : w.member.log_version ≡ s.log_version = sym (its_log_version w s member good) in
       let own : IsLogOf s.log_version log = subst (λ v. IsLogOf v log) version is in
-      let closing : IsAmong (pair_of s.log_version s.closing) (pairs_of log) =
-      subst (λ v. IsAmong (pair_of v s.closing) (pairs_of log)) version i in
+      let closing : IsAmong (pair_of s.log_version s.closing) (log_pairs log) =
+      subst (λ v. IsAmong (pair_of v s.closing) (log_pairs log)) version i in
       let fits = audited_fits s given.fits in
       let spans : last_of s ≡ s.first - 1 + span s.entries =
       last_is w s good ∙ last_spans (s.first - 1) s.entries in
@@ -163,7 +163,7 @@ module _ (w : Watched) (member : IsInRoster w) (log : List Logged) (is : IsLogOf
           first = first;
           last = omega (arith, spans, first);
           part = segment_is_part w.roster log s own fits given.closed closing apart;
-          opening = subst (λ n. IsAmong (n, s.opening) (pairs_of log)) place
+          opening = subst (λ n. IsAmong (n, s.opening) (log_pairs log)) place
               (segment_opens w.roster log s own fits given.closed closing apart);
         },
         λ q j.

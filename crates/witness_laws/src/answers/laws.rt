@@ -3,7 +3,7 @@
 ghost use Rattle.witness_spec.specs.Laws.{AnswersAreAccepted, AnswersCloseChallenges, AcksClose};
 
 /// The part of its log that a node was asked for, closed by its signature there, is the node's step, it is
-/// accepted, and after it no audit is open.
+/// accepted, and after it no audit is open, where the part skips no more than a text may.
 pub fn answers_are_accepted()
     ensures { AnswersAreAccepted }
 {}

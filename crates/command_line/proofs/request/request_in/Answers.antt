@@ -46,6 +46,7 @@ returns-in-Some-subcommand_matches-3 c words none found =
       evidence = _;
       control = _;
       idle = _;
+      log_version = _;
       progress = _;
     }) none is (record {
       port = asks.port;
@@ -58,6 +59,7 @@ returns-in-Some-subcommand_matches-3 c words none found =
       evidence = asks.evidence;
       control = asks.control;
       idle = asks.idle;
+      log_version = asks.log_version;
       progress = asks.progress;
     })
 

@@ -21,5 +21,6 @@ returns c =
     let seven = c.in_ok-arg-7.ensures.shape (search rules) ∙ ap₂ with_rule six c.word_option-7.ensures.rule in
     let eight =
     c.in_ok-arg-8.ensures.shape (search rules) ∙ ap₂ with_rule seven c.word_option-8.ensures.rule in
-    IfOk-weaker c.arg-9.result _ _
-    (λ r added. added.shape (search rules) ∙ ap₂ with_rule eight c.flag.ensures.rule) c.arg-9.ensures
+    let nine = c.in_ok-arg-9.ensures.shape (search rules) ∙ ap₂ with_rule eight c.word_option-9.ensures.rule in
+    IfOk-weaker c.arg-10.result _ _
+    (λ r added. added.shape (search rules) ∙ ap₂ with_rule nine c.flag.ensures.rule) c.arg-10.ensures

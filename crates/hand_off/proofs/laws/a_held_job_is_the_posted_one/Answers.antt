@@ -1,7 +1,6 @@
-use Rattle.std.proofs.Common.{◌≡◌, Bool, Option, Some, sym, ◌∙◌, subst}
+use Rattle.std.proofs.Common.{◌≡◌, Option, sym, ◌∙◌, subst}
 use Rattle.witness_spec.specs.Events.{JobParts}
 use Rattle.hand_off.specs.Slots.{Sees, poster}
-use Rattle.hand_off.specs.declared.view.Workers.{Workers}
 use Rattle.hand_off.proofs.Keeping.{same_job}
 use Rattle.hand_off.proofs.laws.a_held_job_is_the_posted_one.Goals as goal
 

@@ -1,4 +1,5 @@
-use Rattle.std.proofs.Common.{ap, length, ◌∙◌}
+use Rattle.std.proofs.Common.{ap, ◌∙◌}
+use Rattle.secure_log.specs.LogEntries.Chain.{span}
 use Rattle.node_logs.specs.Steps.Nodes.{NodeParts, sender_of}
 use Rattle.commitment.specs.Senders.LookUps.{envelope_at}
 use Rattle.nodes.proofs.Replied.{stops_replying}
@@ -10,7 +11,7 @@ returns-in-Err-acknowledge_reply-clause-stops c = λ ready.
     stops_replying c.args.client.now c.args.server.now c.deliver_reply.new.client c.acknowledge_reply.new.server
     c.args.number c.last_number-receipt.result c.in-Err-acknowledge_reply.fault ready
     c.in-Ok.ensures.takes c.in-Ok.ensures.sender
-    (c.last_number-receipt.ensures ∙ ap (λ (n : NodeParts). length n.entries) c.node-2.ensures.node)
+    (c.last_number-receipt.ensures ∙ ap (λ (n : NodeParts). span n.entries) c.node-2.ensures.node)
     c.in-Err-acknowledge_reply.ensures.takes
 
 -- ---- any two
@@ -22,7 +23,7 @@ returns-in-Ok-acknowledge_reply-clause-replied c = λ e there.
     (taken_it c.args.client.now c.args.server.now c.deliver_reply.new.client c.args.number
     c.deliver_reply.new.text.items e there (c.in-Ok.ensures.told e there))
     c.in-Ok.ensures.sender
-    (c.last_number-receipt.ensures ∙ ap (λ (n : NodeParts). length n.entries) c.node-2.ensures.node)
+    (c.last_number-receipt.ensures ∙ ap (λ (n : NodeParts). span n.entries) c.node-2.ensures.node)
     (c.in_ok-reply.ensures.copied e
     (ap (λ (n : NodeParts). envelope_at (sender_of n) c.args.number) c.node.ensures.node ∙ there)).0
     c.in-Ok-acknowledge_reply.ensures.told
@@ -39,5 +40,5 @@ returns-in-Err-acknowledge_reply-clause-told c = λ e there.
     (taken_it c.args.client.now c.args.server.now c.deliver_reply.new.client c.args.number
     c.deliver_reply.new.text.items e there (c.in-Ok.ensures.told e there))
     c.in-Ok.ensures.sender
-    (c.last_number-receipt.ensures ∙ ap (λ (n : NodeParts). length n.entries) c.node-2.ensures.node)
+    (c.last_number-receipt.ensures ∙ ap (λ (n : NodeParts). span n.entries) c.node-2.ensures.node)
     c.in-Err-acknowledge_reply.ensures.told

@@ -31,6 +31,4 @@ returns-in-Err-take_ack-clause-stops g c =
     c.answer-answered.new.self c.take_ack.new.node out c.in-Ok.ensures.straight c.in-Ok.ensures.stays
     (c.in-Ok.ensures.answered out.envelope out.written)
     (handed c.deref-2.result.now c.answer-answered.new.ack.items c.deref-2.ensures.value
-    c.in-Err-take_ack.ensures.takes)
-    (handed c.deref-2.result.now c.answer-answered.new.ack.items c.deref-2.ensures.value
     c.in-Err-take_ack.ensures.told)

@@ -10,8 +10,6 @@ returns-in-Ok-clause-returned g c e text =
     (c.in-Ok.ensures.received e (subst (IsEnvelopeText e) (sym c.deref.ensures.value) text))
     c.take_ack.ensures.straight c.take_ack.ensures.stays
     (handed c.deref-in-Ok.result.now c.receive_reply.new.ack.items c.deref-in-Ok.ensures.value
-    c.take_ack.ensures.takes)
-    (handed c.deref-in-Ok.result.now c.receive_reply.new.ack.items c.deref-in-Ok.ensures.value
     c.take_ack.ensures.told)).0
 
 pub returns-in-Ok-clause-stops : goal.returns-in-Ok-clause-stops
@@ -20,7 +18,5 @@ returns-in-Ok-clause-stops g c e text =
     c.receive_reply.new.client c.deref_mut.result.now c.take_ack.new.self c.take_ack.result
     (c.in-Ok.ensures.received e (subst (IsEnvelopeText e) (sym c.deref.ensures.value) text))
     c.take_ack.ensures.straight c.take_ack.ensures.stays
-    (handed c.deref-in-Ok.result.now c.receive_reply.new.ack.items c.deref-in-Ok.ensures.value
-    c.take_ack.ensures.takes)
     (handed c.deref-in-Ok.result.now c.receive_reply.new.ack.items c.deref-in-Ok.ensures.value
     c.take_ack.ensures.told)).1

@@ -2,11 +2,10 @@ use Rattle.std.proofs.Common.{◌≡◌, ◌+◌, [], Ok, Err, ap, sym, subst, �
 use Rattle.std.proofs.lemmas.List.{drop_all}
 use Rattle.authenticator.proofs.Words.{word_is}
 use Rattle.secure_log.specs.LogEntries.Chain.{chain_text, hash_after}
-use Rattle.replay_spec.specs.Placed.{place}
 use Rattle.replay_spec.specs.Stepping.{step}
 use Rattle.replay_spec.specs.Replay.{Fault, Sound}
 use Rattle.replay.specs.Faults.{fault_in}
-use Rattle.replay.specs.Steps.{Steps}
+use Rattle.replay.specs.Steps.{Steps, worded_place}
 use Rattle.replay.specs.declared.steps.StepFault.{StepFault}
 use Rattle.replay.proofs.LoggedPlaces.{hash_at}
 use Rattle.replay.proofs.Runs.{begins, rest_of, has_word, room_received, room_sends, faults, goes_on, ends}
@@ -74,10 +73,10 @@ returns-in-Err-Fault g c =
     c.index-entries-place.is) number (omega (arith, c.from.ensures)) in
     let fault = fault_in c.in-Err-Fault.fault in
     let refused = subst (λ (e : StepFault). Steps {A = Unit {0}} c.args.roster.now s
-    (place c.entry_word-word.result c.loop-place.before c.index-entries-place.result) (Err e)
+    (worded_place c.entry_word-word.result c.loop-place.before c.index-entries-place.result) (Err e)
     (g.M.Machine.state c.turn.new.machine)) c.in-Err-Fault.field-0-is c.in-Err-Fault.ensures.step in
     let there = subst (λ w. step c.args.roster.now s
-    (place w c.loop-place.before c.index-entries-place.result) ≡ Err fault)
+    (worded_place w c.loop-place.before c.index-entries-place.result) ≡ Err fault)
     c.entry_word-word.ensures refused.0 in
     whole fault there
     ∙ ap (Fault fault) (sym c.new.ensures)
@@ -97,7 +96,7 @@ loop-place-preserved g c =
     c.index-entries-place.is) number (omega (arith, c.from.ensures))
     c.steps_as_it_takes.ensures (g.M.Machine.state c.turn.new.machine) in
     let there = subst (λ w. step c.args.roster.now s
-    (place w c.loop-place.before c.index-entries-place.result) ≡ Ok (g.M.Machine.state c.turn.new.machine))
+    (worded_place w c.loop-place.before c.index-entries-place.result) ≡ Ok (g.M.Machine.state c.turn.new.machine))
     c.entry_word-word.ensures c.in-Ok.ensures.step in
     let hash = hash_at c.loop-place.before number
     (record { skipped = c.skipped_at-skipped.result; entry = c.index-entries-place.result })

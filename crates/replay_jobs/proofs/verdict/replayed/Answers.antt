@@ -8,8 +8,8 @@ use Rattle.replay.proofs.LoggedPlaces.{segment_words}
 use Rattle.replay_jobs.proofs.verdict.replayed.Goals as goal
 
 -- each entry of a segment that ends in its closing has a word
-pub replay_logged-requires-clause-words : goal.replay_logged-requires-clause-words
-replay_logged-requires-clause-words c =
+pub replay_entries-requires-clause-words : goal.replay_entries-requires-clause-words
+replay_entries-requires-clause-words c =
     let s : VersionedParts = c.segment-segment.result.now in
     let t : VersionedParts = c.closed-closed.result.now.segment in
     let entries : logged c.skips.result.now c.entries.result.now ≡ s.entries =

@@ -11,5 +11,5 @@ pub returns-clause-one : goal.returns-clause-one
 returns-clause-one c = one_more
 
 pub returns-clause-more : goal.returns-clause-more
-returns-clause-more c = λ ms o s t es fs ts h k last.
-    subst (IsHonestLog ms o (es ++ fs)) last (grows ms o s es fs ts h k)
+returns-clause-more c = λ ms o s t log more ts h k last.
+    subst (IsHonestLog ms o (log ++ more)) last (grows ms o s log more ts h k)

@@ -1,8 +1,9 @@
 use Rattle.std.proofs.Common.{rules, refl}
 use Rattle.authenticator.proofs.Signed.{list_same}
-use Rattle.secure_log.specs.LogEntries.Chain.{zeros, link_of}
+use Rattle.secure_log.specs.LogEntries.Chain.{zeros, logged_link}
 use Rattle.secure_log.specs.declared.log_entries.entry.Entry.TheVariants.{Clock}
 use Rattle.replay_spec.specs.Stepping.{step}
+use Rattle.replay_spec.specs.LogLaws.HonestServers.{next_logged}
 use Rattle.witness_spec.specs.Events.{ItsIndication, ItsEvidence}
 use Rattle.witness_spec.specs.Replies.{Told, Exposed}
 use Rattle.witness_spec.specs.Steps.{Ask}
@@ -19,7 +20,7 @@ returns-clause-evidence c = record {
       (rw (
         list_same zeros zeros refl,
         list_same two_segment.closing.hash two_segment.closing.hash refl,
-        short_first 1 zeros (link_of 1 (Clock 1 0)),
+        short_first 1 zeros (logged_link 1 (next_logged (Clock 1 0))),
       ) refl);
 }
 
@@ -32,7 +33,7 @@ returns-clause-exposed c = record {
         list_same zeros zeros refl,
         list_same read_hash read_hash refl,
         short_first 1 zeros
-            (link_of 1 (Clock 1 0)),
+            (logged_link 1 (next_logged (Clock 1 0))),
       )
       refl);
 }
@@ -46,7 +47,7 @@ returns-clause-later c = record {
         list_same zeros zeros refl,
         list_same read_hash read_hash refl,
         short_first 1 zeros
-            (link_of 1 (Clock 1 0)),
+            (logged_link 1 (next_logged (Clock 1 0))),
       )
       refl);
 }

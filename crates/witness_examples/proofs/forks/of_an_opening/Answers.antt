@@ -1,9 +1,10 @@
 use Rattle.std.proofs.Common.{◌≡◌, Bool, false, cond, Some, rules, refl, ap₂}
 use Rattle.std.specs.Prelude.{option_map}
 use Rattle.authenticator.proofs.Signed.{list_same}
-use Rattle.secure_log.specs.LogEntries.Chain.{zeros, link_of}
+use Rattle.secure_log.specs.LogEntries.Chain.{zeros, logged_link}
 use Rattle.secure_log.specs.declared.log_entries.entry.Entry.TheVariants.{Clock}
 use Rattle.replay_spec.specs.Stepping.{step}
+use Rattle.replay_spec.specs.LogLaws.HonestServers.{next_logged}
 use Rattle.witness_spec.specs.Events.{ItsIndication, ItsEvidence}
 use Rattle.witness_spec.specs.evidence_spec.Showing.{versioned_showing}
 use Rattle.witness_spec.specs.Replies.{Told, EvidenceIs, Accepted, Exposed}
@@ -25,7 +26,7 @@ returns-clause-exposed c = record {
         list_same zeros zeros refl,
         list_same read_hash read_hash refl,
         list_same later_segment.closing.hash later_segment.closing.hash refl,
-        short_first 1 zeros (link_of 1 (Clock 1 0)),
+        short_first 1 zeros (logged_link 1 (next_logged (Clock 1 0))),
       ) refl);
 }
 
@@ -42,7 +43,7 @@ charged =
     rw (
       list_same zeros zeros refl,
       list_same read_hash read_hash refl,
-      short_first 1 zeros (link_of 1 (Clock 1 0)),
+      short_first 1 zeros (logged_link 1 (next_logged (Clock 1 0))),
     )
     (rw (list_same zeros zeros refl, list_same read_hash read_hash refl) refl)
 

@@ -2,9 +2,10 @@ use Rattle.std.proofs.Common.{◌≡◌, Bool, true, false, cond, Some, rules, r
 use Rattle.std.specs.Prelude.{◌++◌, filter, nat_lt, option_map}
 use Rattle.authenticator.proofs.Signed.{list_same}
 use Rattle.authenticator.specs.declared.member.LogVersion.TheVariants.{One}
-use Rattle.secure_log.specs.LogEntries.Chain.{zeros, hash_after, link_of}
+use Rattle.secure_log.specs.LogEntries.Chain.{Link, zeros, hash_after, logged_link}
 use Rattle.secure_log.specs.declared.log_entries.entry.Entry.TheVariants.{Clock}
 use Rattle.replay_spec.specs.Stepping.{step}
+use Rattle.replay_spec.specs.LogLaws.HonestServers.{next_logged}
 use Rattle.witness_spec.specs.evidence_spec.Showing.{authenticator_showing, versioned_showing}
 use Rattle.witness_spec.specs.Events.{ItsIndication, ItsEvidence}
 use Rattle.witness_spec.specs.Replies.{Noted, Already, Told, EvidenceIs, Exposed}
@@ -20,6 +21,13 @@ use Rattle.witness_examples.proofs.Telling.{told}
 use Rattle.witness_examples.proofs.Hashes.{short_first, short_last}
 use Rattle.witness_examples.proofs.forks.up_to_the_end.Goals as goal
 
+-- the links of both readings
+abbrev first_link : Link
+first_link = logged_link 1 (next_logged (Clock 1 0))
+
+abbrev second_link : Link
+second_link = logged_link 2 (next_logged (Clock 2 0))
+
 not_yet : is_exposed node_five two_filed ≡ false
 unfolding step
 not_yet =
@@ -29,20 +37,20 @@ forks : is_exposed node_five below_forked ≡ true
 unfolding step
 forks =
     rw (list_same zeros zeros refl, list_same two_segment.closing.hash two_segment.closing.hash refl)
-    (rw (short_first 1 zeros (link_of 1 (Clock 1 0))) refl)
+    (rw (short_first 1 zeros first_link) refl)
 
 below_charge : new_charge node_five two_filed (Learn (learned 1 one_hash)) Noted
     ≡ Some (forked 1 (versioned_showing two_segment)
     (Some (authenticator_showing One (learned 1 one_hash)))).charge
 unfolding step
-below_charge = rw (short_first 1 zeros (link_of 1 (Clock 1 0))) refl
+below_charge = rw (short_first 1 zeros first_link) refl
 
 end_charge : new_charge node_five two_filed (Learn (learned 2 one_hash)) Noted
     ≡ Some (forked 2 (versioned_showing two_segment)
     (Some (authenticator_showing One (learned 2 one_hash)))).charge
 unfolding step
 end_charge =
-    rw (short_first 1 (hash_after zeros (link_of 1 (Clock 1 0))) (link_of 2 (Clock 2 0))) refl
+    rw (short_first 1 (hash_after zeros first_link) second_link) refl
 
 all_steps : AreOwed node_five two_filed
 unfolding step
@@ -61,13 +69,13 @@ below_noted : Owes node_five two_filed (Learn (learned 1 one_hash)) Noted
 unfolding step
 below_noted = told node_five two_filed (Learn (learned 1 one_hash)) Noted (λ x. x)
     (rw (list_same zeros zeros refl, list_same two_segment.closing.hash two_segment.closing.hash refl)
-    (rw (short_first 1 zeros (link_of 1 (Clock 1 0))) refl))
+    (rw (short_first 1 zeros first_link) refl))
 
 end_noted : Owes node_five two_filed (Learn (learned 2 one_hash)) Noted
 unfolding step
 end_noted = told node_five two_filed (Learn (learned 2 one_hash)) Noted (λ x. x)
     (rw (list_same zeros zeros refl, list_same two_segment.closing.hash two_segment.closing.hash refl)
-    (rw (short_first 1 (hash_after zeros (link_of 1 (Clock 1 0))) (link_of 2 (Clock 2 0))) refl))
+    (rw (short_first 1 (hash_after zeros first_link) second_link) refl))
 
 pub returns-clause-below : goal.returns-clause-below
 returns-clause-below c = record { steps = all_steps; next = below_noted }

@@ -1,4 +1,4 @@
-use Rattle.std.proofs.Common.{◌≡◌, List, [], drop, subst, arith}
+use Rattle.std.proofs.Common.{List, [], drop, subst, arith}
 use Rattle.std.proofs.lemmas.List.{take_all, append-nil, nil_from_length}
 use Rattle.witness_reports.specs.Reports.{AreAnswersOf}
 use Rattle.witness_reports.specs.declared.report.NodeReport.{NodeReport}
