@@ -22,7 +22,7 @@ const AROUND: Part<'static> = Part {
 };
 
 /// Whether an authenticator that is learned is answered so.
-fn learns_claim(alloc: Global, books: &mut Books, claim: &Claim, answer: Answer) -> bool {
+pub fn learns_claim(alloc: Global, books: &mut Books, claim: &Claim, answer: Answer) -> bool {
     match learn_claim(alloc, claim) {
         Some(bytes) => answers(alloc, books, EventOf::Deliver(bytes), answer),
         None => false,
@@ -59,7 +59,7 @@ fn is_accepted(alloc: Global, roster: &Roster, text: Vec<u8>) -> bool {
 }
 
 /// Whether the client is exposed, by evidence with this text, which is accepted.
-fn is_exposed_by(alloc: Global, books: &mut Books, text: Vec<u8>) -> bool {
+pub fn is_exposed_by(alloc: Global, books: &mut Books, text: Vec<u8>) -> bool {
     match evidence(alloc, books, 2) {
         Some(own) => {
             tells(alloc, books, 2, Indication::Exposed)

@@ -16,6 +16,8 @@ mod full;
 #[cfg(test)]
 mod gaps;
 #[cfg(test)]
+mod greatest;
+#[cfg(test)]
 mod handing;
 #[cfg(test)]
 mod largest;

@@ -93,7 +93,8 @@ impl Book {
     /// One step: the reply is the one that the book owes, and the book goes on with it. Where memory was
     /// refused the reply is `NoMemory`, a job or a done value comes back, and the book is as before; a job
     /// that is put back, an acknowledgement and a question for the indication take none. So is the book
-    /// after any other refusal.
+    /// after any other refusal. A segment that is handed in is of the version of the node's log: packets are
+    /// read so.
     pub fn step(&mut self, alloc: Global, step: Step) -> Reply
         requires ready { IsReady self.old }
         requires of_log { IsOfLog self.old.log_version (step_in step) }

@@ -50,10 +50,9 @@ impl Model for KeyedNode {
 }
 
 impl KeyedNode {
-    /// A node of this number and kind, which keeps a log of this version, with new keys of its master secret: so
-    /// many as 2 to the height.
-    /// Threads make them, as many as there are processors, up to four. Takes memory for the hashes of the
-    /// keys and what threads take.
+    /// A node of this number and kind, which keeps a log of this version, with new keys of its master secret:
+    /// so many as 2 to the height. Threads make them, as many as there are processors, up to four. Takes
+    /// memory for the hashes of the keys and what threads take.
     pub fn make<R: Threads + Sync>(
         rt: &R,
         alloc: Global,

@@ -57,10 +57,10 @@ pub fn replay(alloc: Global, state: &State, segment: &ClosedSegment) -> Result<V
 
 /// What a replay of entries after a state of their node finds. Before each entry as many numbers are skipped as
 /// the count at its place in `skips` says, and none before those that the counts don't reach; counts past the
-/// last entry say nothing. The first entry has the number `first` and as many more as are skipped before it, and
-/// stands after the hash `opening`. A log begins with the number 1 after 32 zero bytes and its member's
-/// `opening_state`. There may be more entries than a segment holds, and no signature of their own node is asked
-/// for. Each entry has a `Word`. `AllocError` comes only where a growth was refused.
+/// last entry say nothing. The first entry has the number `first` and as many more as are skipped before it,
+/// and stands after the hash `opening`. A log begins with the number 1 after 32 zero bytes and its member's
+/// `opening_state`. There may be more entries than a segment holds, and no signature of their own node is
+/// asked for. Each entry has a `Word`. `AllocError` comes only where a growth was refused.
 pub fn replay_entries(
     alloc: Global,
     roster: &Roster,

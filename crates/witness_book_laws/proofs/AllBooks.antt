@@ -21,7 +21,7 @@ use Rattle.witness_book_laws.specs.Replying.{BookOwes}
 use Rattle.witness_book_laws.specs.Going.{book_after}
 use Rattle.witness_book_laws.specs.Fitting.{FitsTogether, IsOfMember, IsBookOf}
 use Rattle.witness_book_laws.specs.Laws.{GoesOn}
-use Rattle.witness_book_laws.specs.LookUps.{HasOneHash}
+use Rattle.witness_book_laws.specs.LookUps.{HasOneMark}
 use Rattle.witness_book_laws.specs.Together.{book_at, with_book_at, FitEach, AreKept}
 use Rattle.witness_book_laws.proofs.Histories.{at_first, exposed_or_not}
 use Rattle.witness_book_laws.proofs.LookUps.{one_hash}
@@ -164,9 +164,9 @@ first_kept ms = record {
 
 -- ---- what they show
 
--- a book that is kept shows one hash at each number, where the node isn't exposed
+-- a book that is kept shows one mark at each number, where the node isn't exposed
 pub kept_one_hash : (w : Watched) (books : List Book) (b : Book) → AreKept w.roster books
-    → IsInRoster w → book_at w.roster books w.member.node ≡ Some b → HasOneHash b
+    → IsInRoster w → book_at w.roster books w.member.node ≡ Some b → HasOneMark b
 kept_one_hash w books b kept is there =
     let history = kept.are.history in
     let its = fit_at w.roster books w.member.node w.member b kept.fit is there in

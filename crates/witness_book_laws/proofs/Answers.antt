@@ -20,7 +20,7 @@ use Rattle.witness_laws.specs.witness_spec.Pairs.{last_of, marks_of}
 use Rattle.witness_laws.specs.witness_spec.Standing.{Wanted}
 use Rattle.witness_book_laws.specs.Books.{Book, exposed, exposing_pairs, book_shown}
 use Rattle.witness_book_laws.specs.Fitting.{IsMore, FitsTogether}
-use Rattle.witness_book_laws.specs.LookUps.{hash_shown, is_other_hash, HasOneHash}
+use Rattle.witness_book_laws.specs.LookUps.{hash_shown, is_other_hash, HasOneMark}
 use Rattle.witness_book_laws.specs.Answers.{shows_another, lesser, least_from, answer_fork}
 use Rattle.witness_book_laws.proofs.Lists.{passer, passed}
 use Rattle.witness_laws.proofs.OfEvidence.Audits.{are_numbered}
@@ -283,7 +283,7 @@ asked b s last fits wanted =
           );
     }
 
-module _ (b : Book) (s : VersionedParts) (fits : FitsTogether b) (one : HasOneHash b)
+module _ (b : Book) (s : VersionedParts) (fits : FitsTogether b) (one : HasOneMark b)
     (hidden : exposed b ≡ false) (is : IsAsked b s) where
   -- at a number it shows another hash than the book
   abbrev Forks : ℕ → Type 0
@@ -402,7 +402,7 @@ module _ (b : Book) (s : VersionedParts) (fits : FitsTogether b) (one : HasOneHa
 
 -- where a segment that was asked for makes the first fork is looked up
 pub answer_looked_up : (b : Book) (s : VersionedParts) (last : ℕ)
-    → FitsTogether b → HasOneHash b → exposed b ≡ false → b.stage ≡ Wanted s.first last
+    → FitsTogether b → HasOneMark b → exposed b ≡ false → b.stage ≡ Wanted s.first last
     → first_fork (marks_of s) (book_shown b) ≡ answer_fork b s
 answer_looked_up b s last fits one hidden wanted =
     let is = asked b s last fits wanted in

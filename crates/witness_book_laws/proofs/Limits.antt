@@ -54,7 +54,7 @@ use Rattle.witness_book_laws.specs.Replying.{has_no_room, BookOwes}
 use Rattle.witness_book_laws.specs.Going.{first_evidence, fork_evidence, evidence_noted, learned_unless}
 use Rattle.witness_book_laws.specs.Going.{book_after, having_filed, book_after_steps}
 use Rattle.witness_book_laws.specs.Fitting.{FitsTogether, IsOne, IsMore, IsBookOf}
-use Rattle.witness_book_laws.specs.LookUps.{HasOneHash}
+use Rattle.witness_book_laws.specs.LookUps.{HasOneMark}
 use Rattle.witness_book_laws.specs.Keeping.{audit_last, KeepsLimits}
 use Rattle.witness_book_laws.proofs.Lists.{passer}
 use Rattle.witness_laws.proofs.OfEvidence.Before.{on_right}
@@ -144,7 +144,7 @@ module _ (b : Book) (lim : KeepsLimits b) where
   few_of false true z e f h = h
 
   module _ (a : Authenticator) (fits : FitsTogether (book_after b (Learn a) Noted))
-      (one : HasOneHash (book_after b (Learn a) Noted))
+      (one : HasOneMark (book_after b (Learn a) Noted))
       (told : Noted ≡ cond (exposed b) Noted (cond (is_shown (pair_of b.log_version a) (book_shown b)) Already
       (cond (has_no_room b a) (Refused LearnedFull) Noted))) where
     abbrev now : Option EvidenceParts
@@ -278,7 +278,7 @@ module _ (b : Book) (lim : KeepsLimits b) where
   pub limits_on : (step : Step) (r : Reply) → FitsTogether b → BookOwes b step r
       → ((d : DoneParts) → step ≡ File d → b.stage ≡ Out d.job.segment
       → length (sound_found d.verdict) ≤ length d.job.segment.segment.entries)
-      → FitsTogether (book_after b step r) → HasOneHash (book_after b step r)
+      → FitsTogether (book_after b step r) → HasOneMark (book_after b step r)
       → KeepsLimits (book_after b step r)
   limits_on (Learn a) Noted fits o few next one = noted_limits a next one o.told
   limits_on (Learn a) r fits o few next one = lim

@@ -23,7 +23,7 @@ use Rattle.witness_laws.proofs.OfEvidence.Before.{one_shown}
 use Rattle.witness_book_laws.specs.Books.{Book, exposed, exposing_pairs, book_shown}
 use Rattle.witness_book_laws.specs.Fitting.{FitsTogether, IsBookOf}
 use Rattle.witness_book_laws.specs.LookUps.{hash_held, hash_shown, is_hash, is_other_hash}
-use Rattle.witness_book_laws.specs.LookUps.{HasOneHash}
+use Rattle.witness_book_laws.specs.LookUps.{HasOneMark}
 use Rattle.witness_book_laws.proofs.Lists.{same_truth, passer, passed}
 use Rattle.witness_laws.proofs.OfEvidence.Before.{found, not_found}
 use Rattle.witness_book_laws.proofs.Kept.{Shower, AtFirst, Exposing, Learned, Segment, shower, shows}
@@ -178,7 +178,7 @@ module _ (b : Book) (fits : FitsTogether b) (n : ℕ) where
 
   -- ---- what it tells
 
-  module _ (one : HasOneHash b) (hidden : exposed b ≡ false) (x : List ℕ) where
+  module _ (one : HasOneMark b) (hidden : exposed b ≡ false) (x : List ℕ) where
     of_same : (q : Pair) → same_pair (n, x) q ≡ true → q ≡ (n, x)
     of_same q h =
         let both = and_parts (n == q.0) (is_same x q.1) h in
@@ -241,9 +241,9 @@ module _ (b : Book) (fits : FitsTogether b) (n : ℕ) where
 
 -- ---- one hash
 
--- a book of own steps shows one hash at each number, where the node isn't exposed
+-- a book of own steps shows one mark at each number, where the node isn't exposed
 pub one_hash : (w : Watched) (past : Past) (b : Book) → IsBookOf w past b
-    → Exposure w past → HasOneHash b
+    → Exposure w past → HasOneMark b
 one_hash w past b of x hidden n y z i j =
     one_shown w past (sym (exposed_same w past b of x) ∙ hidden) n y z ((of.stands.pairs (n, y)).0 i)
     ((of.stands.pairs (n, z)).0 j)

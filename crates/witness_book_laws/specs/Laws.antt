@@ -18,7 +18,7 @@ use Rattle.witness_book_laws.specs.Books.{book_indication, parts_of}
 use Rattle.witness_book_laws.specs.Replying.{BookOwes}
 use Rattle.witness_book_laws.specs.Going.{book_after, book_after_steps}
 use Rattle.witness_book_laws.specs.Fitting.{FitsTogether, IsBookOf, IsOfMember}
-use Rattle.witness_book_laws.specs.LookUps.{hash_shown, is_hash, is_other_hash, HasOneHash}
+use Rattle.witness_book_laws.specs.LookUps.{hash_shown, is_hash, is_other_hash, HasOneMark}
 use Rattle.witness_book_laws.specs.Answers.{answer_fork}
 use Rattle.witness_book_laws.specs.Keeping.{KeepsLimits}
 use Rattle.witness_book_laws.specs.Together.{book_at, with_book_at, AreKept}
@@ -138,17 +138,17 @@ KeptBooksStep =
 
 -- ---- what a book looks up
 
--- A book that is kept, of a member whose node isn't exposed, shows one hash at each number.
-abbrev pub KeptBooksHaveOneHash : Type 0
-KeptBooksHaveOneHash =
+-- A book that is kept, of a member whose node isn't exposed, shows one mark at each number.
+abbrev pub KeptBooksHaveOneMark : Type 0
+KeptBooksHaveOneMark =
     (w : Watched) (books : List Book) (b : Book)
-    → AreKept w.roster books → IsInRoster w → book_at w.roster books w.member.node ≡ Some b → HasOneHash b
+    → AreKept w.roster books → IsInRoster w → book_at w.roster books w.member.node ≡ Some b → HasOneMark b
 
--- What such a book looks up at a number tells whether a pair was shown, and whether another hash is there.
+-- What such a book looks up at a number tells whether a pair was shown, and whether another mark is there.
 abbrev pub LookUpsTell : Type 0
 LookUpsTell =
     (b : Book) (number : ℕ) (x : List ℕ)
-    → FitsTogether b → HasOneHash b → exposed b ≡ false
+    → FitsTogether b → HasOneMark b → exposed b ≡ false
     → (is_shown (number, x) (book_shown b) ≡ is_hash x (hash_shown b number))
     × (is_fork (number, x) (book_shown b) ≡ is_other_hash x (hash_shown b number))
 
@@ -157,7 +157,7 @@ LookUpsTell =
 abbrev pub AnAnswerLooksUp : Type 0
 AnAnswerLooksUp =
     (b : Book) (s : VersionedParts) (last : ℕ)
-    → FitsTogether b → HasOneHash b → exposed b ≡ false → b.stage ≡ Wanted (first_of s) last
+    → FitsTogether b → HasOneMark b → exposed b ≡ false → b.stage ≡ Wanted (first_of s) last
     → first_fork (marks_of s) (book_shown b) ≡ answer_fork b s
 
 -- ---- limits

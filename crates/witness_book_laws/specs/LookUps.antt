@@ -30,8 +30,8 @@ abbrev pub is_other_hash : List ℕ → Option (List ℕ) → Bool
 is_other_hash x None = false
 is_other_hash x (Some y) = not (is_same x y)
 
--- Where a book's node isn't exposed, it shows one hash at each number.
-abbrev pub HasOneHash : Book → Type 0
-HasOneHash b =
+-- Where a book's node isn't exposed, it shows one mark at each number.
+abbrev pub HasOneMark : Book → Type 0
+HasOneMark b =
     exposed b ≡ false → (number : ℕ) (x y : List ℕ)
     → IsAmong (number, x) (book_shown b) → IsAmong (number, y) (book_shown b) → x ≡ y

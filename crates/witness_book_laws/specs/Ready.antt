@@ -7,7 +7,7 @@ use Rattle.authenticator.specs.declared.member.Member.{Member}
 use Rattle.witness_laws.specs.witness_spec.Steps.{Step, Answer}
 use Rattle.witness_book_laws.specs.Books.{Book}
 use Rattle.witness_book_laws.specs.Fitting.{FitsTogether}
-use Rattle.witness_book_laws.specs.LookUps.{HasOneHash}
+use Rattle.witness_book_laws.specs.LookUps.{HasOneMark}
 use Rattle.witness_book_laws.specs.Keeping.{KeepsLimits}
 use Rattle.witness_book_laws.specs.Together.{AreKept}
 
@@ -22,8 +22,8 @@ pub record KnowsFew (b : Book) : Type 0 where
 pub record IsReady (b : Book) : Type 0 where
   -- its parts fit together
   pub fits : FitsTogether b
-  -- it shows one hash at each number, unless the node is exposed
-  pub one : HasOneHash b
+  -- it shows one mark at each number, unless the node is exposed
+  pub one : HasOneMark b
   -- it keeps its limits
   pub limits : KeepsLimits b
   -- its state knows few messages

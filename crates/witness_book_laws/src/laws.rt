@@ -4,7 +4,7 @@ ghost use Rattle.witness_book_laws.specs.Laws.{BooksOweTheSame, BooksAreOfTheirS
 ghost use Rattle.witness_book_laws.specs.Laws.{BooksTellTheIndication, BooksHaveTheAudited, BooksStand};
 ghost use Rattle.witness_book_laws.specs.Laws.{BooksHaveEvidenceIfExposed, AnyBookOwesTheSame, AnyBookGoesOn};
 ghost use Rattle.witness_book_laws.specs.Laws.{AnyBookKeepsItsContract, OpeningsStand, OpeningBooksAreKept};
-ghost use Rattle.witness_book_laws.specs.Laws.{KeptBooksStep, KeptBooksHaveOneHash, LookUpsTell};
+ghost use Rattle.witness_book_laws.specs.Laws.{KeptBooksStep, KeptBooksHaveOneMark, LookUpsTell};
 ghost use Rattle.witness_book_laws.specs.Laws.{AnAnswerLooksUp};
 ghost use Rattle.witness_book_laws.specs.Laws.{BooksKeepLimits, AnyBookKeepsLimits};
 ghost use Rattle.witness_book_laws.specs.ReadyLaws.{OpeningBooksAreReady, ReadyBooksStep, ReadyBooksAreReady};
@@ -57,11 +57,11 @@ pub fn kept_books_step()
     ensures step { KeptBooksStep }
 {}
 
-/// Where a node isn't exposed, its book shows one hash at each number, and what it looks up there tells
+/// Where a node isn't exposed, its book shows one mark at each number, and what it looks up there tells
 /// whether a pair was shown and whether it makes a fork: zeros at 0, else the hash in the accepted segment
 /// that holds the number, else that of what is kept there.
 pub fn look_ups_tell()
-    ensures one { KeptBooksHaveOneHash }
+    ensures one { KeptBooksHaveOneMark }
     ensures tell { LookUpsTell }
 {}
 
@@ -80,7 +80,7 @@ pub fn limits_are_kept()
     ensures any { AnyBookKeepsLimits }
 {}
 
-/// The opening books of all members can make their steps: each fits together, shows one hash at each number
+/// The opening books of all members can make their steps: each fits together, shows one mark at each number
 /// unless its node is exposed, keeps its limits, and has a state that knows no more messages of either kind
 /// than the end's number. Where an event is a member's step, and the reply is the one that this member's
 /// book owes, the books with that one gone on keep the contract of all books, and can make their steps again.

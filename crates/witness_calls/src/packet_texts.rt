@@ -20,8 +20,8 @@ pub fn learn_packet(alloc: Global, authenticator: &Authenticator) -> Result<Vec<
     Ok(text)
 }
 
-/// The packet of a segment's text, in answer to an audit: the word 3 in a log of version 1, or 5 in one of version
-/// 2, and the text.
+/// The packet of a segment's text, in answer to an audit: the word 3 in a log of version 1, or 5 in one of
+/// version 2, and the text.
 pub fn answer_packet(
     alloc: Global,
     version: LogVersion,

@@ -20,9 +20,9 @@ use witness_laws::answers::laws::{acknowledgements_close, answers_are_accepted};
 use witness_laws::trust::laws::honest_is_never_exposed;
 
 /// A node's log is one that the laws on witnesses speak of: its entries have texts and bodies of bytes, and
-/// numbers of its log's version; unless the node strayed it is honest from the state that a member like this node begins with, and each
-/// authenticator that the node makes is of it. Takes memory once for each signature in it, and tells a
-/// caller's proof.
+/// numbers of its log's version; unless the node strayed it is honest from the state that a member like this
+/// node begins with, and each authenticator that the node makes is of it. Takes memory once for each
+/// signature in it, and tells a caller's proof.
 pub fn a_node_keeps_a_log(alloc: Global, node: &NodeLog)
     ensures { KeepsALog node.now }
 {
@@ -52,16 +52,16 @@ pub fn own_words_never_expose(alloc: Global, node: &NodeLog)
     a_log_has_one_pair_for_each_place();
 }
 
-/// Where an audit is open, a node that signed at the last number that it asks for, and in whose log a segment may
-/// begin with the first, refuses the challenge with its numbers only where memory runs out: they are in order, at
-/// most as many as a segment may have.
+/// Where an audit is open, a node that signed at the last number that it asks for, and in whose log a segment
+/// may begin with the first, refuses the challenge with its numbers only where memory runs out: they are in
+/// order, at most as many as a segment may have.
 pub fn what_is_asked_can_be_answered()
     ensures { AskedCanBeAnswered }
 {}
 
-/// So it does where the roster gives its log the version that it has and all that a witness was shown of its log
-/// is what the node itself showed: an audit asks from after the last segment's end on, which is an entry's number,
-/// up to a number that was learned, and there the node signed.
+/// So it does where the roster gives its log the version that it has and all that a witness was shown of its
+/// log is what the node itself showed: an audit asks from after the last segment's end on, which is an
+/// entry's number, up to a number that was learned, and there the node signed.
 pub fn own_words_can_be_answered(node: &NodeLog)
     ensures { OwnWordsCanBeAnswered node.now }
 {
