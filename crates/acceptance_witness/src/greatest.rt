@@ -84,11 +84,19 @@ fn segment_text(alloc: Global, roster: &Roster, log: &Log, closing: &Claim) -> O
     }
 }
 
+/// Whether a packet has this text after its number.
+fn has_segment(packet: &[u8], text: &[u8]) -> bool {
+    match packet.get(4..) {
+        Some(rest) => rest == text,
+        None => false,
+    }
+}
+
 /// Whether that text is the one that the formats' description has, and is taken; its packet isn't asked for.
 fn is_a_segment(alloc: Global, books: &mut Books, text: &[u8], closing: &Claim) -> bool {
     match last_part(&[(0, LAST)]).answer(alloc, closing) {
         Some(packet) => {
-            packet[4..] == text[..]
+            has_segment(&packet, text)
                 && check_segment(alloc, books.roster(), LogVersion::Two, text).is_ok()
                 && refuses(alloc, books, EventOf::Deliver(packet), Refusal::NotAsked)
         }
