@@ -3,7 +3,7 @@
 # and sign: the first thousand and the last, and all, each beside a plain loop over as many digests as the signatures owe,
 # by processor time by turns of a hundred calls; and the peak memory.
 #
-#     bench/calls.sh [THOUSANDS]    20, if not given; at most 32
+#     bench/calls.sh [THOUSANDS [VERSION]]    20 thousand, if not given, and at most 32; logs of version 1 or 2
 #
 # Needs rt and GNU time. Keys of height 16 are made four times, which takes two minutes.
 set -euo pipefail
@@ -13,5 +13,6 @@ cd "$(dirname "$0")/.."
 thousands=${1:-20}
 
 proved_scratch_crate calls_bench bench/calls/main.rt.txt anyhow nodes gateway nfs_items rpc commitment authenticator sha2
+have_version "${2:-1}"
 rt run > "$work/log" 2>&1 || { tail -40 "$work/log" >&2; exit 1; }
 /usr/bin/time -f 'peak memory: %M KiB' out/calls_bench "$thousands"

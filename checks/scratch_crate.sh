@@ -60,3 +60,13 @@ scratch_program() {
     touch "$work/crates/$name/specs/Lib.antt"
     cd "$work/crates/$name"
 }
+
+# have_version VERSION
+# Has the logs of the program be of this version, 1 or 2: its source has a constant for it.
+have_version() {
+    case $1 in
+        1) ;;
+        2) sed -i 's/^\(const LOG_VERSION: LogVersion = LogVersion::\)One;$/\1Two;/' src/main.rt ;;
+        *) echo 'a log is of version 1 or 2' >&2 && exit 2 ;;
+    esac
+}

@@ -4,6 +4,7 @@ clients, of what all three signed, and of what closes a log that the program mak
 from verifier.keys import CLIENT, SERVER, ZEROS, Authenticator, digest
 from verifier.log import (RECV, SEND, Ack, Check, Clock, Entry, Recv, Send, hash_after, recv_content, send_content)
 from verifier.replay import opening_state, step
+from verifier.words import LOG_1, LOG_2, number_in, word_of
 from verifier.xdr import array, hyper, opaque, word
 
 from .signer import Signer
@@ -11,6 +12,9 @@ from .texts import authenticator_text, entry_text, roster_text
 
 # The words that a packet begins with.
 LEARN, ANSWER = 1, 3
+
+# How many numbers are skipped before each entry of a log of version 2.
+SKIPPED = 3
 
 # CREATE of `b` in the root, with 700 bytes, by user 0.
 NONE = 0xffffffff
@@ -24,18 +28,21 @@ class Log:
     def __init__(self, signer: Signer):
         self.signer = signer
         self.entries: list[Entry] = []
+        self.words = [0]
         self.hashes = [ZEROS]
 
     def append(self, entry: Entry):
-        number, before = len(self.hashes), self.hashes[-1]
+        skipped = SKIPPED if self.signer.log == LOG_2 else 0
+        number = number_in(self.signer.log, self.words[-1]) + skipped + 1
+        self.words.append(word_of(skipped, number))
         self.entries.append(entry)
-        self.hashes.append(hash_after(before, number, entry.kind, digest(entry.content())))
+        self.hashes.append(hash_after(self.hashes[-1], self.words[-1], entry.kind, digest(entry.content())))
 
-    def signed(self, number: int) -> Authenticator:
-        return self.signer.sign(number, self.hashes[number])
+    def signed(self, place: int) -> Authenticator:
+        return self.signer.sign(self.words[place], self.hashes[place])
 
     def segment(self, closing: Authenticator) -> bytes:
-        """The text of the entries from the first one to the closing's."""
+        """The text of the entries of a log of version 1 from the first one to the closing's."""
         entries = array([entry_text(entry) for entry in self.entries[:closing.word]])
         return word(self.signer.node) + hyper(1) + ZEROS + entries + authenticator_text(closing)
 
@@ -47,11 +54,11 @@ def one_check(signer: Signer) -> Log:
     return log
 
 
-def to_logs() -> list[bytes]:
-    """The roster of a server, its authenticator of the number 1, and the one that closes a log of an entry of each kind
-    and six readings of the clock. No message or acknowledgement in it is another node's: its signature is the first
-    authenticator's."""
-    log = Log(Signer(1, SERVER, 'signer 0', 2))
+def to_logs(version: int) -> list[bytes]:
+    """The roster of a server, its authenticator of the number 1, and the one that closes a log of this version of an
+    entry of each kind and six readings of the clock. No message or acknowledgement in it is another node's: its
+    signature is the first authenticator's."""
+    log = Log(Signer(1, SERVER, 'signer 0', 2, version))
     first = log.signer.sign(1, ZEROS)
     log.append(Send(2, bytes([5]) * 6))
     log.append(Recv(2, 9, bytes([7]) * 32, bytes([1, 2, 3, 4, 5]), first.signature))
@@ -119,9 +126,9 @@ class Made:
 
 
 def handed(to: str) -> bytes:
-    """The texts for books, for logs or for replays, each after its length."""
-    if to == 'logs':
-        texts = to_logs()
+    """The texts for books, for logs, for logs with gaps or for replays, each after its length."""
+    if to in ('logs', 'gaps'):
+        texts = to_logs({'logs': LOG_1, 'gaps': LOG_2}[to])
     else:
         texts = {'books': Made().to_books, 'replays': Made().to_replays}[to]()
     return b''.join(word(len(text)) + text for text in texts)
