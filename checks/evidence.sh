@@ -121,8 +121,8 @@ check_gap_reasons() {
         changed hidden_entry $cut
         why "nfsacc: $files/case: not a roster .* byte 16832 does not decode" "$files/case"
     done
-    # No charge is 0 or 5.
-    for cut in 0 5; do
+    # No charge is 0 or 6.
+    for cut in 0 6; do
         with_byte hidden_entry 159 $cut
         why "nfsacc: $files/case: not a roster .* byte 156 does not decode" "$files/case"
     done
@@ -388,12 +388,12 @@ check_endless() {
     grep -qx '  length: 65535' "$files/out" || fail 'a file of 65,535 bytes' "$files/out"
 }
 
-# A file that begins like evidence of 65,536 entries and has no end is read up to the longest evidence, 1,917,079,156
+# A file that begins like evidence of 65,536 entries and has no end is read up to the longest evidence, 1,984,385,256
 # bytes, and a byte more.
 check_longest() {
     { head -c 144 "$cases/wrong_reply.evidence"; printf '\0\1\0\0'; } > "$files/case"
     [ "$(od -An -tx1 -j 92 -N 8 "$files/case" | tr -d ' ')" = 0000000100000002 ] || fail 'evidence of a replay' "$files/case"
-    truncate -s 1917079157 "$files/case"
+    truncate -s 1984385257 "$files/case"
     unread 148 "$files/case"
     truncate -s 100G "$files/case"
     unread 148 "$files/case"

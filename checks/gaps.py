@@ -1,6 +1,6 @@
 #!/usr/bin/env python3
-"""Sees that the second verifier gives each file of evidence of a log of version 2, whose numbers have gaps, the verdict that
-is owed: the node that is exposed, of a replay the fault and its entry's number, and of what is no evidence the reason and
+"""Sees that the second verifier gives each file of evidence of a log of version 2, whose numbers have gaps, and of a replay
+from a base, the verdict that is owed: the node that is exposed, of a replay the fault and its entry's number, and of what is no evidence the reason and
 the byte at which the first item begins that doesn't decode. So it does with packets, and why they are refused. Then errors are
 planted in the verifier, and each must be seen.
 
@@ -18,6 +18,7 @@ from random import Random
 
 sys.dont_write_bytecode = True
 import generate  # noqa: E402
+from generator.bases import BASES  # noqa: E402
 from generator.gaps import GAPS  # noqa: E402
 from generator.kinds import Case  # noqa: E402
 from generator.packets import Packet, packets  # noqa: E402
@@ -38,7 +39,7 @@ OPENING_STATE = 'f76828427b61afa0d539d5f3cb0c584a77a911f1e87222bb1ba03c8148b496f
 
 
 def all_made() -> Iterator[tuple[str, int, Case]]:
-    for name, count, make in GAPS:
+    for name, count, make in GAPS + BASES:
         for place in range(count):
             yield name, place, make(Random(f'{name} {place}'), place)
 
@@ -67,6 +68,7 @@ def wrong_in(case: Case) -> list[str]:
 # Errors, each as what stands in the place of a function of the verifier.
 
 marks_shown, fault_shown, step = evidence.marks_shown, evidence.fault_shown, replay.step
+state_of_base = evidence.state_of_base
 read_closed = judged_packets.read_closed
 
 
@@ -124,6 +126,23 @@ def of_any_version(reader, _, log):
     return read_closed(reader, {}, log)
 
 
+def opening_of_base(roster, node, base):
+    state = state_of_base(roster, node, base)
+    return state and replay.opening_state(node, state.kind)
+
+
+class AnyHash(bytes):
+    """Is every hash."""
+
+    def __eq__(self, other):
+        return True
+
+    def __ne__(self, other):
+        return False
+
+    __hash__ = bytes.__hash__
+
+
 PLANTED = [
     ('a skipped number shows no mark', evidence, 'marks_shown', no_mark),
     ('two marks of no entry differ', evidence, 'marks_shown', many_marks),
@@ -141,6 +160,10 @@ PLANTED = [
     ('a sent message is kept under its number', replay, 'step', kept_by_number),
     ("a fault's number is its place", evidence, 'fault_shown', at_place),
     ("a segment's version is not looked at", judged_packets, 'read_closed', of_any_version),
+    ("the digest of a base's state is not looked at", evidence, 'is_check_at', lambda base, state: True),
+    ('the state of a base knows any messages', evidence, 'knows_little', lambda base, state: True),
+    ('a replay after a base begins with the opening state', evidence, 'state_of_base', opening_of_base),
+    ('a base shows any hash before the first entry', evidence, 'ZEROS', AnyHash()),
 ]
 
 

@@ -4,14 +4,15 @@ import json
 from bisect import bisect_left
 from dataclasses import dataclass
 
-from .evidence import (Fork, Mark, Replay, Showing, chain, ends_in_closing, fault_shown, is_fork, marks_shown,
-                       numbers_from, read_file, words_from)
+from .evidence import (MAX_KNOWN, Base, Based, Charge, Fork, Mark, Replay, Showing, chain, ends_in_closing, fault_after_base,
+                       fault_shown, is_fork, marks_shown, numbers_from, read_file, state_of_base, words_from)
 from .keys import (MAX_MEMBERS, SECOND_FORM, SERVER, ZEROS, Authenticator, Member, Roster, Signature, digest, is_signed,
                    roster_text)
 from .log import ACK, CHECK, CLOCK, RECV, SEND, Entry, Recv, hash_after, message_hash, recv_content
 from .nfs import DIRECTORY, REGULAR, Time
 from .replay import Fault, State, fault_of, is_acknowledged, opening_state, step
 from .rpc import AUTH_SYS, MAX_AUTH, MOUNT, NFS
+from .states import read_state
 from .words import LOG_1, LOG_2, number_in, skipped_in
 from .xdr import Reader, Undecodable, hyper, word
 
@@ -341,15 +342,25 @@ def closing_of(roster: Roster, log: int, closing: Authenticator) -> dict:
 class Log:
     """A log under what a roster says of its node."""
 
-    def __init__(self, roster: Roster, replay: Replay):
+    def __init__(self, roster: Roster, replay: Replay, base: Base | None = None):
         self.roster, self.node, self.entries, self.log = roster, replay.node, replay.entries, replay.log
+        self.base, self.first, self.opening = base, replay.first, replay.opening
         self.links = replay.links()
         self.numbers, self.words = numbers_from(replay.first, self.links), words_from(replay.first, self.links)
         self.kind = roster[self.node].kind if self.node in roster else None
 
+    def start(self) -> State | None:
+        """The state before the first entry: that of the base, if the log has one."""
+        if self.base is None:
+            return opening_state(self.node, self.kind)
+        state = read_state(self.base.state)
+        return state if state is not None and max(len(state.received), len(state.sent)) <= MAX_KNOWN else None
+
     def state_before(self, at: int) -> State | None:
         """The state before an entry, where those before it have no fault."""
-        state, before = opening_state(self.node, self.kind), ZEROS
+        state, before = self.start(), self.opening
+        if state is None:
+            return None
         for entry, entry_word in zip(self.entries[:at], self.words):
             if fault_of(state, self.roster, entry) is not None:
                 return None
@@ -407,8 +418,8 @@ class Log:
 class Faulty(Log):
     """A log with a fault, and the state before the entry that has it."""
 
-    def __init__(self, roster: Roster, replay: Replay, number: int):
-        super().__init__(roster, replay)
+    def __init__(self, roster: Roster, replay: Replay, number: int, base: Base | None = None):
+        super().__init__(roster, replay, base)
         self.at = self.numbers.index(number)
         self.state: State = self.state_before(self.at)
 
@@ -534,7 +545,7 @@ def member_facts(member: Member) -> dict:
 
 
 HEAD = 65_536
-LONGEST = 1_917_079_156
+LONGEST = 1_984_385_256
 ADVICE = ("to be compared as a whole with the service's own roster: by its sha256, or by the count of its members and "
           "each one's number, kind, height and key")
 ANOTHER_NODE = 'what is shown is of another node'
@@ -556,18 +567,19 @@ def no_evidence(reason: str) -> dict:
     return {'reason': reason, 'note': CLEARS_NOBODY}
 
 
+def showing_facts(roster: Roster, each: Showing) -> dict:
+    links = [place_of(number, link.skipped) | {'kind': KINDS[link.kind], 'digest_of_its_content': link.content_hash.hex()}
+             for number, link in zip(numbers_from(each.first, each.links), each.links)]
+    return {'node': each.node, 'first': str(each.first), 'hash_before_it': each.opening.hex(), 'links': links,
+            'closing': closing_of(roster, each.log, each.closing)}
+
+
 def fork_facts(roster: Roster, fork: Fork, detail: Detail) -> dict:
-    def showing(each) -> dict:
-        links = [place_of(number, link.skipped) | {'kind': KINDS[link.kind],
-                                                   'digest_of_its_content': link.content_hash.hex()}
-                 for number, link in zip(numbers_from(each.first, each.links), each.links)]
-        return {'node': each.node, 'first': str(each.first), 'hash_before_it': each.opening.hex(), 'links': links,
-                'closing': closing_of(roster, each.log, each.closing)}
     said = {'charge': 'it keeps two logs', 'at': str(fork.at)} if len(fork.showings) == 2 else {
         'charge': 'its log begins after another hash than 32 zero bytes'}
     return said | {'contents': 'not in the file: of the entries between it has the kinds and the digests of the contents '
                                'alone',
-                   'showings': [showing(each) for each in fork.showings]} | state_facts(None, detail)
+                   'showings': [showing_facts(roster, each) for each in fork.showings]} | state_facts(None, detail)
 
 
 def log_facts(roster: Roster, replay: Replay, detail: Detail) -> dict:
@@ -583,15 +595,42 @@ def log_facts(roster: Roster, replay: Replay, detail: Detail) -> dict:
     return said | state_facts(log if replay.first == 1 else None, detail)
 
 
+def base_facts(roster: Roster, base: Base) -> dict:
+    """What a base says, and its state in numbers."""
+    said, state = showing_facts(roster, base.showing) | {'at': str(base.at)}, read_state(base.state)
+    of_state = {'length_of_its_text': len(base.state)}
+    if state is None:
+        return said | {'state': of_state | {'none': "the bytes are not a state's text"}}
+    of_state |= {'digest': state.digest().hex(), 'received': len(state.received), 'sent': len(state.sent)}
+    if state.kind == SERVER:
+        of_state['files'] = len(state.world.files.files)
+    return said | {'state': of_state}
+
+
+def based_facts(roster: Roster, based: Based, detail: Detail) -> dict:
+    base, replay = based.base, based.replay
+    log = Log(roster, replay, base)
+    contents = ('its entries after the base, which --entries lists; what is owed at an entry follows from the state of the '
+                'base and the entries before it, and --state K shows the state before entry K')
+    said = {'charge': 'its log has a fault after a base', 'base': base_facts(roster, base), 'log': {
+        'node': replay.node, 'first': str(replay.first), 'hash_before_it': replay.opening.hex(),
+        'count': len(replay.entries), 'contents': contents, 'closing': closing_of(roster, replay.log, replay.closing)}}
+    if detail.entries:
+        said['all_entries'] = log.all_entries(replay.first, replay.opening)
+    return said | state_facts(log, detail)
+
+
 def state_facts(log: Log | None, detail: Detail) -> dict:
     """The state after all entries below a number, where it is asked for."""
     if detail.state is None:
         return {}
     said = {'before_entry': str(detail.state)}
-    if log is None or detail.state > log.numbers[-1] + 1:
+    if log is None or not log.first <= detail.state <= log.numbers[-1] + 1:
         return {'state': said | {'none': 'the file does not have all entries before it'}}
     if log.kind is None:
         return {'state': said | {'none': 'the roster does not say what the node is'}}
+    if log.start() is None:
+        return {'state': said | {'none': 'no log begins with the state of the base'}}
     at = bisect_left(log.numbers, detail.state)
     state = log.state_before(at)
     if state is None:
@@ -657,12 +696,15 @@ def fork_finding(roster: Roster, node: int, fork: Fork) -> dict:
     return {'two_hashes': marks} | rests_on(': a log has one hash at each number')
 
 
-def fault_finding(roster: Roster, replay: Replay, fault: Fault, number: int) -> dict:
-    log = Faulty(roster, replay, number)
+def fault_finding(roster: Roster, replay: Replay, fault: Fault, number: int, base: Base | None = None) -> dict:
+    log = Faulty(roster, replay, number, base)
     name, meaning = FAULTS[fault]
     said = {'fault': {'fault': int(fault), 'name': name, 'meaning': meaning, 'entry': str(number)},
             'entries': [log.entry(at) for at in log.concerned(fault)]}
-    return said | log.comparison(fault) | rests_on(', which stand on RFC 1094, RFC 4506 and RFC 5531')
+    rules = ', which stand on RFC 1094, RFC 4506 and RFC 5531'
+    if base is not None:
+        rules += '; the state at the base is the one that the digest in the log says, and nothing before it is looked at'
+    return said | log.comparison(fault) | rests_on(rules)
 
 
 def not_signed(roster: Roster, node: int) -> str:
@@ -687,19 +729,44 @@ def showing_lack(roster: Roster, node: int, showing: Showing) -> str | None:
 
 def log_lack(roster: Roster, node: int, replay: Replay) -> str:
     """What the log of a replay lacks first in which no fault is shown."""
-    closing, links = replay.closing, replay.links()
     if replay.node != node:
         return ANOTHER_NODE
     if node in roster and roster[node].log != replay.log:
         return OTHER_VERSION
     if replay.first != 1 or replay.opening != ZEROS:
         return 'the log is not shown from its first entry on'
-    if closing.node != node or closing.word != words_from(1, links)[-1] or closing.hash != chain(ZEROS, 1, links)[-1]:
+    return closing_lack(roster, node, replay) or 'the log has no fault'
+
+
+def closing_lack(roster: Roster, node: int, replay: Replay) -> str | None:
+    """What the closing of entries lacks first."""
+    closing, links = replay.closing, replay.links()
+    if closing.node != node or closing.word != words_from(replay.first, links)[-1]:
         return NOT_CLOSED
-    return 'the log has no fault' if is_signed(roster, closing) else not_signed(roster, node)
+    if closing.hash != chain(replay.opening, replay.first, links)[-1]:
+        return NOT_CLOSED
+    return None if is_signed(roster, closing) else not_signed(roster, node)
 
 
-def finding(roster: Roster, node: int, charge: Fork | Replay) -> dict:
+def based_lack(roster: Roster, node: int, based: Based) -> str:
+    """What a base and the log after it lack first in which no fault is shown."""
+    base, replay = based.base, based.replay
+    lack = showing_lack(roster, node, base.showing)
+    if lack in (ANOTHER_NODE, OTHER_VERSION):
+        return lack
+    if replay.node != node:
+        return ANOTHER_NODE
+    if lack is not None:
+        return lack
+    if state_of_base(roster, node, base) is None:
+        return 'the base is not a good one'
+    there = marks_shown(roster, node, base.showing).get(base.at)
+    if (replay.first, replay.opening) != (base.at + 1, there):
+        return 'the log does not go on from the base'
+    return closing_lack(roster, node, replay) or 'the log has no fault'
+
+
+def finding(roster: Roster, node: int, charge: Charge) -> dict:
     """What is found in a charge: that it is accepted and why, or the reason why it isn't."""
     if isinstance(charge, Fork):
         if is_fork(roster, node, charge):
@@ -707,6 +774,11 @@ def finding(roster: Roster, node: int, charge: Fork | Replay) -> dict:
         lacks = [showing_lack(roster, node, showing) for showing in charge.showings]
         shown = 'marks' if charge.log == LOG_2 else 'hashes'
         return no_evidence(next(filter(None, lacks), f'no two {shown} are shown at the number'))
+    if isinstance(charge, Based):
+        fault = fault_after_base(roster, node, charge)
+        if fault is None:
+            return no_evidence(based_lack(roster, node, charge))
+        return fault_finding(roster, charge.replay, *fault, charge.base)
     fault = fault_shown(roster, node, charge)
     if fault is None:
         return no_evidence(log_lack(roster, node, charge))
@@ -722,7 +794,7 @@ def is_read_in_part(data: bytes) -> bool:
     members = data[4:] if second else data
     count, length = int.from_bytes(members[:4], 'big'), 48 if second else 44
     charge = int.from_bytes(members[length * count + 8:length * count + 12], 'big')
-    return len(data) > LONGEST or count > MAX_MEMBERS or charge not in (1, 2, 3, 4)
+    return len(data) > LONGEST or count > MAX_MEMBERS or charge not in (1, 2, 3, 4, 5)
 
 
 def explain(data: bytes, program: str, detail: Detail = Detail(), trusted: Roster | None = None) -> dict:
@@ -739,7 +811,8 @@ def explain(data: bytes, program: str, detail: Detail = Detail(), trusted: Roste
     if trusted is not None:
         said["trusted_roster's_sha256"] = digest(roster_text(trusted)).hex()
     said['accused'] = accused_words(roster, node)
-    said |= fork_facts(roster, charge, detail) if isinstance(charge, Fork) else log_facts(roster, charge, detail)
+    facts = {Fork: fork_facts, Replay: log_facts, Based: based_facts}[type(charge)]
+    said |= facts(roster, charge, detail)
     if trusted not in (None, roster):
         return said | no_evidence('its roster is not the one that is trusted')
     found = finding(roster, node, charge)

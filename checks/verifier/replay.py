@@ -159,10 +159,10 @@ def read_clock(state: State, entry: Clock):
         state.heard = None
 
 
-def first_fault(roster: Roster, node: int, entries: list[Entry], words: list[int],
+def first_fault(roster: Roster, state: State, entries: list[Entry], words: list[int],
                 hashes: list[bytes]) -> tuple[Fault, int] | None:
-    """The first entry with a fault, by its index; `words` has that of each entry, and `hashes` the hash before each."""
-    state = opening_state(node, roster[node].kind)
+    """The first entry with a fault after a state, by its index; `words` has that of each entry, and `hashes` the hash
+    before each. The state goes on with them."""
     for at, (entry, entry_word, before) in enumerate(zip(entries, words, hashes)):
         fault = fault_of(state, roster, entry)
         if fault is not None:

@@ -8,17 +8,22 @@ use Rattle.authenticator.specs.declared.member.LogVersion.{LogVersion}
 use Rattle.authenticator.specs.declared.member.Member.{Member}
 use Rattle.authenticator.specs.Roster.{keeps_version}
 use Rattle.secure_log.specs.LogEntries.Chain.{zeros}
-use Rattle.secure_log.specs.Versioned.{VersionedParts}
+use Rattle.authenticator.specs.Signed.{IsSignedIn}
+use Rattle.secure_log.specs.Versioned.{EndsIn, VersionedParts}
 use Rattle.replay.specs.replay_spec.Placed.{places_in}
 use Rattle.replay.specs.replay_spec.Opening.{opening_of}
+use Rattle.replay.specs.replay_spec.state_spec.State.{State}
+use Rattle.replay.specs.replay_spec.state_spec.StateText.{IsStateText}
 use Rattle.replay.specs.replay_spec.Replay.{verdict_of}
 use Rattle.replay.specs.Verdicts.{IsOutcome}
 use Rattle.replay.specs.Faults.{fault_in}
 use Rattle.replay.specs.declared.outcome.Outcome.{Outcome}
 use Rattle.replay.specs.declared.outcome.Outcome.TheVariants as outcomes
 use Rattle.secure_log.specs.declared.mark.Mark.{Mark}
+use Rattle.evidence_showings.specs.evidence_spec.Base.{BaseParts, IsGoodBase}
 use Rattle.evidence_showings.specs.evidence_spec.Showing.{ShowingParts, Shows}
-use Rattle.evidence_showings.specs.evidence_spec.Evidence.{Charge, Fork, Replay, EvidenceParts, AcceptsFork}
+use Rattle.evidence_showings.specs.evidence_spec.Evidence.{Charge, Fork, Replay, Based, EvidenceParts}
+use Rattle.evidence_showings.specs.evidence_spec.Evidence.{AcceptsBased, AcceptsFork}
 use Rattle.evidence_showings.specs.evidence_spec.Evidence.{AcceptsReplay, AcceptsCharge, Accepts}
 use Rattle.evidence_showings.specs.evidence_spec.Evidence.{charge_version}
 use Rattle.challenge.specs.declared.finding.Finding.{Finding}
@@ -27,7 +32,10 @@ use Rattle.challenge.specs.declared.finding.NotAccepted.{NotAccepted}
 use Rattle.challenge.specs.declared.finding.NotAccepted.TheVariants as reasons
 use Rattle.challenge.specs.Findings.{is_accepted, finding_in, AcceptsMarks, AcceptsTwo, AcceptsOne}
 use Rattle.challenge.specs.Findings.{ShowingLacks, HasNoTwo, ForkLacks, LogLacks, IsClosedOf, IsAudited}
-use Rattle.challenge.specs.Findings.{Finds, FindsInFork, FindsInLog, FindsInCharge}
+use Rattle.challenge.specs.Findings.{Finds, FindsInFork, FindsInLog, FindsInBased, FindsInCharge}
+use Rattle.challenge.specs.Findings.{IsClosedAfter, IsClosedBase}
+use Rattle.challenge.specs.Findings.{BasedLacks, First, FollowsOn, HasFaultAfter, IsGood, nothing_more}
+use Rattle.evidence_showings.specs.Showings.{Ends}
 
 -- ---- what lacks something isn't accepted
 
@@ -45,6 +53,8 @@ showing_lacks v ms node s reasons.NotClosed closed lack =
     lack.2 (record { first = c.first; skips = c.skips; node = c.node; last = c.last; hash = c.hash })
 showing_lacks v ms node s reasons.NotSigned closed lack = lack.3 closed.closed.signed
 showing_lacks v ms node s reasons.NotFromStart closed lack = lack
+showing_lacks v ms node s reasons.NoGoodBase closed lack = lack
+showing_lacks v ms node s reasons.NotFromBase closed lack = lack
 showing_lacks v ms node s reasons.NoTwoMarks closed lack = lack
 showing_lacks v ms node s reasons.NoFault closed lack = lack
 
@@ -81,12 +91,77 @@ log_lacks ms node s reasons.NotFromStart lack accepted =
     lack.2 (record { first = accepted.first; opening = accepted.opening })
 log_lacks ms node s reasons.NotClosed lack accepted = lack.3 accepted.closed.ends
 log_lacks ms node s reasons.NotSigned lack accepted = lack.4 accepted.closed.signed
+log_lacks ms node s reasons.NoGoodBase lack accepted = lack
+log_lacks ms node s reasons.NotFromBase lack accepted = lack
 log_lacks ms node s reasons.NoTwoMarks lack accepted = lack
 log_lacks ms node s reasons.NoFault lack accepted =
     let same : Some lack.member ≡ Some accepted.member = sym lack.audited.is_member ∙ accepted.is_member in
     let one : lack.member ≡ accepted.member = cc in
     lack.none accepted.fault accepted.number
     (ap (λ m. verdict_of ms (opening_of m) (places_in s)) one ∙ accepted.found)
+
+-- what is asked first and is there isn't lacking
+behind : (asked : Type 0) (name : NotAccepted) (more : NotAccepted → Type 0) (reason : NotAccepted) → asked
+    → (more reason → ⊥) → First asked name more reason → ⊥
+behind asked name more reason there none (inl lack) = lack.1 there
+behind asked name more reason there none (inr (asked_for, lack)) = none lack
+
+-- what is asked of a base and of a log after it, from each step on
+module _ (ms : List Member) (node : ℕ) (b : BaseParts) (s : VersionedParts) where
+  abbrev pub FaultAsked : NotAccepted → Type 0
+  FaultAsked = First (HasFaultAfter ms b s) reasons.NoFault nothing_more
+
+  abbrev pub SignedAsked : NotAccepted → Type 0
+  SignedAsked = First (IsSignedIn ms s.closing) reasons.NotSigned FaultAsked
+
+  abbrev pub EndsAsked : NotAccepted → Type 0
+  EndsAsked = First (EndsIn s) reasons.NotClosed SignedAsked
+
+  abbrev pub FollowsAsked : NotAccepted → Type 0
+  FollowsAsked = First (FollowsOn b s) reasons.NotFromBase EndsAsked
+
+  abbrev pub GoodAsked : NotAccepted → Type 0
+  GoodAsked = First (IsGood ms b) reasons.NoGoodBase FollowsAsked
+
+  abbrev pub BaseSignedAsked : NotAccepted → Type 0
+  BaseSignedAsked = First (IsSignedIn ms b.showing.closing) reasons.NotSigned GoodAsked
+
+  abbrev pub BaseEndsAsked : NotAccepted → Type 0
+  BaseEndsAsked = First (Ends b.log_version b.showing) reasons.NotClosed BaseSignedAsked
+
+  abbrev pub NodeAsked : NotAccepted → Type 0
+  NodeAsked = First (s.node ≡ node) reasons.AnotherNode BaseEndsAsked
+
+  abbrev pub VersionAsked : NotAccepted → Type 0
+  VersionAsked = First (IsTrue (keeps_version ms node b.log_version)) reasons.OtherVersion NodeAsked
+
+  -- a base and a log after it that are accepted lack nothing
+  pub based_lacks : (reason : NotAccepted) → IsTrue (keeps_version ms node b.log_version)
+      → BasedLacks ms node b s reason → AcceptsBased ms node b s → ⊥
+  based_lacks reason version lack x =
+      let c = x.good.closed in
+      let ends : Ends b.log_version b.showing =
+      record { first = c.first; skips = c.skips; node = c.node; last = c.last; hash = c.hash } in
+      let good : IsGood ms b = record { member = x.member; state = x.state; good = x.good } in
+      let follows : FollowsOn b s = record { first = x.first; opening = x.opening } in
+      let fault : HasFaultAfter ms b s = record {
+        member = x.member;
+        state = x.state;
+        good = x.good;
+        fault = x.fault;
+        number = x.number;
+        found = x.found;
+      } in
+      behind (b.showing.node ≡ node) reasons.AnotherNode VersionAsked reason x.base_node
+      (behind (IsTrue (keeps_version ms node b.log_version)) reasons.OtherVersion NodeAsked reason version
+      (behind (s.node ≡ node) reasons.AnotherNode BaseEndsAsked reason x.of_node
+      (behind (Ends b.log_version b.showing) reasons.NotClosed BaseSignedAsked reason ends
+      (behind (IsSignedIn ms b.showing.closing) reasons.NotSigned GoodAsked reason c.signed
+      (behind (IsGood ms b) reasons.NoGoodBase FollowsAsked reason good
+      (behind (FollowsOn b s) reasons.NotFromBase EndsAsked reason follows
+      (behind (EndsIn s) reasons.NotClosed SignedAsked reason x.closed.ends
+      (behind (IsSignedIn ms s.closing) reasons.NotSigned FaultAsked reason x.closed.signed
+      (behind (HasFaultAfter ms b s) reasons.NoFault nothing_more reason fault (λ none. none)))))))))) lack
 
 -- ---- what is found tells whether evidence is accepted
 
@@ -126,10 +201,27 @@ log_exact ms node s (found.Fault fault number) h =
 log_exact ms node s (found.NotAccepted reason) h =
     ((λ t. absurd cc), (λ accepted. absurd (log_lacks ms node s reason h accepted.1)))
 
+-- what is accepted is of the version that the roster gives the node
+based_version : (ms : List Member) (node : ℕ) (b : BaseParts) (s : VersionedParts) → AcceptsBased ms node b s
+    → IsTrue (keeps_version ms node b.log_version)
+based_version ms node b s x =
+    let kept : IsTrue (keeps_version ms s.node b.log_version) =
+    subst (λ v. IsTrue (keeps_version ms s.node v)) x.version x.closed.version in
+    subst (λ n. IsTrue (keeps_version ms n b.log_version)) x.of_node kept
+
+based_exact : (ms : List Member) (node : ℕ) (b : BaseParts) (s : VersionedParts) (f : Finding)
+    → FindsInBased ms node b s f
+    → IsTrue (is_accepted f) ↔ AcceptsVersion b.log_version ms node (AcceptsBased ms node b s)
+based_exact ms node b s (found.TwoMarks at one other) h = absurd h
+based_exact ms node b s (found.Fault fault number) h = ((λ t. (h.0, h.1.accepted)), (λ accepted. refl))
+based_exact ms node b s (found.NotAccepted reason) h =
+    ((λ t. absurd cc), (λ accepted. absurd (based_lacks ms node b s reason accepted.0 h accepted.1)))
+
 charge_exact : (ms : List Member) (node : ℕ) (c : Charge) (f : Finding) → FindsInCharge ms node c f
     → IsTrue (is_accepted f) ↔ AcceptsVersion (charge_version c) ms node (AcceptsCharge ms node c)
 charge_exact ms node (Fork fork) f h = fork_exact fork.log_version ms node fork.at fork.a fork.b f h
 charge_exact ms node (Replay s) f h = log_exact ms node s f h
+charge_exact ms node (Based b s) f h = based_exact ms node b s f h
 
 -- evidence is accepted exactly where what is found says so
 finds_exact : (ms : List Member) (e : EvidenceParts) (f : Finding) → Finds ms e f
@@ -238,3 +330,61 @@ outcome_finds ms node s m (outcomes.Sound state) audited is = record {
   audited = audited;
   none = λ fault number found. let both = sym is.1 ∙ found in absurd cc;
 }
+
+-- a text is that of one state at most
+abbrev pub OneState : Type 0
+OneState = (s t : State) (bytes : List ℕ) → IsStateText s bytes → IsStateText t bytes → s ≡ t
+
+-- what a replay finds in a closed log after a good base
+pub after_finds : OneState → (ms : List Member) (node : ℕ) (b : BaseParts) (s : VersionedParts) (m : Member) (t : State)
+    (o : Outcome) → IsClosedBase ms node b s → IsGoodBase ms b m t → IsClosedAfter ms b s
+    → s.log_version ≡ b.log_version
+    → IsOutcome o (verdict_of ms t (places_in s)) → FindsInBased ms node b s (finding_in o)
+after_finds law ms node b s m t (outcomes.Fault fault number) closed good after version is = (
+  closed.version,
+  record {
+    accepted = record {
+      member = m;
+      state = t;
+      good = good;
+      base_node = closed.base_node;
+      of_node = closed.of_node;
+      version = version;
+      first = after.follows.first;
+      opening = after.follows.opening;
+      closed = record {
+        version = subst (λ v. IsTrue (keeps_version ms s.node v)) (sym version)
+            (subst (λ n. IsTrue (keeps_version ms n b.log_version)) (sym closed.of_node) closed.version);
+        ends = after.ends;
+        signed = after.signed;
+      };
+      fault = fault_in fault;
+      number = number;
+      found = is;
+    };
+    is_fault = refl;
+    is_number = refl;
+  },
+)
+after_finds law ms node b s m t (outcomes.Sound state) closed good after version is =
+    let is_good : IsGood ms b = record { member = m; state = t; good = good } in
+    let none : ¬ HasFaultAfter ms b s = λ h.
+    let same : h.state ≡ t = law h.state t b.state h.good.state.text good.state.text in
+    let found = sym is.1 ∙ ap (λ x. verdict_of ms x (places_in s)) (sym same) ∙ h.found in
+    absurd cc in
+    inr (
+      closed.base_node,
+      inr (
+        closed.version,
+        inr (
+          closed.of_node,
+          inr (
+            closed.ends,
+            inr (
+              closed.signed,
+              inr (is_good, inr (after.follows, inr (after.ends, inr (after.signed, inl (refl, none))))),
+            ),
+          ),
+        ),
+      ),
+    )

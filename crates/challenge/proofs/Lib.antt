@@ -6,5 +6,7 @@ pub mod OneFinding
 pub mod OneText
 pub mod Forks
 pub mod Logs
+pub mod BasedTexts
+pub mod BaseStates
 pub use Rattle.evidence_showings.proofs as evidence_showings
 pub use Rattle.replay.proofs as replay

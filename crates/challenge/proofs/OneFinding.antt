@@ -2,7 +2,7 @@
 -- marks.
 -- Serves: one_finding.
 use Rattle.std.proofs.Common.{◌≡◌, ℕ, ◌-◌, List, length, Option, Some, None, refl, sym, ap, ◌∙◌, inl, inr}
-use Rattle.std.specs.Prelude.{◌⊎◌, IsTrue}
+use Rattle.std.specs.Prelude.{IsTrue}
 use Rattle.authenticator.specs.declared.member.LogVersion.{LogVersion}
 use Rattle.authenticator.specs.declared.member.Member.{Member}
 use Rattle.authenticator.specs.Roster.{keeps_version}
@@ -21,7 +21,8 @@ use Rattle.secure_log.specs.declared.mark.Mark.{Mark}
 use Rattle.secure_log.specs.declared.mark.Mark.TheVariants.{Hash, NoEntry}
 use Rattle.evidence_showings.specs.Showings.{Ends}
 use Rattle.evidence_showings.specs.evidence_spec.Showing.{ShowingParts, Shows, links_in}
-use Rattle.evidence_showings.specs.evidence_spec.Evidence.{Charge, Fork, Replay}
+use Rattle.evidence_showings.specs.evidence_spec.Evidence.{Charge, Fork, Replay, Based}
+use Rattle.evidence_showings.specs.evidence_spec.Base.{BaseParts}
 use Rattle.evidence_showings.proofs.evidence_spec.Gaps.{shown_after}
 use Rattle.challenge.specs.declared.finding.Finding.{Finding}
 use Rattle.challenge.specs.declared.finding.Finding.TheVariants as found
@@ -29,15 +30,14 @@ use Rattle.challenge.specs.declared.finding.NotAccepted.{NotAccepted}
 use Rattle.challenge.specs.declared.finding.NotAccepted.TheVariants as reasons
 use Rattle.challenge.specs.Findings.{ShowingLacks, LacksAfterFirst, ForkLacks, IsFromStart, LogLacks}
 use Rattle.challenge.specs.Findings.{AcceptsMarks, AcceptsFault, FindsInFork, FindsInLog, FindsInCharge}
-use Rattle.challenge.specs.Findings.{IsMark, OneFinding}
-use Rattle.challenge.proofs.Found.{not_true, showing_lacks, log_lacks, fork_has_two}
+use Rattle.challenge.specs.Findings.{AcceptsFaultAfter, BasedLacks, FindsInBased, First, IsMark, OneFinding}
+use Rattle.challenge.specs.Findings.{FollowsOn, HasFaultAfter, IsGood, nothing_more}
+use Rattle.challenge.proofs.Found.{BaseEndsAsked, BaseSignedAsked, EndsAsked, FaultAsked, FollowsAsked}
+use Rattle.challenge.proofs.Found.{OneState}
+use Rattle.challenge.proofs.Found.{GoodAsked, NodeAsked, SignedAsked, VersionAsked}
+use Rattle.challenge.proofs.Found.{not_true, showing_lacks, log_lacks, based_lacks, fork_has_two}
 
 -- ---- what is lacking first
-
--- What is asked first is lacking, or it is there and something after it is lacking.
-abbrev First : (asked : Type 0) → (name : NotAccepted) → (behind : NotAccepted → Type 0) → NotAccepted
-    → Type 0
-First asked name behind reason = ((reason ≡ name) × (¬ asked)) ⊎ (asked × behind reason)
 
 -- No two things are lacking.
 abbrev IsOne : (NotAccepted → Type 0) → Type 0
@@ -77,6 +77,8 @@ module _ (v : LogVersion) (ms : List Member) (node : ℕ) (s : ShowingParts) whe
   in_order reasons.NotClosed lack = inr (lack.0, inr (lack.1, inl (refl, lack.2)))
   in_order reasons.NotSigned lack = inr (lack.0, inr (lack.1, inr (lack.2, inl (refl, lack.3))))
   in_order reasons.NotFromStart lack = absurd lack
+  in_order reasons.NoGoodBase lack = absurd lack
+  in_order reasons.NotFromBase lack = absurd lack
   in_order reasons.NoTwoMarks lack = absurd lack
   in_order reasons.NoFault lack = absurd lack
 
@@ -133,6 +135,8 @@ module _ (ms : List Member) (node : ℕ) (s : VersionedParts) where
   log_in_order reasons.NotClosed lack = inr (lack.0, inr (lack.1, inr (lack.2, inl (refl, lack.3))))
   log_in_order reasons.NotSigned lack =
       inr (lack.0, inr (lack.1, inr (lack.2, inr (lack.3, inl (refl, lack.4)))))
+  log_in_order reasons.NoGoodBase lack = absurd lack
+  log_in_order reasons.NotFromBase lack = absurd lack
   log_in_order reasons.NoTwoMarks lack = absurd lack
   log_in_order reasons.NoFault lack =
       let a = lack.audited in
@@ -149,6 +153,22 @@ module _ (ms : List Member) (node : ℕ) (s : VersionedParts) where
 
   log_lacks_one : IsOne (LogLacks ms node s)
   log_lacks_one one other x y = log_order_is_one one other (log_in_order one x) (log_in_order other y)
+
+-- ---- in a base and a log after it
+
+module _ (ms : List Member) (node : ℕ) (b : BaseParts) (s : VersionedParts) where
+  based_lacks_one : IsOne (BasedLacks ms node b s)
+  based_lacks_one =
+      first_is_one (b.showing.node ≡ node) reasons.AnotherNode (VersionAsked ms node b s)
+      (first_is_one (IsTrue (keeps_version ms node b.log_version)) reasons.OtherVersion (NodeAsked ms node b s)
+      (first_is_one (s.node ≡ node) reasons.AnotherNode (BaseEndsAsked ms node b s)
+      (first_is_one (Ends b.log_version b.showing) reasons.NotClosed (BaseSignedAsked ms node b s)
+      (first_is_one (IsSignedIn ms b.showing.closing) reasons.NotSigned (GoodAsked ms node b s)
+      (first_is_one (IsGood ms b) reasons.NoGoodBase (FollowsAsked ms node b s)
+      (first_is_one (FollowsOn b s) reasons.NotFromBase (EndsAsked ms node b s)
+      (first_is_one (EndsIn s) reasons.NotClosed (SignedAsked ms node b s)
+      (first_is_one (IsSignedIn ms s.closing) reasons.NotSigned (FaultAsked ms node b s)
+      (first_is_one (HasFaultAfter ms b s) reasons.NoFault nothing_more (λ one other x y. absurd x))))))))))
 
 -- ---- what is accepted
 
@@ -263,11 +283,41 @@ one_in_log ms node s (found.NotAccepted reason) (found.Fault fault number) x y =
 one_in_log ms node s (found.NotAccepted reason) (found.NotAccepted reason') x y =
     ap found.NotAccepted (log_lacks_one ms node s reason reason' x y)
 
-one_in_charge : (ms : List Member) (node : ℕ) (c : Charge) (one other : Finding) → FindsInCharge ms node c one
+same_faults_after : OneState → (ms : List Member) (node : ℕ) (b : BaseParts) (s : VersionedParts) (fault fault' : ReplayFault)
+    (number number' : ℕ) → AcceptsFaultAfter ms node b s fault number → AcceptsFaultAfter ms node b s fault' number'
+    → found.Fault fault number ≡ found.Fault fault' number'
+same_faults_after one ms node b s fault fault' number number' x y =
+    let p = x.accepted in
+    let q = y.accepted in
+    let states : p.state ≡ q.state = one p.state q.state b.state p.good.state.text q.good.state.text in
+    let verdicts = sym p.found ∙ ap (λ t. verdict_of ms t (places_in s)) states ∙ q.found in
+    let faults : p.fault ≡ q.fault = cc in
+    let numbers : p.number ≡ q.number = cc in
+    let again : fault ≡ fault' =
+    sym (back_again fault) ∙ ap fault_back (sym x.is_fault ∙ faults ∙ y.is_fault) ∙ back_again fault' in
+    let places : number ≡ number' = sym x.is_number ∙ numbers ∙ y.is_number in
+    cc
+
+one_in_based : OneState → (ms : List Member) (node : ℕ) (b : BaseParts) (s : VersionedParts) (one other : Finding)
+    → FindsInBased ms node b s one → FindsInBased ms node b s other → one ≡ other
+one_in_based law ms node b s (found.TwoMarks at h k) other x y = absurd x
+one_in_based law ms node b s (found.Fault fault number) (found.TwoMarks at h k) x y = absurd y
+one_in_based law ms node b s (found.Fault fault number) (found.Fault fault' number') x y =
+    same_faults_after law ms node b s fault fault' number number' x.1 y.1
+one_in_based law ms node b s (found.Fault fault number) (found.NotAccepted reason) x y =
+    absurd (based_lacks ms node b s reason x.0 y x.1.accepted)
+one_in_based law ms node b s (found.NotAccepted reason) (found.TwoMarks at h k) x y = absurd y
+one_in_based law ms node b s (found.NotAccepted reason) (found.Fault fault number) x y =
+    absurd (based_lacks ms node b s reason y.0 x y.1.accepted)
+one_in_based law ms node b s (found.NotAccepted reason) (found.NotAccepted reason') x y =
+    ap found.NotAccepted (based_lacks_one ms node b s reason reason' x y)
+
+one_in_charge : OneState → (ms : List Member) (node : ℕ) (c : Charge) (one other : Finding) → FindsInCharge ms node c one
     → FindsInCharge ms node c other → one ≡ other
-one_in_charge ms node (Fork f) one other x y = one_in_fork f.log_version ms node f.at f.a f.b one other x y
-one_in_charge ms node (Replay s) one other x y = one_in_log ms node s one other x y
+one_in_charge law ms node (Fork f) one other x y = one_in_fork f.log_version ms node f.at f.a f.b one other x y
+one_in_charge law ms node (Replay s) one other x y = one_in_log ms node s one other x y
+one_in_charge law ms node (Based b s) one other x y = one_in_based law ms node b s one other x y
 
 -- evidence has one finding at most
-pub one_is_found : OneFinding
-one_is_found ms e one other x y = one_in_charge ms e.node e.charge one other x y
+pub one_is_found : OneState → OneFinding
+one_is_found law ms e one other x y = one_in_charge law ms e.node e.charge one other x y

@@ -2,7 +2,7 @@
 -- Serves: a_text_has_one_charge.
 use Rattle.std.proofs.Common.{◌≡◌, ℕ, zero, suc, ◌+◌, ◌-◌, List, [], ◌∷◌, Option, Some, None, map}
 use Rattle.std.proofs.Common.{refl, sym, ap, ap₂, subst, ◌∙◌, arith}
-use Rattle.std.specs.Prelude.{IfSome, option_map}
+use Rattle.std.specs.Prelude.{◌==◌, IfSome, if◌then◌else◌, option_map}
 use Rattle.std.specs.List.{AllByRecursion}
 use Rattle.xdr.specs.Item.{Value, choice}
 use Rattle.authenticator.specs.declared.member.LogVersion.{LogVersion}
@@ -14,10 +14,13 @@ use Rattle.secure_log.proofs.OneText as logs
 use Rattle.secure_log.proofs.Texts.{same_authenticator}
 use Rattle.evidence_showings.specs.evidence_spec.Showing.{ShowingParts, ShownLink, link_value, numbered}
 use Rattle.evidence_showings.specs.evidence_spec.Showing.{showing_item, showing_value}
-use Rattle.evidence_showings.specs.evidence_spec.Evidence.{Charge, Fork, ForkParts, Replay, charge_item}
+use Rattle.evidence_showings.specs.evidence_spec.Evidence.{Charge, Based, Fork, ForkParts, Replay}
+use Rattle.evidence_showings.specs.evidence_spec.Evidence.{based_item, based_value, begun_replay, charge_item}
+use Rattle.evidence_showings.specs.evidence_spec.Base.{BaseParts, begun_item, begun_value}
 use Rattle.evidence_showings.specs.evidence_spec.Evidence.{charge_value, fork_charge, fork_item, fork_value}
 use Rattle.evidence_showings.specs.evidence_spec.Evidence.{is_charge, replay_charge, replay_item}
-use Rattle.challenge.specs.Charges.{IsWritten, LogSaysNoMore, SaysNoMore}
+use Rattle.evidence_showings.specs.Showings.{SaysNoMore}
+use Rattle.challenge.specs.Charges.{IsWritten, LogSaysNoMore}
 
 -- ---- showings
 
@@ -183,12 +186,97 @@ one_fork f g a b e =
     let y = one_second v f.b g.b a.1 second (ap (λ (x : Value (fork_item v)). x.1.1) says) in
     λ i. record { log_version = same i; at = at i; a = x i; b = y i }
 
+no_based : (v w : LogVersion) (f : ForkParts) (b : BaseParts) (s : VersionedParts)
+    → ¬ ◌≡◌ {A = ChargeValue} (fork_charge v f) (5, based_value w b s)
+no_based One w f b s e = omega (arith, ap (λ (x : ChargeValue). x.0) e)
+no_based Two w f b s e = omega (arith, ap (λ (x : ChargeValue). x.0) e)
+
+no_replay : (v w : LogVersion) (r : VersionedParts) (b : BaseParts) (s : VersionedParts)
+    → ¬ ◌≡◌ {A = ChargeValue} (replay_charge v r) (5, based_value w b s)
+no_replay One w r b s e = omega (arith, ap (λ (x : ChargeValue). x.0) e)
+no_replay Two w r b s e = omega (arith, ap (λ (x : ChargeValue). x.0) e)
+
+after_5 : Value based_item → (n : ℕ) → Value (charge_item n) → Value based_item
+after_5 d zero x = d
+after_5 d (suc zero) x = d
+after_5 d (suc (suc zero)) x = d
+after_5 d (suc (suc (suc zero))) x = d
+after_5 d (suc (suc (suc (suc zero)))) x = d
+after_5 d (suc (suc (suc (suc (suc zero))))) x = x
+after_5 d (suc (suc (suc (suc (suc (suc n)))))) x = d
+
+based_says : (v w : LogVersion) (b c : BaseParts) (s t : VersionedParts)
+    → ◌≡◌ {A = ChargeValue} (5, based_value v b s) (5, based_value w c t)
+    → based_value v b s ≡ based_value w c t
+unfolding after_5
+based_says v w b c s t e = ap (λ (x : ChargeValue). after_5 (based_value v b s) x.0 x.1) e
+
+-- what stands after the version of a base, or another value
+begun_1 : Value (begun_replay One) → (n : ℕ) → Value (if n == 1 then begun_replay One else begun_replay Two)
+    → Value (begun_replay One)
+begun_1 d zero x = d
+begun_1 d (suc zero) x = x
+begun_1 d (suc (suc n)) x = d
+
+begun_2 : Value (begun_replay Two) → (n : ℕ) → Value (if n == 1 then begun_replay One else begun_replay Two)
+    → Value (begun_replay Two)
+begun_2 d zero x = d
+begun_2 d (suc zero) x = d
+begun_2 d (suc (suc zero)) x = x
+begun_2 d (suc (suc (suc n))) x = d
+
+begun_says : (v : LogVersion) (b c : BaseParts) (s t : VersionedParts) → based_value v b s ≡ based_value v c t
+    → (begun_value v b ≡ begun_value v c) × (versioned_value v s ≡ versioned_value v t)
+unfolding begun_1 begun_2
+begun_says One b c s t e =
+    let same = ap (λ (x : Value based_item). begun_1 (begun_value One b, versioned_value One s) x.0 x.1) e in
+    (ap (λ (x : Value (begun_replay One)). x.0) same, ap (λ (x : Value (begun_replay One)). x.1) same)
+begun_says Two b c s t e =
+    let same = ap (λ (x : Value based_item). begun_2 (begun_value Two b, versioned_value Two s) x.0 x.1) e in
+    (ap (λ (x : Value (begun_replay Two)). x.0) same, ap (λ (x : Value (begun_replay Two)). x.1) same)
+
+based_version : (v w : LogVersion) (b c : BaseParts) (s t : VersionedParts)
+    → based_value v b s ≡ based_value w c t → v ≡ w
+based_version One One b c s t e = refl
+based_version One Two b c s t e = absurd (omega (arith, ap (λ (x : Value based_item). x.0) e))
+based_version Two One b c s t e = absurd (omega (arith, ap (λ (x : Value based_item). x.0) e))
+based_version Two Two b c s t e = refl
+
+-- a base that says no more than its text is told by it
+pub one_base : (b c : BaseParts) → SaysNoMore b.log_version b.showing → SaysNoMore c.log_version c.showing
+    → b.log_version ≡ c.log_version → begun_value b.log_version b ≡ begun_value b.log_version c → b ≡ c
+one_base b c x y is same =
+    let v = b.log_version in
+    let shown = one_showing v b.showing c.showing x (subst (λ (w : LogVersion). SaysNoMore w c.showing) (sym is) y)
+    (ap (λ (z : Value (begun_item v)). z.0) same) in
+    let at = ap (λ (z : Value (begun_item v)). z.1.0) same in
+    let state = ap (λ (z : Value (begun_item v)). z.1.1) same in
+    λ i. record { log_version = is i; showing = shown i; at = at i; state = state i }
+
+one_based : (b c : BaseParts) (s t : VersionedParts) → IsWritten (Based b s) → IsWritten (Based c t)
+    → based_value b.log_version b s ≡ based_value c.log_version c t → (b ≡ c) × (s ≡ t)
+one_based b c s t x y e =
+    let v = b.log_version in
+    let is : v ≡ c.log_version = based_version v c.log_version b c s t e in
+    let says = begun_says v b c s t (e ∙ sym (ap (λ (w : LogVersion). based_value w c t) is)) in
+    let logs : s.log_version ≡ t.log_version = x.1 ∙ is ∙ sym y.1 in
+    let own : LogSaysNoMore v s = subst (λ (w : LogVersion). LogSaysNoMore w s) x.1 x.2 in
+    let other : LogSaysNoMore v t = subst (λ (w : LogVersion). LogSaysNoMore w t) (y.1 ∙ sym is) y.2 in
+    (one_base b c x.0 y.0 is says.0, one_log v s t logs own other says.1)
+
 -- two charges that are read of one text are the same
 pub one_charge : (one other : Charge) → IsWritten one → IsWritten other
     → charge_value one ≡ charge_value other → one ≡ other
 one_charge (Fork f) (Fork g) a b e = ap Fork (one_fork f g a b e)
 one_charge (Fork f) (Replay s) a b e = absurd (no_log f.log_version s.log_version f s e)
 one_charge (Replay s) (Fork f) a b e = absurd (no_log f.log_version s.log_version f s (sym e))
+one_charge (Fork f) (Based b s) a c e = absurd (no_based f.log_version b.log_version f b s e)
+one_charge (Based b s) (Fork f) a c e = absurd (no_based f.log_version b.log_version f b s (sym e))
+one_charge (Replay r) (Based b s) a c e = absurd (no_replay r.log_version b.log_version r b s e)
+one_charge (Based b s) (Replay r) a c e = absurd (no_replay r.log_version b.log_version r b s (sym e))
+one_charge (Based b s) (Based c t) x y e =
+    let same = one_based b c s t x y (based_says b.log_version c.log_version b c s t e) in
+    ap₂ Based same.0 same.1
 one_charge (Replay s) (Replay t) a b e =
     let v = s.log_version in
     let same : v ≡ t.log_version = log_version v t.log_version s t e in

@@ -1,5 +1,5 @@
 -- What is found in evidence.
-use Rattle.std.specs.Prelude.{◌≡◌, ◌⊎◌, ℕ, Bool, true, false, IsFalse, IsTrue, List, length}
+use Rattle.std.specs.Prelude.{◌≡◌, ◌⊎◌, ℕ, ◌+◌, Bool, true, false, IsFalse, IsTrue, List, length}
 use Rattle.std.specs.Prelude.{Option, Some, None}
 use Rattle.authenticator.specs.declared.member.LogVersion.{LogVersion}
 use Rattle.authenticator.specs.declared.member.Member.{Member}
@@ -11,6 +11,7 @@ use Rattle.replay.specs.replay_spec.Replay.{Fault, verdict_of}
 use Rattle.replay.specs.replay_spec.Stepping as spec
 use Rattle.replay.specs.replay_spec.Placed.{places_in}
 use Rattle.replay.specs.replay_spec.Opening.{opening_of}
+use Rattle.replay.specs.replay_spec.state_spec.State.{State}
 use Rattle.replay.specs.Faults.{fault_in}
 use Rattle.replay.specs.declared.fault.ReplayFault.{ReplayFault}
 use Rattle.replay.specs.declared.outcome.Outcome.{Outcome}
@@ -20,8 +21,10 @@ use Rattle.evidence_showings.specs.Showings.{Ends}
 use Rattle.secure_log.specs.declared.mark.Mark.{Mark}
 use Rattle.secure_log.specs.declared.mark.Mark.TheVariants.{Hash, NoEntry}
 use Rattle.evidence_showings.specs.evidence_spec.Showing.{ShowingParts, IsClosedShowing, Shows}
-use Rattle.evidence_showings.specs.evidence_spec.Evidence.{Charge, Fork, Replay, EvidenceParts}
+use Rattle.evidence_showings.specs.evidence_spec.Evidence.{Charge, Fork, Replay, Based, EvidenceParts}
 use Rattle.evidence_showings.specs.evidence_spec.Evidence.{ShowsTwo, ShowsNoOpening, AcceptsReplay}
+use Rattle.evidence_showings.specs.evidence_spec.Evidence.{AcceptsBased}
+use Rattle.evidence_showings.specs.evidence_spec.Base.{BaseParts, IsGoodBase}
 use Rattle.challenge.specs.declared.finding.Finding.{Finding}
 use Rattle.challenge.specs.declared.finding.Finding.TheVariants as found
 use Rattle.challenge.specs.declared.finding.NotAccepted.{NotAccepted}
@@ -88,6 +91,8 @@ ShowingLacks v ms node s reasons.NotClosed =
     (s.node ≡ node) × IsTrue (keeps_version ms node v) × (¬ Ends v s)
 ShowingLacks v ms node s reasons.NotSigned =
     (s.node ≡ node) × IsTrue (keeps_version ms node v) × Ends v s × (¬ IsSignedIn ms s.closing)
+ShowingLacks v ms node s reasons.NoGoodBase = ⊥
+ShowingLacks v ms node s reasons.NotFromBase = ⊥
 ShowingLacks v ms node s reasons.NoTwoMarks = ⊥
 ShowingLacks v ms node s reasons.NoFault = ⊥
 
@@ -144,8 +149,80 @@ LogLacks ms node s reasons.NotClosed =
 LogLacks ms node s reasons.NotSigned =
     (s.node ≡ node) × IsTrue (keeps_version ms node s.log_version) × IsFromStart s × EndsIn s
     × (¬ IsSignedIn ms s.closing)
+LogLacks ms node s reasons.NoGoodBase = ⊥
+LogLacks ms node s reasons.NotFromBase = ⊥
 LogLacks ms node s reasons.NoTwoMarks = ⊥
 LogLacks ms node s reasons.NoFault = HasNoFault ms node s
+
+-- ---- what a replay from a base lacks first
+
+-- What is asked is lacking, by its name, or it is there and something that is asked behind it is lacking.
+abbrev pub First : (asked : Type 0) → (name : NotAccepted) → (behind : NotAccepted → Type 0) → NotAccepted
+    → Type 0
+First asked name behind reason = ((reason ≡ name) × (¬ asked)) ⊎ (asked × behind reason)
+
+-- nothing is asked any more
+abbrev pub nothing_more : NotAccepted → Type 0
+nothing_more reason = ⊥
+
+-- A base is good under a roster, of some member and with some state.
+pub record IsGood (ms : List Member) (b : BaseParts) : Type 0 where
+  pub member : Member
+  pub state : State
+  pub good : IsGoodBase ms b member state
+
+-- A log follows on a base: it begins right after the base's number, with the hash that the base shows there.
+pub record FollowsOn (b : BaseParts) (s : VersionedParts) : Type 0 where
+  pub first : s.first ≡ b.at + 1
+  pub opening : Shows b.showing b.at s.opening
+
+-- A replay of a log from the state of a good base finds a fault.
+pub record HasFaultAfter (ms : List Member) (b : BaseParts) (s : VersionedParts) : Type 0 where
+  pub member : Member
+  pub state : State
+  pub good : IsGoodBase ms b member state
+  pub fault : spec.ReplayFault
+  pub number : ℕ
+  pub found : verdict_of ms state (places_in s) ≡ Fault fault number
+
+-- A base, and a log after it, lack something first, by name: the base is to be of the node, whose log is to
+-- be of its version where it is a member, and so is the log after it; the base's showing is to end in its
+-- closing, that is to be signed, and the base to be good in all else; the log is to follow on it, to end in
+-- its closing, that is to be signed, and a replay from the base's state is to find a fault.
+abbrev pub BasedLacks : List Member → (node : ℕ) → BaseParts → VersionedParts → NotAccepted → Type 0
+BasedLacks ms node b s =
+    First (b.showing.node ≡ node) reasons.AnotherNode
+    (First (IsTrue (keeps_version ms node b.log_version)) reasons.OtherVersion
+    (First (s.node ≡ node) reasons.AnotherNode
+    (First (Ends b.log_version b.showing) reasons.NotClosed
+    (First (IsSignedIn ms b.showing.closing) reasons.NotSigned
+    (First (IsGood ms b) reasons.NoGoodBase
+    (First (FollowsOn b s) reasons.NotFromBase
+    (First (EndsIn s) reasons.NotClosed
+    (First (IsSignedIn ms s.closing) reasons.NotSigned
+    (First (HasFaultAfter ms b s) reasons.NoFault nothing_more)))))))))
+
+-- A base and the log after it are of a node whose log is of the base's version, and the base's showing is
+-- closed.
+pub record IsClosedBase (ms : List Member) (node : ℕ) (b : BaseParts) (s : VersionedParts) : Type 0 where
+  pub base_node : b.showing.node ≡ node
+  pub version : IsTrue (keeps_version ms node b.log_version)
+  pub of_node : s.node ≡ node
+  pub ends : Ends b.log_version b.showing
+  pub signed : IsSignedIn ms b.showing.closing
+
+-- The log follows on the base, and is closed.
+pub record IsClosedAfter (ms : List Member) (b : BaseParts) (s : VersionedParts) : Type 0 where
+  pub follows : FollowsOn b s
+  pub ends : EndsIn s
+  pub signed : IsSignedIn ms s.closing
+
+-- A base and a log after it are accepted with a fault of the entry with a number.
+pub record AcceptsFaultAfter (ms : List Member) (node : ℕ) (b : BaseParts) (s : VersionedParts) (fault : ReplayFault)
+    (number : ℕ) : Type 0 where
+  pub accepted : AcceptsBased ms node b s
+  pub is_fault : accepted.fault ≡ fault_in fault
+  pub is_number : accepted.number ≡ number
 
 -- ---- findings
 
@@ -163,10 +240,18 @@ FindsInLog ms node s (found.TwoMarks at one other) = ⊥
 FindsInLog ms node s (found.Fault fault number) = AcceptsFault ms node s fault number
 FindsInLog ms node s (found.NotAccepted reason) = LogLacks ms node s reason
 
+-- what is found in a base and a log after it: a fault alone of a node whose log is of the base's version
+abbrev pub FindsInBased : List Member → (node : ℕ) → BaseParts → VersionedParts → Finding → Type 0
+FindsInBased ms node b s (found.TwoMarks at one other) = ⊥
+FindsInBased ms node b s (found.Fault fault number) =
+    IsTrue (keeps_version ms node b.log_version) × AcceptsFaultAfter ms node b s fault number
+FindsInBased ms node b s (found.NotAccepted reason) = BasedLacks ms node b s reason
+
 -- what is found in what is shown against a node
 abbrev pub FindsInCharge : List Member → (node : ℕ) → Charge → Finding → Type 0
 FindsInCharge ms node (Fork f) finding = FindsInFork f.log_version ms node f.at f.a f.b finding
 FindsInCharge ms node (Replay s) finding = FindsInLog ms node s finding
+FindsInCharge ms node (Based b s) finding = FindsInBased ms node b s finding
 
 -- What is found in evidence: with what it is accepted, or what it lacks first.
 abbrev pub Finds : List Member → EvidenceParts → Finding → Type 0

@@ -8,9 +8,12 @@ ghost use Rattle.evidence_showings.specs.Worded.{worded_value};
 ghost use Rattle.evidence_showings.specs.evidence_spec.Showing.{links_follow, showing_value};
 ghost use Rattle.evidence_showings.specs.evidence_spec.Evidence.{charge_value, is_whole_charge};
 ghost use Rattle.evidence_showings.specs.evidence_spec.Evidence.{second_follows};
-ghost use Rattle.challenge.specs.Charges.{IsWritten, SaysNoMore, charge_in};
+ghost use Rattle.evidence_showings.specs.Showings.{SaysNoMore};
+ghost use Rattle.challenge.specs.Charges.{IsWritten, charge_in};
+ghost use Rattle.challenge.specs.ReadBased.{read_based_value, read_based_version};
 ghost use Rattle.challenge.specs.ReadCharges.{read_value, read_version};
 
+use crate::based_read::ReadBased;
 use crate::evidence::{AuditedLog, Charge, Fork};
 use authenticator::{LogVersion, Number};
 use evidence_showings::{MAX_AUDITED, PlainShowing, Showing, WordedShowing};
@@ -29,6 +32,8 @@ pub(crate) enum ReadCharge {
     WordedFork(Number, WordedShowing, Option<WordedShowing>),
     /// A log of version 2.
     WordedReplay(WordedSegment<MAX_AUDITED>),
+    /// A base, and a log after it.
+    Based(ReadBased),
 }
 
 impl ReadCharge {
@@ -51,6 +56,7 @@ impl ReadCharge {
             }
             ReadCharge::WordedFork(at, a, b) => worded_fork(alloc, at, a, b),
             ReadCharge::WordedReplay(log) => worded_replay(alloc, log),
+            ReadCharge::Based(based) => based_charge(alloc, based),
         }
     }
 }
@@ -157,6 +163,20 @@ fn worded_replay(
 {
     match log.into_segment(alloc)? {
         Some(log) => Ok(Some(Charge::Replay(log))),
+        None => Ok(None),
+    }
+}
+
+/// A replay from a base; None where it is of a log of version 2, and its words don't follow or it has no
+/// entry.
+fn based_charge(alloc: Global, based: ReadBased) -> Result<Option<Charge>, AllocError>
+    ensures some { IfOk result (λ o. IfSome o (λ c. charge_value (charge_in c) ≡ (5, read_based_value based))) }
+    ensures none { IfOk result (λ o. IfNone o (is_whole_charge (5, read_based_value based) ≡ false)) }
+    ensures version { IfOk result (λ o. IfNone o (read_based_version based ≡ Two)) }
+    ensures written { IfOk result (λ o. IfSome o (λ c. IsWritten (charge_in c))) }
+{
+    match based.into_replay(alloc)? {
+        Some(replay) => Ok(Some(Charge::Based(replay))),
         None => Ok(None),
     }
 }

@@ -28,14 +28,15 @@ impl Evidence {
 }
 
 impl Charge {
-    /// Whether another charge is the same: a fork of the same showings at the same number, or the same log.
-    /// It compares bytes, and takes no memory.
+    /// Whether another charge is the same: a fork of the same showings at the same number, the same log, or
+    /// the same base with the same log after it. It compares bytes, and takes no memory.
     pub fn is_same(&self, other: &Charge) -> bool
         ensures { IsTrue result ↔ (charge_in self.now ≡ charge_in other.now) }
     {
         match (self, other) {
             (Charge::Fork(own), Charge::Fork(fork)) => own.is_same(fork),
             (Charge::Replay(own), Charge::Replay(log)) => own.is_same(log),
+            (Charge::Based(own), Charge::Based(based)) => own.is_same(based),
             _ => false,
         }
     }
@@ -48,6 +49,7 @@ impl Charge {
         match self {
             Charge::Fork(fork) => Ok(Charge::Fork(fork.try_clone(alloc)?)),
             Charge::Replay(log) => Ok(Charge::Replay(log.try_clone(alloc)?)),
+            Charge::Based(based) => Ok(Charge::Based(based.try_clone(alloc)?)),
         }
     }
 }

@@ -11,6 +11,7 @@ ghost use Rattle.evidence_showings.specs.evidence_spec.Evidence.{second_follows}
 ghost use Rattle.evidence_showings.specs.evidence_spec.Evidence as spec;
 ghost use Rattle.challenge.specs.Charges.{charge_in, fork_in};
 
+use crate::based::BasedReplay;
 use authenticator::{LogVersion, Number};
 use evidence_showings::{MAX_AUDITED, Showing};
 use secure_log::BoundedSegment;
@@ -41,6 +42,8 @@ pub enum Charge {
     Fork(Fork),
     /// That its log isn't honest: a replay finds a fault in it.
     Replay(AuditedLog),
+    /// That its log isn't honest after a base: a replay from the base's state finds a fault in it.
+    Based(BasedReplay),
 }
 
 /// Evidence against a node, which has a text. Nothing else is checked of it: `check_evidence`
@@ -122,6 +125,7 @@ impl Charge {
         match self {
             Charge::Fork(fork) => fork.is_whole(),
             Charge::Replay(log) => log.is_whole(),
+            Charge::Based(based) => based.is_whole(),
         }
     }
 
@@ -134,6 +138,7 @@ impl Charge {
         match self {
             Charge::Fork(fork) => fork.fits(),
             Charge::Replay(log) => log.fits(),
+            Charge::Based(based) => based.fits(),
         }
     }
 }

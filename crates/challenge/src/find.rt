@@ -8,10 +8,11 @@ ghost use Rattle.challenge.specs.Findings.{IsAudited, IsClosedOf, IsFromStart, I
 ghost use Rattle.challenge.specs.Findings.{finding_in, is_accepted};
 
 use crate::evidence::{AuditedLog, Charge, Evidence, Fork};
+use crate::find_based::find_in_based;
 use crate::finding::{Finding, NotAccepted};
 use authenticator::{LogVersion, Member, Number, Roster, is_same_hash, is_signed_by};
 use evidence_showings::{Mark, Showing, is_signed_in};
-use replay::{Outcome, opening_state, replay_outcome};
+use replay::{Outcome, a_text_has_one_state, opening_state, replay_outcome};
 use std::alloc::{AllocError, Global};
 
 /// What is found in evidence under a roster: with what it is accepted, or the first that it lacks. Closings
@@ -27,7 +28,9 @@ pub fn examine(alloc: Global, roster: &Roster, evidence: &Evidence) -> Result<Fi
 /// Evidence has one finding at most: does nothing, and tells a caller's proof.
 pub fn one_finding()
     ensures { OneFinding }
-{}
+{
+    a_text_has_one_state();
+}
 
 /// As `examine`, with the first clause alone.
 fn finding_of(alloc: Global, roster: &Roster, evidence: &Evidence) -> Result<Finding, AllocError>
@@ -36,6 +39,7 @@ fn finding_of(alloc: Global, roster: &Roster, evidence: &Evidence) -> Result<Fin
     match evidence.charge() {
         Charge::Fork(fork) => Ok(find_in_fork(roster, evidence.node(), fork)),
         Charge::Replay(log) => find_in_log(alloc, roster, evidence.node(), log),
+        Charge::Based(based) => find_in_based(alloc, roster, evidence.node(), based),
     }
 }
 
@@ -215,7 +219,7 @@ fn replay_finding(
 }
 
 /// What the end of a replay says of a log.
-fn finding_in(outcome: Outcome) -> Finding
+pub(crate) fn finding_in(outcome: Outcome) -> Finding
     ensures { result ≡ finding_in outcome }
 {
     match outcome {

@@ -17,7 +17,10 @@ pub enum Finding {
     NotAccepted(NotAccepted),
 }
 
-/// Why evidence isn't accepted: the first of these, in a fork of `a` first and then of `b`.
+/// Why evidence isn't accepted: the first of these, in a fork of `a` first and then of `b`. Of a replay from
+/// a base they are asked in this order: whether the base is of the node, and of its log's version; whether
+/// the log after it is of the node; whether the base's showing is closed and signed, and the base good in all
+/// else; and then whether the log follows on it, is closed and signed, and has a fault.
 #[derive(Clone, Copy, Debug, PartialEq, Eq, Error)]
 pub enum NotAccepted {
     /// A showing or the log is of another node than the evidence.
@@ -36,6 +39,14 @@ pub enum NotAccepted {
     /// A closing isn't signed by the member of the roster that it names.
     #[error("what closes it is not signed by the node")]
     NotSigned,
+    /// The base isn't good: it shows another hash than 32 zero bytes at 0, or no CHECK of its state at its
+    /// number, or its bytes are no text of a state of that node and its kind, or the state knows too many
+    /// messages, or one that was sent later.
+    #[error("the base is not good")]
+    NoGoodBase,
+    /// The log doesn't begin right after the base's number, with the hash that the base shows there.
+    #[error("the log does not follow on the base")]
+    NotFromBase,
     /// No two marks are shown at the number.
     #[error("no two hashes are shown at the number")]
     NoTwoMarks,

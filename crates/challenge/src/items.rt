@@ -5,8 +5,10 @@ ghost use Rattle.xdr.specs.Item.{array, fixed, optional, pair, word};
 ghost use Rattle.xdr.specs.Reading.{GivesUnless};
 ghost use Rattle.xdr.specs.ReadFault.{xdr_fault};
 ghost use Rattle.authenticator.specs.Roster.{listed_value, roster_item};
+ghost use Rattle.evidence_showings.specs.Bases.{plain_base_value, worded_base_value};
 ghost use Rattle.evidence_showings.specs.Plain.{plain_value};
 ghost use Rattle.evidence_showings.specs.Worded.{worded_value};
+ghost use Rattle.evidence_showings.specs.evidence_spec.Base.{begun_item};
 ghost use Rattle.evidence_showings.specs.evidence_spec.Evidence.{MAX_AUDITED, fork_item};
 ghost use Rattle.authenticator.specs.Numbers.{number_item};
 ghost use Rattle.authenticator.specs.declared.member.LogVersion.TheVariants.{One, Two};
@@ -17,7 +19,7 @@ ghost use Rattle.challenge.specs.Taking.{LeavesOf};
 
 use crate::source::Source;
 use authenticator::{Authenticator, ListedRoster, Number, Word};
-use evidence_showings::{MAX_AUDITED, PlainShowing, WordedShowing};
+use evidence_showings::{MAX_AUDITED, PlainBase, PlainShowing, WordedBase, WordedShowing};
 use secure_log::log_entries::Entry;
 use std::alloc::Global;
 use xdr::{FromXdr, ReadFault, Reader, XdrFault};
@@ -172,6 +174,24 @@ pub(crate) fn take_worded_fork(
     )?;
     source.keep(left);
     Ok(fork)
+}
+
+/// Takes what stands after the version's number of a base of a log of version 1.
+pub(crate) fn take_plain_base(alloc: Global, source: &mut Source) -> Result<PlainBase, ReadFault>
+    ensures { GivesUnless xdr_fault (begun_item One) plain_base_value source.old result source.new }
+{
+    let (base, left): (PlainBase, usize) = front(alloc, source.rest())?;
+    source.keep(left);
+    Ok(base)
+}
+
+/// Takes the same of one of a log of version 2, whose words aren't checked.
+pub(crate) fn take_worded_base(alloc: Global, source: &mut Source) -> Result<WordedBase, ReadFault>
+    ensures { GivesUnless xdr_fault (begun_item Two) worded_base_value source.old result source.new }
+{
+    let (base, left): (WordedBase, usize) = front(alloc, source.rest())?;
+    source.keep(left);
+    Ok(base)
 }
 
 /// Takes the word of an entry of a log of version 2, and the entry.

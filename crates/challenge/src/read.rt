@@ -15,6 +15,7 @@ ghost use Rattle.challenge.specs.FaultNumbers.{is_garbage};
 ghost use Rattle.challenge.specs.ReadCharges.{read_value};
 ghost use Rattle.challenge.specs.declared.fault.EvidenceFault.TheVariants.{NoMemory};
 
+use crate::based_read::take_based;
 use crate::charges::ReadCharge;
 use crate::evidence::{AuditedLog, Evidence};
 use crate::fault::EvidenceFault;
@@ -92,12 +93,16 @@ fn take_charge(alloc: Global, source: &mut Source) -> Result<ReadCharge, ReadFau
             let log = take_worded_log(alloc, source)?;
             Ok(ReadCharge::WordedReplay(log))
         }
+        5 => {
+            let based = take_based(alloc, source)?;
+            Ok(ReadCharge::Based(based))
+        }
         _ => Err(ReadFault::Fault(XdrFault::BadEnum)),
     }
 }
 
 /// Takes a log of version 1.
-fn take_log(alloc: Global, source: &mut Source) -> Result<AuditedLog, ReadFault>
+pub(crate) fn take_log(alloc: Global, source: &mut Source) -> Result<AuditedLog, ReadFault>
     ensures text { GivesUnless xdr_fault (replay_item One) (λ log. versioned_value One log)
         source.old result source.new }
     ensures version { IfOk result (λ log. log.log_version ≡ One) }
@@ -112,7 +117,7 @@ fn take_log(alloc: Global, source: &mut Source) -> Result<AuditedLog, ReadFault>
 }
 
 /// Takes a log of version 2, whose words aren't checked.
-fn take_worded_log(
+pub(crate) fn take_worded_log(
     alloc: Global,
     source: &mut Source,
 ) -> Result<WordedSegment<MAX_AUDITED>, ReadFault>

@@ -9,11 +9,13 @@ ghost use Rattle.secure_log.specs.Versioned.{versioned_value};
 ghost use Rattle.evidence_showings.specs.evidence_spec.Showing.{links_follow, showing_item, showing_value};
 ghost use Rattle.evidence_showings.specs.evidence_spec.Evidence.{evidence_item, evidence_value};
 ghost use Rattle.evidence_showings.specs.evidence_spec.Evidence.{evidence_text, fork_charge, fork_value};
-ghost use Rattle.evidence_showings.specs.evidence_spec.Evidence.{charge_item, charge_value, is_charge};
+ghost use Rattle.evidence_showings.specs.evidence_spec.Evidence.{based_value, charge_item, charge_value};
+ghost use Rattle.evidence_showings.specs.evidence_spec.Evidence.{is_charge};
 ghost use Rattle.evidence_showings.specs.evidence_spec.Evidence.{is_whole_charge, replay_charge};
 ghost use Rattle.evidence_showings.specs.evidence_spec.Evidence.{second_follows};
 ghost use Rattle.challenge.specs.Charges.{charge_in, fork_in};
 
+use crate::based::BasedReplay;
 use crate::evidence::{AuditedLog, Charge, Evidence, Fork};
 use authenticator::LogVersion;
 use evidence_showings::Showing;
@@ -58,6 +60,7 @@ fn add_charge(charge: &Charge, out: &mut Vec<u8>) -> Result<(), AllocError>
     match charge {
         Charge::Fork(fork) => add_fork(fork, out),
         Charge::Replay(log) => add_replay(log, out),
+        Charge::Based(based) => add_based(based, out),
     }
 }
 
@@ -156,4 +159,13 @@ fn add_worded_replay(log: &AuditedLog, out: &mut Vec<u8>) -> Result<(), AllocErr
 {
     out.put_u32(4)?;
     log.write(out)
+}
+
+fn add_based(based: &BasedReplay, out: &mut Vec<u8>) -> Result<(), AllocError>
+    ensures { Adds (spelling (choice is_charge charge_item)
+        (5, based_value based.now.base.log_version based.now.base based.now.log))
+        out.old.items result out.new.items }
+{
+    out.put_u32(5)?;
+    based.add_to(out)
 }

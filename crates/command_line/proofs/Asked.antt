@@ -17,8 +17,8 @@ use Rattle.clap.specs.declared.error.Error.{Error}
 use Rattle.clap.specs.declared.error.kind.ErrorKind.TheVariants.{OutOfMemory}
 use Rattle.clap.specs.declared.parser.matches.ArgMatches.{ArgMatches}
 use Rattle.clap.proofs.OnLiterals.{clap_on_literals}
-use Rattle.command_line.specs.CommandLine.{Check, CheckAsked, Roster, Rpc, Run, asked_in, asked_of}
-use Rattle.command_line.specs.CommandLine.{asked_without, check_of, commands}
+use Rattle.command_line.specs.CommandLine.{Base, Check, CheckAsked, Roster, Rpc, Run, RunAsked, asked_in, asked_of}
+use Rattle.command_line.specs.CommandLine.{asked_without, check_of, commands, run_of}
 use Rattle.command_line.specs.CommandLine.{is_flag_text, is_set, is_told}
 use Rattle.command_line.specs.declared.request.Request.{Request}
 use Rattle.command_line.proofs.Taken.{entered_is, flag_is, is_plain_app, name_is_one, value_is}
@@ -177,19 +177,39 @@ roster_is words rows file none is file_is =
     ∙ some_of _ _ (value_is commands words are_plain none (codes "roster") (codes "file") rows refl is)
     ∙ ap (λ (f : Text). Some (Roster f)) (sym file_is)
 
--- `run` asks for the file, and the roster's file, that its matches hold
-pub run_is : (words : List Text) (rows : List Row) (file : Text) (roster_out : Option Text)
-    → fault_of commands words ≡ [] → subcommand_of commands words ≡ Some (codes "run", rows)
-    → file ≡ unwrap_or (first_of (codes "file") rows) [] → roster_out ≡ first_of (codes "roster-out") rows
-    → asked_in words ≡ Some (Run (record { file = file; roster_out = roster_out }))
-run_is words rows file roster_out none is file_is roster_is =
+-- `base` asks for the file that its matches hold
+pub base_is : (words : List Text) (rows : List Row) (file : Text) → fault_of commands words ≡ []
+    → subcommand_of commands words ≡ Some (codes "base", rows)
+    → file ≡ unwrap_or (first_of (codes "file") rows) [] → asked_in words ≡ Some (Base file)
+base_is words rows file none is file_is =
+    asked_is words (codes "base") rows none is
+    ∙ some_of _ _ (value_is commands words are_plain none (codes "base") (codes "file") rows refl is)
+    ∙ ap (λ (f : Text). Some (Base f)) (sym file_is)
+
+-- the words are those that the matches of `run` hold
+pub record IsRunAsked (rows : List Row) (a : RunAsked) : Type 0 where
+  -- the file
+  pub file : a.file ≡ unwrap_or (first_of (codes "file") rows) []
+  -- the file that the roster's text goes to, if one is named
+  pub roster_out : a.roster_out ≡ first_of (codes "roster-out") rows
+  -- what the names of files with bases begin with, if it is given
+  pub base_out : a.base_out ≡ first_of (codes "base-out") rows
+
+-- `run` asks for what its matches hold
+pub run_is : (words : List Text) (rows : List Row) (a : RunAsked) → fault_of commands words ≡ []
+    → subcommand_of commands words ≡ Some (codes "run", rows) → IsRunAsked rows a
+    → asked_in words ≡ Some (Run a)
+run_is words rows a none is asks =
     asked_is words (codes "run") rows none is
     ∙ some_of _ _ (value_is commands words are_plain none (codes "run") (codes "file") rows refl is)
-    ∙ ap₂ (λ f r. Some (Run (record { file = f; roster_out = r }))) (sym file_is) (sym roster_is)
+    ∙ ap (λ (x : RunAsked). Some (Run x)) same
+  where
+    same : run_of rows (unwrap_or (first_of (codes "file") rows) []) ≡ a
+    same = rw (sym asks.file, sym asks.roster_out, sym asks.base_out) refl
 
 -- the subcommands that have words of their own
 abbrev others : List Text
-others = codes "check" ∷ codes "roster" ∷ codes "run" ∷ codes "serve" ∷ []
+others = codes "check" ∷ codes "roster" ∷ codes "base" ∷ codes "run" ∷ codes "serve" ∷ []
 
 -- another subcommand is `rpc`
 pub rpc_is : (words : List Text) → fault_of commands words ≡ []

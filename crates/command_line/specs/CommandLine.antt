@@ -59,16 +59,22 @@ check_command =
 abbrev pub roster_command : App
 roster_command = with_rule (new_app (codes "roster")) file_argument
 
--- `run`, with the option `--roster-out` and a file
-abbrev pub run_command : App
-run_command = with_rule (with_rule (new_app (codes "run")) (file_option (codes "roster-out"))) file_argument
+-- `base`, with a file
+abbrev pub base_command : App
+base_command = with_rule (new_app (codes "base")) file_argument
 
--- `nfsacc`, with its subcommands `rpc`, `check`, `roster`, `run` and `serve`
+-- `run`, with the options `--roster-out` and `--base-out` and a file
+abbrev pub run_command : App
+run_command =
+    with_rule (with_rule (with_rule (new_app (codes "run")) (file_option (codes "roster-out")))
+    (file_option (codes "base-out"))) file_argument
+
+-- `nfsacc`, with its subcommands `rpc`, `check`, `roster`, `base`, `run` and `serve`
 abbrev pub commands : App
 commands =
-    with_subcommand (with_subcommand
+    with_subcommand (with_subcommand (with_subcommand
     (with_subcommand (with_subcommand (with_subcommand nfsacc rpc_command) check_command.top)
-    roster_command.top) run_command.top) serve_command.top
+    roster_command.top) base_command.top) run_command.top) serve_command.top
 
 -- ---- what is asked for
 
@@ -83,10 +89,12 @@ pub record CheckAsked : Type 0 where
   pub json : Bool
   pub roster : Option Text
 
--- what `run` is asked: the name of a script's file, and that of the file that the roster's text goes to
+-- what `run` is asked: the name of a script's file, that of the file that the roster's text goes to, and what the
+-- names of files with bases begin with
 pub record RunAsked : Type 0 where
   pub file : Text
   pub roster_out : Option Text
+  pub base_out : Option Text
 
 -- what a command line asks for
 pub data Asked : Type 0 where
@@ -95,6 +103,8 @@ pub data Asked : Type 0 where
   Check : CheckAsked → Asked
   -- the roster in the file of this name
   Roster : Text → Asked
+  -- the base in the file of this name
+  Base : Text → Asked
   Run : RunAsked → Asked
   Serve : ServeAsked → Asked
 
@@ -111,8 +121,12 @@ asked_by (requests.Check r) =
       roster = option_map (λ s. s.now) r.roster;
     })
 asked_by (requests.Roster name) = Roster name.now
-asked_by (requests.Run r) = Run
-    (record { file = r.file.now; roster_out = option_map (λ s. s.now) r.roster_out })
+asked_by (requests.Base name) = Base name.now
+asked_by (requests.Run r) = Run (record {
+  file = r.file.now;
+  roster_out = option_map (λ s. s.now) r.roster_out;
+  base_out = option_map (λ s. s.now) r.base_out;
+})
 asked_by (requests.Serve r) = Serve (record {
   port = r.port.now;
   count = r.count.now;
@@ -163,11 +177,21 @@ check_asked rows = option_map (λ file. Check (check_of rows file)) (first_of (c
 abbrev pub roster_asked : List Row → Option Asked
 roster_asked rows = option_map Roster (first_of (codes "file") rows)
 
+-- what `base` is asked
+abbrev pub base_asked : List Row → Option Asked
+base_asked rows = option_map Base (first_of (codes "file") rows)
+
+-- what `run` of a file is asked, by what was found for its options
+abbrev pub run_of : List Row → Text → RunAsked
+run_of rows file = record {
+  file = file;
+  roster_out = first_of (codes "roster-out") rows;
+  base_out = first_of (codes "base-out") rows;
+}
+
 -- what `run` is asked
 abbrev pub run_asked : List Row → Option Asked
-run_asked rows =
-    option_map (λ file. Run (record { file = file; roster_out = first_of (codes "roster-out") rows }))
-    (first_of (codes "file") rows)
+run_asked rows = option_map (λ file. Run (run_of rows file)) (first_of (codes "file") rows)
 
 -- what a subcommand is asked, by its name and what was found for its arguments
 abbrev pub asked_of : Text × List Row → Option Asked
@@ -175,6 +199,7 @@ asked_of (name, rows) =
     if bytes_eq (codes "rpc") name then Some Rpc
     else if bytes_eq (codes "check") name then check_asked rows
     else if bytes_eq (codes "roster") name then roster_asked rows
+    else if bytes_eq (codes "base") name then base_asked rows
     else if bytes_eq (codes "run") name then run_asked rows
     else if bytes_eq (codes "serve") name then option_map Serve (serve_asked rows)
     else None

@@ -2,7 +2,7 @@
 use Rattle.std.specs.Prelude.{◌≡◌, ◌==◌, true, false, List, [], ◌∷◌, Option, Some, None, codes}
 use Rattle.std.specs.List.{AllByRecursion, slice_split}
 use Rattle.clap.specs.Walk.{Text}
-use Rattle.command_line.specs.CommandLine.{Asked, Check, CheckAsked, Roster, Rpc, Run, asked_in}
+use Rattle.command_line.specs.CommandLine.{Asked, Check, CheckAsked, Roster, Base, Rpc, Run, asked_in}
 
 -- the words of a line, between its spaces (32)
 abbrev pub words_of : Text → List Text
@@ -34,9 +34,12 @@ with_state = Some (Check (record (of_file (codes "f")) { entries = true; state =
 abbrev under_r : Option Asked
 under_r = Some (Check (record (of_file (codes "f")) { json = true; roster = Some (codes "r") }))
 
--- `run` of the file `f`, with the roster's text in the file `g`
+-- `run` of the file `f`, with the roster's text in the file `g`, or with bases in files that begin with `b`
 abbrev run_to_g : Option Asked
-run_to_g = Some (Run (record { file = codes "f"; roster_out = Some (codes "g") }))
+run_to_g = Some (Run (record { file = codes "f"; roster_out = Some (codes "g"); base_out = None }))
+
+abbrev run_to_b : Option Asked
+run_to_b = Some (Run (record { file = codes "f"; roster_out = None; base_out = Some (codes "b") }))
 
 -- command lines that ask for something, and those that ask for nothing
 abbrev pub lines : List (Text × Option Asked)
@@ -52,7 +55,9 @@ lines =
     ∷ (codes "nfsacc check --json f --roster r", under_r)
     ∷ (codes "nfsacc check --roster=r f --json", under_r)
     ∷ (codes "nfsacc roster f", Some (Roster (codes "f")))
-    ∷ (codes "nfsacc run -", Some (Run (record { file = codes "-"; roster_out = None })))
+    ∷ (codes "nfsacc base f", Some (Base (codes "f")))
+    ∷ (codes "nfsacc run -", Some (Run (record { file = codes "-"; roster_out = None; base_out = None })))
+    ∷ (codes "nfsacc run --base-out b f", run_to_b)
     ∷ (codes "nfsacc run f --roster-out g", run_to_g)
     ∷ (codes "nfsacc run --roster-out=g f", run_to_g)
     ∷ (codes "nfsacc", None)
@@ -67,6 +72,7 @@ lines =
     ∷ (codes "nfsacc check --help", None)
     ∷ (codes "nfsacc help check", None)
     ∷ (codes "nfsacc roster", None)
+    ∷ (codes "nfsacc base", None)
     ∷ (codes "nfsacc run", None)
     ∷ (codes "nfsacc run --roster-out", None)
     ∷ (codes "nfsacc run --roster-out f", None)

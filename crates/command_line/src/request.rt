@@ -7,7 +7,8 @@ ghost use Rattle.clap.specs.Kinds.{FailsBy};
 ghost use Rattle.clap.specs.Walk.{first_of};
 ghost use Rattle.clap.specs.Words.{App, app_of, kind_of, rule_of, subcommand_of, subcommand_rows_of};
 ghost use Rattle.clap.specs.Words.{with_subcommand};
-ghost use Rattle.command_line.specs.CommandLine.{commands, check_command, roster_command, run_command};
+ghost use Rattle.command_line.specs.CommandLine.{commands, base_command, check_command, roster_command};
+ghost use Rattle.command_line.specs.CommandLine.{run_command};
 ghost use Rattle.command_line.specs.CommandLine.{asked_by, asked_in, file_argument, file_option, flag};
 ghost use Rattle.command_line.specs.CommandLine.{number_option};
 ghost use Rattle.command_line.specs.CommandLine.{is_set, is_told, rows_in};
@@ -27,6 +28,8 @@ pub enum Request<'a> {
     Check(CheckRequest<'a>),
     /// `nfsacc roster FILE`: the members of the roster in the file of this name; `-` is standard input.
     Roster(&'a str),
+    /// `nfsacc base FILE`: whether the base in the file of this name, after a roster, is good; `-` is standard input.
+    Base(&'a str),
     /// `nfsacc run FILE`: the lines of a script.
     Run(RunRequest<'a>),
     /// `nfsacc serve PORT COUNT`: clients over TCP.
@@ -57,6 +60,8 @@ pub struct RunRequest<'a> {
     pub file: &'a str,
     /// The name of the file that the roster's text goes to, if one is named.
     pub roster_out: Option<&'a str>,
+    /// What the names of the files that bases go to begin with, if it is given.
+    pub base_out: Option<&'a str>,
 }
 
 /// What the help of `run` ends with.
@@ -96,6 +101,16 @@ const ROSTER_HELP: &str =
 
 const ROSTER_OUT_HELP: &str = "Writes the text of the nodes' roster to this file";
 
+const BASE_HELP: &str = "A roster's text, and after it that of a base; `-` reads it from standard input";
+
+const BASE_NOTES: &str =
+    "The line is `base N K`, of the node N and the number K of its log at which a witness may begin, or `no base`.
+
+Statuses: 0 a base, 1 no base, 2 the command line, 3 no memory, 4 a device";
+
+const BASE_OUT_HELP: &str =
+    "Writes the roster and the base of each CHECK that a line `mark` logs to PREFIX.N.K";
+
 /// A file that must be named.
 fn file_argument<'a>(alloc: Global, help: &'a str) -> Arg<'a>
     ensures rule { rule_of result ≡ file_argument }
@@ -126,6 +141,17 @@ fn file_option<'a>(alloc: Global, name: &'a str, help: &'a str) -> Arg<'a>
     Arg::new(alloc, name)
         .long(name)
         .value_name("FILE")
+        .help(help)
+}
+
+/// An option with what the names of files begin with.
+fn prefix_option<'a>(alloc: Global, name: &'a str, help: &'a str) -> Arg<'a>
+    ensures rule { rule_of result ≡ file_option name.now }
+    ensures local { result.global ≡ false }
+{
+    Arg::new(alloc, name)
+        .long(name)
+        .value_name("PREFIX")
         .help(help)
 }
 
@@ -164,6 +190,16 @@ fn roster_command<'a>(alloc: Global) -> Result<Command<'a>, AllocError>
         .arg(file_argument(alloc, ROSTER_HELP))
 }
 
+/// The subcommand `base`.
+fn base_command<'a>(alloc: Global) -> Result<Command<'a>, AllocError>
+    ensures { IfOk result (λ c. app_of c ≡ base_command) }
+{
+    Command::new(alloc, "base")
+        .about("Says whether a file has a base that is good under its roster")
+        .after_help(BASE_NOTES)
+        .arg(file_argument(alloc, BASE_HELP))
+}
+
 /// The subcommand `run`.
 fn run_command<'a>(alloc: Global) -> Result<Command<'a>, AllocError>
     ensures { IfOk result (λ c. app_of c ≡ run_command) }
@@ -172,6 +208,7 @@ fn run_command<'a>(alloc: Global) -> Result<Command<'a>, AllocError>
         .about("Runs a script of nodes, lies, forks and audits; `-` reads it from standard input")
         .after_help(RUN_EXAMPLE)
         .arg(file_option(alloc, "roster-out", ROSTER_OUT_HELP))?
+        .arg(prefix_option(alloc, "base-out", BASE_OUT_HELP))?
         .arg(file_argument(alloc, "The script; `-` reads it from standard input"))
 }
 
@@ -204,6 +241,7 @@ fn commands<'a>(alloc: Global) -> Result<Command<'a>, AllocError>
         .subcommand(rpc)?;
     let nfsacc = with_subcommand(nfsacc, check_command(alloc))?;
     let nfsacc = with_subcommand(nfsacc, roster_command(alloc))?;
+    let nfsacc = with_subcommand(nfsacc, base_command(alloc))?;
     let nfsacc = with_subcommand(nfsacc, run_command(alloc))?;
     with_subcommand(nfsacc, serve_command(alloc))
 }
@@ -252,10 +290,13 @@ fn run_request<'a>(matches: &ArgMatches<'a>) -> RunRequest<'a>
     ensures file { result.file.now ≡ unwrap_or (first_of (codes "file") (rows_in matches.now)) [] }
     ensures roster_out { option_map (λ s. s.now) result.roster_out
         ≡ first_of (codes "roster-out") (rows_in matches.now) }
+    ensures base_out { option_map (λ s. s.now) result.base_out
+        ≡ first_of (codes "base-out") (rows_in matches.now) }
 {
     RunRequest {
         file: text_of(matches, "file"),
         roster_out: matches.get_str("roster-out"),
+        base_out: matches.get_str("base-out"),
     }
 }
 
@@ -270,6 +311,9 @@ fn request_in<'a>(matches: &ArgMatches<'a>) -> Request<'a>
     }
     if let Some(roster) = matches.subcommand_matches("roster") {
         return Request::Roster(text_of(roster, "file"));
+    }
+    if let Some(base) = matches.subcommand_matches("base") {
+        return Request::Base(text_of(base, "file"));
     }
     if let Some(run) = matches.subcommand_matches("run") {
         return Request::Run(run_request(run));
@@ -292,8 +336,8 @@ fn request_by_rules(alloc: Global, words: &[String]) -> Result<Request<'_>, Erro
 /// The request that the words of a command line make, the program's name first: `rpc` alone, or with `--`
 /// after it, is `Rpc`; `check` with a file's name is `Check`, with or without `--explain`, `--entries`,
 /// `--json`, `--state` with a word and `--roster` with another name, in any order; `roster` with a file's
-/// name is `Roster`; `run` with a file's name is `Run`, with `--roster-out` and another name before it or
-/// after it, or without; `serve` with two words is `Serve`, with its options before, between or after them.
+/// name is `Roster`, `base` with one `Base`; `run` with a file's name is `Run`, with `--roster-out` and another
+/// name, and `--base-out` and what names begin with, before it or after it, or without; `serve` with two words is `Serve`, with its options before, between or after them.
 /// After `--` each word is a name. It comes exactly where clap's rules find no fault in the words, memory
 /// aside, and has what they say the words hold.
 /// The error says what is wrong with other words, or is the help or the version that they ask for: its kind

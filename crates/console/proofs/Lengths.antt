@@ -29,7 +29,8 @@ use Rattle.authenticator.specs.Roster.{is_height, is_log, is_roster_word}
 use Rattle.authenticator.specs.declared.roster.TheConstants.{SECOND_FORM}
 use Rattle.authenticator.specs.declared.member.LogVersion.TheVariants.{One, Two}
 use Rattle.challenge.specs.evidence_spec.Showing.{link_item, showing_item}
-use Rattle.challenge.specs.evidence_spec.Evidence.{fork_item, is_charge, charge_item, evidence_item}
+use Rattle.challenge.specs.evidence_spec.Evidence.{based_item, begun_replay, fork_item, is_charge, charge_item}
+use Rattle.challenge.specs.evidence_spec.Evidence.{evidence_item}
 use Rattle.challenge.specs.Cases.{case_item}
 
 -- reading takes at most so many bytes
@@ -307,22 +308,50 @@ worded_fork_up =
     (within_pair 197220 197224 worded_showing_up
     (record { takes = optional_up (read_at (showing_item Two)) 197220 worded_showing_up.takes }))
 
-charge_up : (is_fork is_replay is_worded_fork : Bool)
-    → IsWithin 1917076068
-    (cond is_fork (fork_item One) (cond is_replay (logs.versioned_item One 65536)
-    (cond is_worded_fork (fork_item Two) (logs.versioned_item Two 65536))))
-charge_up true is_replay is_worded_fork = within 328916 1917076068 (lit≤ tt) fork_up
-charge_up false true is_worded_fork = within 1916551780 1917076068 (lit≤ tt) log_up
-charge_up false false true = within 394452 1917076068 (lit≤ tt) worded_fork_up
-charge_up false false false = worded_log_up
+-- what stands after a base's version, and the segment after it
+begun_up : IsWithin 1983825108 (begun_replay One)
+begun_up =
+    within_pair 67273328 1916551780
+    (within_pair 164452 67108876 showing_up
+    (within_pair 8 67108868 number_up (record { takes = opaque_up 67108864 })))
+    log_up
 
-evidence_up : IsWithin 1917076076 evidence_item
+worded_begun_up : IsWithin 1984382164 (begun_replay Two)
+worded_begun_up =
+    within_pair 67306096 1917076068
+    (within_pair 197220 67108876 worded_showing_up
+    (within_pair 8 67108868 number_up (record { takes = opaque_up 67108864 })))
+    worded_log_up
+
+versions_up : (is_one : Bool) → IsWithin 1984382164 (cond is_one (begun_replay One) (begun_replay Two))
+versions_up true = within 1983825108 1984382164 (lit≤ tt) begun_up
+versions_up false = worded_begun_up
+
+-- a base with a segment takes 1,984,382,168 bytes at most
+based_up : IsWithin 1984382168 based_item
+based_up =
+    record {
+      takes = choice_up is_log (λ n. cond (eqb n 1) (begun_replay One) (begun_replay Two)) 1984382164
+          (λ n known. (versions_up (eqb n 1)).takes);
+    }
+
+charge_up : (is_fork is_replay is_worded_fork is_worded_replay : Bool)
+    → IsWithin 1984382168
+    (cond is_fork (fork_item One) (cond is_replay (logs.versioned_item One 65536)
+    (cond is_worded_fork (fork_item Two) (cond is_worded_replay (logs.versioned_item Two 65536) based_item))))
+charge_up true is_replay is_worded_fork is_worded_replay = within 328916 1984382168 (lit≤ tt) fork_up
+charge_up false true is_worded_fork is_worded_replay = within 1916551780 1984382168 (lit≤ tt) log_up
+charge_up false false true is_worded_replay = within 394452 1984382168 (lit≤ tt) worded_fork_up
+charge_up false false false true = within 1917076068 1984382168 (lit≤ tt) worded_log_up
+charge_up false false false false = based_up
+
+evidence_up : IsWithin 1984382176 evidence_item
 evidence_up =
-    within_pair 4 1917076072 word_up
+    within_pair 4 1984382172 word_up
     (record {
       takes =
-          choice_up is_charge charge_item 1917076068
-          (λ n known. (charge_up (eqb n 1) (eqb n 2) (eqb n 3)).takes);
+          choice_up is_charge charge_item 1984382168
+          (λ n known. (charge_up (eqb n 1) (eqb n 2) (eqb n 3) (eqb n 4)).takes);
     })
 
 -- ---- rosters
@@ -362,6 +391,6 @@ roster_up =
           (λ n known. (members_up (n == SECOND_FORM) n known refl).takes);
     }
 
--- a roster with evidence after it takes 1,917,079,156 bytes at most
-pub case_up : IsWithin 1917079156 case_item
-case_up = within_pair 3080 1917076076 roster_up evidence_up
+-- a roster with evidence after it takes 1,984,385,256 bytes at most
+pub case_up : IsWithin 1984385256 case_item
+case_up = within_pair 3080 1984382176 roster_up evidence_up

@@ -7,11 +7,11 @@ use Rattle.console.specs.declared.input.Contents.{Contents}
 use Rattle.console.specs.declared.input.Contents.TheVariants.{Whole, Front}
 
 -- The most bytes of a file with evidence: 3,080 of a roster of 64 members in its second form, 8 of the node
--- and the charge, and 1,917,076,068 of a log of version 2 of 65,536 entries. An entry has 29,252 bytes at most:
--- its word, and a message received, with a body of 12,288 bytes and a signature whose path has 16 hashes. A
--- fork has far fewer.
+-- and the charge, 67,306,100 of a base of a log of version 2, with 4,096 links and 67,108,864 bytes of a state, and
+-- 1,917,076,068 of such a log of 65,536 entries after it. An entry has 29,252 bytes at most: its word, and a
+-- message received, with a body of 12,288 bytes and a signature whose path has 16 hashes.
 abbrev pub longest_case : ℕ
-longest_case = 1917079156
+longest_case = 1984385256
 
 -- where a roster's text has the count of its members, by its first word
 abbrev pub count_place : (first : ℕ) → ℕ

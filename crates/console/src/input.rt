@@ -21,7 +21,7 @@ const PIECE: usize = 8192;
 const HEAD: usize = 65_536;
 
 /// The most bytes of a file with evidence.
-const LONGEST: usize = 1_917_079_156;
+const LONGEST: usize = 1_984_385_256;
 
 /// What was read of a file.
 #[derive(Drop)]
@@ -66,7 +66,7 @@ fn member_size(first: u32) -> usize
 fn is_charge(word: u32) -> bool
     ensures { result ≡ is_charge word }
 {
-    word > 0 && word < 5
+    word > 0 && word < 6
 }
 
 /// Whether a file that begins with a word may hold a roster or evidence, by the count of members and the

@@ -2,3 +2,5 @@ pub use Rattle.evidence_spec.proofs as evidence_spec
 pub mod Texts
 pub mod Words
 pub mod Marks
+pub mod Bases
+pub mod Entries

@@ -1,12 +1,15 @@
 -- What was read has a text, and what it says is that text's value.
--- Serves: of_front, into_showing.
+-- Serves: of_front, into_showing, PlainBase::into_base.
 use Rattle.std.proofs.Common.{◌≡◌, ℕ, ◌+◌, ◌-◌, List, [], ◌∷◌, Ok, ap, map, refl}
+use Rattle.std.specs.List.{AllByRecursion}
 use Rattle.xdr.specs.Item.{Fits, IsBytes}
 use Rattle.xdr.specs.Reading.{read_at}
 use Rattle.xdr.proofs.Exact.{takes}
 use Rattle.authenticator.specs.declared.member.LogVersion.TheVariants.{One, Two}
 use Rattle.authenticator.specs.Signed.{authenticator_value}
+use Rattle.evidence_spec.specs.Base.{begun_value}
 use Rattle.evidence_spec.specs.Showing.{link_value, numbered, showing_item, showing_value}
+use Rattle.evidence_showings.specs.Bases.{PlainBaseParts, plain_base_value}
 use Rattle.evidence_showings.specs.Plain.{PlainLinkParts, PlainParts, plain_link, plain_link_value}
 use Rattle.evidence_showings.specs.Plain.{plain_showing}
 use Rattle.evidence_showings.specs.Plain.{plain_value}
@@ -32,3 +35,14 @@ links_back before (l ∷ ls) = ap (λ vs. plain_link_value l ∷ vs) (links_back
 pub value_back : (s : PlainParts) → showing_value One (plain_showing s) ≡ plain_value s
 value_back s = ap (λ vs. (s.node, (s.first, (s.opening, (vs, authenticator_value s.closing)))))
     (links_back (s.first - 1) s.links)
+
+-- and its links skip nothing
+pub plain_no_more : (ls : List PlainLinkParts) → AllByRecursion (λ l. l.skipped ≡ 0) (map plain_link ls)
+plain_no_more [] = tt
+plain_no_more (l ∷ ls) = (refl, plain_no_more ls)
+
+-- so does a base of a log of version 1
+pub plain_base_back : (b : PlainBaseParts)
+    → begun_value One (record { log_version = One; showing = plain_showing b.showing; at = b.at; state = b.state })
+    ≡ plain_base_value b
+plain_base_back b = ap (λ x. (x, (b.at, b.state))) (value_back b.showing)

@@ -3,3 +3,5 @@ pub mod Kinds
 pub mod Plain
 pub mod Worded
 pub mod Showings
+pub mod Bases
+pub mod ReadBases

@@ -27,6 +27,12 @@ pub record Ends (v : LogVersion) (s : ShowingParts) : Type 0 where
   pub last : ClosesAt v (s.first - 1) (links_in s) s.closing.word
   pub hash : s.closing.hash ≡ last_hash s.opening (links_in s)
 
+-- A showing says no more than its text of a log of a version does: in version 1 its links skip nothing, in
+-- version 2 its first number is at least 1.
+abbrev pub SaysNoMore : LogVersion → ShowingParts → Type 0
+SaysNoMore One s = AllByRecursion (λ l. l.skipped ≡ 0) s.links
+SaysNoMore Two s = 0 < s.first
+
 -- An entry that skips so many numbers may have this number in a text of a log of this version.
 abbrev pub MayHave : LogVersion → (skipped number : ℕ) → Type 0
 MayHave One skipped number = skipped ≡ 0

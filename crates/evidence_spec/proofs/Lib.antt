@@ -8,6 +8,7 @@ pub mod Parts
 pub mod Shown
 pub mod Reached
 pub mod Replayed
+pub mod Based
 pub mod Accepted
 pub mod Closed
 pub mod Nothing

@@ -1,6 +1,6 @@
 -- Evidence that an honest log stands against proves nothing.
 -- Serves: what_proves_nothing.
-use Rattle.std.proofs.Common.{◌≡◌, ℕ, List, [], ◌++◌, Option, Some, None, refl, sym, ◌∙◌, subst}
+use Rattle.std.proofs.Common.{◌≡◌, ℕ, List, [], ◌∷◌, ◌++◌, Option, Some, None, refl, sym, ◌∙◌, subst}
 use Rattle.std.specs.Prelude.{IfSome, option_map}
 use Rattle.std.specs.List.{AllByRecursion}
 use Rattle.replay_spec.specs.authenticator.declared.authenticator.Authenticator.{Authenticator}
@@ -13,21 +13,30 @@ use Rattle.replay_spec.specs.state_spec.State.{State}
 use Rattle.replay_spec.specs.Opening.{opening_of}
 use Rattle.replay_spec.specs.HonestLogs.{IsHonestLog}
 use Rattle.evidence_spec.specs.Showing.{authenticator_showing}
-use Rattle.evidence_spec.specs.Evidence.{ForkParts, Fork, EvidenceParts}
-use Rattle.evidence_spec.specs.Proving.{IsLogOf, texts_of, charge_texts, closings, option_texts}
+use Rattle.evidence_spec.specs.Evidence.{Charge, ForkParts, Fork, Replay, Based, EvidenceParts}
+use Rattle.evidence_spec.specs.Laws.{HasNoBase}
+use Rattle.evidence_spec.specs.Proving.{IsLogOf, texts_of, texts_beside, charge_texts, closings, option_texts}
 use Rattle.evidence_spec.specs.Proving.{option_closings, IsUnforgedIn, Withstands, Proves}
 use Rattle.replay_spec.proofs.secure_log.Logs.{no_numbers}
 use Rattle.replay_spec.proofs.secure_log.OfLogEntries.FewerTexts.{fewer, both}
+
+-- without a base all texts are those of the log and the charge
+plain_texts : (charge : Charge) → HasNoBase charge → (log : List Logged) (t : State) (states : List State)
+    → NoCollision (texts_of log ++ charge_texts charge) → NoCollision (texts_beside log charge t states)
+plain_texts (Fork f) none log t states unlike = unlike
+plain_texts (Replay s) none log t states unlike = unlike
+plain_texts (Based b s) none log t states unlike = absurd none
 
 -- evidence whose texts are all those of an honest log, with no signature forged against it, proves nothing
 pub own_texts : (ms : List Member) (member : Member) (e : EvidenceParts) (log : List Logged) (s : State)
     → member_of ms e.node ≡ Some member → IsLogOf member.log_version log
     → IsHonestLog ms (opening_of member) log s
     → AllByRecursion (IsUnforgedIn member.log_version ms member.node log) (closings e.charge)
+    → HasNoBase e.charge
     → ((t : List ℕ) → IsAmong t (charge_texts e.charge) → IsAmong t (texts_of log))
     → NoCollision (texts_of log)
     → ¬ Proves ms e
-own_texts ms member e log s there is honest unforged own unlike = λ p.
+own_texts ms member e log s there is honest unforged none own unlike = λ p.
     let both_some : Some p.member ≡ Some member = sym p.is_member ∙ there in
     let same : member ≡ p.member = cc in
     let ls = texts_of log in
@@ -37,7 +46,9 @@ own_texts ms member e log s there is honest unforged own unlike = λ p.
       state = s;
       honest = honest;
       unforged = unforged;
-      no_collision = fewer (ls ++ gs) ls (both ls gs ls (λ t i. i) own) unlike;
+      no_collision = λ t beside.
+          plain_texts e.charge none log t (opening_of member ∷ honest.states)
+          (fewer (ls ++ gs) ls (both ls gs ls (λ t i. i) own) unlike);
     }))
 
 -- ---- authenticators that aren't signed
@@ -74,5 +85,5 @@ unsigned v ms member node at a b there h k =
     own_texts ms member (record { node = node; charge = Fork showings }) [] (opening_of member) there
     (record { each = tt; bytes = tt; numbers = no_numbers member.log_version })
     (record { states = []; honest = tt; last = refl })
-    (λ of signed. absurd (h signed), each_unforged v member.log_version ms member.node [] b k)
+    (λ of signed. absurd (h signed), each_unforged v member.log_version ms member.node [] b k) tt
     (λ t i. absurd (no_texts v b t i)) (λ s t i j e. absurd i)

@@ -88,4 +88,4 @@ reading_proves_nothing v ms member node closing there kind number hash =
     there (reading_log member.log_version)
     (subst (λ o. IsHonestLog ms o reading (read_once member.node)) opening (reading_honest ms member.node))
     ((λ of signed. inr (inl (ap₂ (λ n h. (n, h)) (first_number member.log_version closing.word number) hash))), tt)
-    (λ t i. i) reading_texts
+    tt (λ t i. i) reading_texts

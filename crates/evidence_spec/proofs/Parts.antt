@@ -21,7 +21,7 @@ abbrev pub logged_texts : List Logged → List (List ℕ)
 logged_texts ls = flat_map (λ l. entry_texts l.entry) ls
 
 -- entries with the same links are the same, and skip the same
-one_logged : (all : List (List ℕ)) → NoCollision all → (n m : ℕ) (l k : Logged)
+pub one_logged : (all : List (List ℕ)) → NoCollision all → (n m : ℕ) (l k : Logged)
     → Fits entry_item (entry_value l.entry) → Fits entry_item (entry_value k.entry)
     → Within (entry_texts l.entry) all → Within (entry_texts k.entry) all
     → logged_link n l ≡ logged_link m k → l ≡ k
@@ -55,28 +55,28 @@ first_in_log all unlike before (k ∷ log) (l ∷ ls) rest a b i j h =
 
 -- ---- entries after links
 
-each_back : (xs ys : List Logged) → EachLogged (xs ++ ys) → EachLogged ys
+pub each_back : (xs ys : List Logged) → EachLogged (xs ++ ys) → EachLogged ys
 each_back [] ys each = each
 each_back (x ∷ xs) ys each = each_back xs ys each.1
 
-texts_back : (xs ys : List Logged) → Within (logged_texts ys) (logged_texts (xs ++ ys))
+pub texts_back : (xs ys : List Logged) → Within (logged_texts ys) (logged_texts (xs ++ ys))
 texts_back [] ys t i = i
 texts_back (x ∷ xs) ys t i = right (entry_texts x.entry) (logged_texts (xs ++ ys)) t (texts_back xs ys t i)
 
 -- entries of a log in two parts, the first of which has these links, and the second others
-record Splits (before : ℕ) (log : List Logged) (xs ys : List Link) : Type 0 where
+pub record Splits (before : ℕ) (log : List Logged) (xs ys : List Link) : Type 0 where
   -- the first part
-  front : List Logged
+  pub front : List Logged
   -- the second part
-  back : List Logged
+  pub back : List Logged
   -- the two are all entries
-  whole : log ≡ front ++ back
+  pub whole : log ≡ front ++ back
   -- the numbers up to the last of the links
-  count : last_number before xs ≡ before + span front
+  pub count : last_number before xs ≡ before + span front
   -- the links of the second part, after that one
-  other : logged_links (last_number before xs) back ≡ ys
+  pub other : logged_links (last_number before xs) back ≡ ys
 
-split : (before : ℕ) (log : List Logged) (xs ys : List Link) → logged_links before log ≡ xs ++ ys
+pub split : (before : ℕ) (log : List Logged) (xs ys : List Link) → logged_links before log ≡ xs ++ ys
     → Splits before log xs ys
 split before log [] ys h = record { front = []; back = log; whole = refl; count = omega arith; other = h }
 split before [] (x ∷ xs) ys h = absurd cc

@@ -22,7 +22,7 @@ use Rattle.evidence_spec.specs.Laws.{Reached, IsNextIn, IsSoundIn}
 -- ---- honest entries in two parts
 
 -- the states after the first part, and those after the second
-pub record IsSplit (ms : List Member) (s : State) (ps qs : List Placed) : Type 0 where
+pub record IsSplit (ms : List Member) (s : State) (ps qs : List Placed) (ts : List State) : Type 0 where
   -- the states of the first part
   pub first : List State
   -- the first part is honest
@@ -31,15 +31,23 @@ pub record IsSplit (ms : List Member) (s : State) (ps qs : List Placed) : Type 0
   pub more : List State
   -- the second part is honest from the last state of the first
   pub rest : Honest ms (last_state s first) qs more
+  -- they are all states
+  pub whole : ts ≡ first ++ more
 
 -- entries that are honest are so in two parts, the second after the last state of the first
 pub split : (ms : List Member) (s : State) (ps qs : List Placed) (ts : List State) → Honest ms s (ps ++ qs) ts
-    → IsSplit ms s ps qs
-split ms s [] qs ts h = record { first = []; honest = tt; more = ts; rest = h }
+    → IsSplit ms s ps qs ts
+split ms s [] qs ts h = record { first = []; honest = tt; more = ts; rest = h; whole = refl }
 split ms s (p ∷ ps) qs [] h = absurd h
 split ms s (p ∷ ps) qs (t ∷ ts) h =
     let g = split ms t ps qs ts h.1 in
-    record { first = t ∷ g.first; honest = (h.0, g.honest); more = g.more; rest = g.rest }
+    record {
+      first = t ∷ g.first;
+      honest = (h.0, g.honest);
+      more = g.more;
+      rest = g.rest;
+      whole = ap (λ us. t ∷ us) g.whole;
+    }
 
 -- ---- places and hashes
 

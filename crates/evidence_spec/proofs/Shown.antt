@@ -28,7 +28,7 @@ use Rattle.replay_spec.proofs.secure_log.Gaps.{closing_number, logged_after}
 use Rattle.replay_spec.proofs.secure_log.OfLogEntries.Chains.{logged_are_links}
 use Rattle.evidence_spec.proofs.Gaps.{log_are_links, shown_after, shown_are_links}
 use Rattle.evidence_spec.proofs.Parts.{EachLogged, entries_in_log, logged_texts}
-use Rattle.evidence_spec.proofs.ShownMarks.{StandsInLog, in_log, marks_in, opening_in, stands_in_log}
+use Rattle.evidence_spec.proofs.ShownMarks.{StandsInLog, marks_in, opening_in, stands_in_log}
 
 -- a number of a text has a next one in 64 bits
 pub next_fits : (n : ℕ) → IsTrue (is_number n) → n + 1 < 2 ^ 64
@@ -45,13 +45,14 @@ pub number_low : (v : LogVersion) (w : ℕ) → IsTrue (is_number w) → number_
 number_low One w h = omega (arith, next_fits w h)
 number_low Two w h = omega arith
 
--- what a closed showing shows is in the log, where its closing's pair is and no two texts have one digest
+-- the links of a closed showing stand in the log, and what it shows is the log's, where its closing's pair is and
+-- no two texts have one digest
 module _ (v : LogVersion) (ms : List Member) (log : List Logged) (s : ShowingParts) where
-  pub showing_in_log : IsLogOf v log → Fits (showing_item v) (showing_value v s) → IsClosedShowing v ms s
+  pub showing_stands : IsLogOf v log → Fits (showing_item v) (showing_value v s) → IsClosedShowing v ms s
       → IsAmong (number_in v s.closing.word, s.closing.hash) (log_pairs log)
       → NoCollision (texts_of log ++ showing_texts s)
-      → (number : ℕ) (mark : List ℕ) → Shows s number mark → IsAmong (number, mark) (marks_of log)
-  showing_in_log is fits closed i unlike number mark shown =
+      → StandsInLog (log_links log) (s.first - 1) s.opening (links_in s)
+  showing_stands is fits closed i unlike =
       let links = links_in s in
       let whole = log_links log in
       let numbers : AreNumbered (s.first - 1) links = shown_after (s.first - 1) s.links in
@@ -70,11 +71,18 @@ module _ (v : LogVersion) (ms : List Member) (log : List Logged) (s : ShowingPar
       (λ t k. left (texts_of log) (showing_texts s) t
       (left (chain_texts zeros whole) (flat_map (λ (l : Logged). entry_texts l.entry) log) t k))
       (right (texts_of log) (showing_texts s)) in
-      in_log v whole links (s.first - 1) s.opening (log_chain_of v log is) chain (logged_after 0 log) numbers
+      stands_in_log v whole links (s.first - 1) s.opening (log_chain_of v log is) chain (logged_after 0 log) numbers
       (fewer (chain_texts zeros whole ++ chain_texts s.opening links)
       (texts_of log ++ showing_texts s) within unlike)
       (subst (λ h. IsAmong (last_number (s.first - 1) links, h) (log_pairs log)) closed.hash
-      (subst (λ n. IsAmong (n, s.closing.hash) (log_pairs log)) last i)) number mark shown
+      (subst (λ n. IsAmong (n, s.closing.hash) (log_pairs log)) last i))
+
+  pub showing_in_log : IsLogOf v log → Fits (showing_item v) (showing_value v s) → IsClosedShowing v ms s
+      → IsAmong (number_in v s.closing.word, s.closing.hash) (log_pairs log)
+      → NoCollision (texts_of log ++ showing_texts s)
+      → (number : ℕ) (mark : List ℕ) → Shows s number mark → IsAmong (number, mark) (marks_of log)
+  showing_in_log is fits closed i unlike =
+      marks_in (log_links log) (s.first - 1) s.opening (links_in s) (showing_stands is fits closed i unlike)
 
 -- ---- segments
 

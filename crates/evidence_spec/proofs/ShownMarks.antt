@@ -18,7 +18,7 @@ use Rattle.replay_spec.proofs.secure_log.OfLogEntries.Marks.{marks_parts, marks_
 use Rattle.replay_spec.proofs.secure_log.Gaps.{rise}
 
 -- what holds of each of a list holds of each of its first
-all_front : {A : Type 0} (P : A → Type 0) (xs ys : List A) → AllByRecursion P (xs ++ ys) → AllByRecursion P xs
+pub all_front : {A : Type 0} (P : A → Type 0) (xs ys : List A) → AllByRecursion P (xs ++ ys) → AllByRecursion P xs
 all_front P [] ys each = tt
 all_front P (x ∷ xs) ys each = (each.0, all_front P xs ys each.1)
 
@@ -202,8 +202,3 @@ module _ (v : LogVersion) (log links : List Link) (before : ℕ) (opening : List
           → StandsInLog log before opening links
       by_length (inl lt) = absurd (too_long lt)
       by_length (inr le) = at_the_end (is_end le)
-
-  -- and their marks are the log's
-  pub in_log : (number : ℕ) (mark : List ℕ) → IsAmong (number, mark) (marks before opening links)
-      → IsAmong (number, mark) (marks 0 zeros log)
-  in_log = marks_in log before opening links stands_in_log

@@ -1,5 +1,5 @@
 -- What holds of evidence: each law is the contract of a function in src/laws.rt.
-use Rattle.std.specs.Prelude.{◌≡◌, ℕ, ◌+◌, List, [], ◌∷◌, ◌++◌}
+use Rattle.std.specs.Prelude.{◌≡◌, ℕ, ◌+◌, List, [], ◌∷◌, ◌++◌, flat_map}
 use Rattle.std.specs.Prelude.{Option, Some, option_map, IfSome}
 use Rattle.std.specs.List.{AllByRecursion}
 use Rattle.sha2.specs.Sha256.{sha256}
@@ -25,10 +25,12 @@ use Rattle.replay_spec.specs.Placed.{logged_places, places_in}
 use Rattle.replay_spec.specs.Replay.{Honest, Sound, verdict_of}
 use Rattle.replay_spec.specs.Opening.{opening_of}
 use Rattle.replay_spec.specs.HonestLogs.{IsHonestLog}
+use Rattle.replay_spec.specs.StateLaws.{state_texts}
 use Rattle.evidence_spec.specs.Showing.{ShowingParts, IsClosedShowing, Shows}
 use Rattle.evidence_spec.specs.Showing.{showing_item, showing_value, showing_marks}
 use Rattle.evidence_spec.specs.Showing.{authenticator_showing, versioned_showing}
-use Rattle.evidence_spec.specs.Evidence.{ForkParts, Fork, Replay, EvidenceParts}
+use Rattle.evidence_spec.specs.Base.{BaseParts, IsGoodBase, base_item, base_value}
+use Rattle.evidence_spec.specs.Evidence.{Charge, ForkParts, Fork, Replay, Based, EvidenceParts}
 use Rattle.evidence_spec.specs.Evidence.{MAX_AUDITED, evidence_item, evidence_value, Accepts}
 use Rattle.evidence_spec.specs.Proving.{IsLogOf, log_links, marks_of, texts_of}
 use Rattle.evidence_spec.specs.Proving.{versioned_texts, showing_texts, entry_texts}
@@ -102,6 +104,19 @@ SegmentsGoOnSound =
     (ms : List Member) (log : List Logged) (number : ℕ) (state : State) (s : VersionedParts)
     → Reached ms log number state → IsNextIn log number s → IsSoundIn ms log state s
 
+-- A base whose closing is a pair of an honest log is of the log, where no two texts have one digest: the log has
+-- reached the base's state at the base's number, and all that the base shows are marks of the log.
+abbrev pub BaseIsOfTheLog : Type 0
+BaseIsOfTheLog =
+    (ms : List Member) (log : List Logged) (b : BaseParts) (m : Member) (s last : State)
+    → IsLogOf b.log_version log → Fits base_item (base_value b) → IsGoodBase ms b m s
+    → (h : IsHonestLog ms (opening_of m) log last)
+    → IsAmong (number_in b.log_version b.showing.closing.word, b.showing.closing.hash) (log_pairs log)
+    → NoCollision (texts_of log
+    ++ (showing_texts b.showing ++ flat_map state_texts (s ∷ opening_of m ∷ h.states)))
+    → Reached ms log b.at s
+    × ((number : ℕ) (mark : List ℕ) → Shows b.showing number mark → IsAmong (number, mark) (marks_of log))
+
 -- Two entries are of one kind, and their contents have one digest.
 pub record SameContent (e f : Entry) : Type 0 where
   pub kind : kind_number e ≡ kind_number f
@@ -144,14 +159,21 @@ SegmentsShowTheirMarks =
 
 -- ---- what proves nothing
 
--- Evidence whose texts are all of an honest log's own, and whose signatures are none forged, proves nothing,
--- where no two of the log's texts have one digest.
+-- a charge has no base
+abbrev pub HasNoBase : Charge → Type 0
+HasNoBase (Fork f) = Unit {0}
+HasNoBase (Replay s) = Unit {0}
+HasNoBase (Based b s) = ⊥
+
+-- Evidence without a base whose texts are all of an honest log's own, and whose signatures are none forged, proves
+-- nothing, where no two of the log's texts have one digest.
 abbrev pub OwnTextsProveNothing : Type 0
 OwnTextsProveNothing =
     (ms : List Member) (member : Member) (e : EvidenceParts) (log : List Logged) (s : State)
     → member_of ms e.node ≡ Some member → IsLogOf member.log_version log
     → IsHonestLog ms (opening_of member) log s
     → AllByRecursion (IsUnforgedIn member.log_version ms member.node log) (closings e.charge)
+    → HasNoBase e.charge
     → ((t : List ℕ) → IsAmong t (charge_texts e.charge) → IsAmong t (texts_of log))
     → NoCollision (texts_of log)
     → ¬ Proves ms e

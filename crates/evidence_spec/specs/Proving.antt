@@ -20,11 +20,13 @@ use Rattle.replay_spec.specs.secure_log.LogEntries.Chain.{Link, Logged, logged_l
 use Rattle.replay_spec.specs.secure_log.Log.{HasNumbers, log_pairs}
 use Rattle.replay_spec.specs.secure_log.Versioned.{VersionedParts, versioned_links}
 use Rattle.replay_spec.specs.state_spec.State.{State}
+use Rattle.replay_spec.specs.state_spec.StateText.{IsStateText}
 use Rattle.replay_spec.specs.Bodies.{HasBytes}
+use Rattle.replay_spec.specs.StateLaws.{state_texts}
 use Rattle.replay_spec.specs.Opening.{opening_of}
 use Rattle.replay_spec.specs.HonestLogs.{IsHonestLog}
 use Rattle.evidence_spec.specs.Showing.{ShowingParts, links_in}
-use Rattle.evidence_spec.specs.Evidence.{Charge, Fork, Replay, EvidenceParts}
+use Rattle.evidence_spec.specs.Evidence.{Charge, Fork, Replay, Based, EvidenceParts}
 
 -- Entries are those of a log of a version, each with how many numbers are skipped just before it: each has a
 -- text, bodies are bytes, and their numbers are such a log's.
@@ -75,10 +77,25 @@ abbrev pub option_texts : Option ShowingParts → List (List ℕ)
 option_texts None = []
 option_texts (Some s) = showing_texts s
 
--- the texts of a fork's showings, or of a replay's segment
+-- the texts of a fork's showings, of a replay's segment, or of a base's showing and a segment
 abbrev pub charge_texts : Charge → List (List ℕ)
 charge_texts (Fork f) = showing_texts f.a ++ option_texts f.b
 charge_texts (Replay s) = versioned_texts s
+charge_texts (Based b s) = showing_texts b.showing ++ versioned_texts s
+
+-- A state is that of a charge's base; of a charge without a base nothing is asked.
+abbrev pub IsBesideCharge : Charge → State → Type 0
+IsBesideCharge (Fork f) t = Unit {0}
+IsBesideCharge (Replay s) t = Unit {0}
+IsBesideCharge (Based b s) t = IsStateText t b.state
+
+-- all texts that are hashed for a log and a charge; with a base also those of its state, and of the states that the
+-- log comes to
+abbrev pub texts_beside : List Logged → Charge → (own : State) → List State → List (List ℕ)
+texts_beside log (Fork f) own states = texts_of log ++ charge_texts (Fork f)
+texts_beside log (Replay s) own states = texts_of log ++ charge_texts (Replay s)
+texts_beside log (Based b s) own states =
+    texts_of log ++ (charge_texts (Based b s) ++ flat_map state_texts (own ∷ states))
 
 -- ---- what is signed
 
@@ -87,10 +104,11 @@ abbrev pub option_closings : Option ShowingParts → List Authenticator
 option_closings None = []
 option_closings (Some s) = s.closing ∷ []
 
--- the closings of the showings, or of the segment
+-- the closings of the showings, or of the segment, or of a base's showing and the segment
 abbrev pub closings : Charge → List Authenticator
 closings (Fork f) = f.a.closing ∷ option_closings f.b
 closings (Replay s) = s.closing ∷ []
+closings (Based b s) = b.showing.closing ∷ s.closing ∷ []
 
 -- An authenticator isn't forged against a log of a version of a node: if it is of that node, and signed, then its
 -- number and hash are a pair of the log.
@@ -102,13 +120,14 @@ IsUnforgedIn v ms node log a =
 
 -- A log of a node, of the version that the roster gives it, stands against evidence: it is honest from the
 -- state that the node begins with, none of the evidence's signatures is forged, and no two of their texts
--- have one digest.
+-- have one digest: with a base also none of those of the states.
 pub record Withstands (ms : List Member) (member : Member) (charge : Charge) (log : List Logged) : Type 0 where
   pub is_log : IsLogOf member.log_version log
   pub state : State
   pub honest : IsHonestLog ms (opening_of member) log state
   pub unforged : AllByRecursion (IsUnforgedIn member.log_version ms member.node log) (closings charge)
-  pub no_collision : NoCollision (texts_of log ++ charge_texts charge)
+  pub no_collision : (own : State) → IsBesideCharge charge own
+      → NoCollision (texts_beside log charge own (opening_of member ∷ honest.states))
 
 -- Evidence proves that a member of the roster has no honest log: none stands against it.
 pub record Proves (ms : List Member) (e : EvidenceParts) : Type 0 where

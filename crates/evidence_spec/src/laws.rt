@@ -3,11 +3,14 @@
 ghost use Rattle.evidence_spec.specs.Laws.{OneMarkAtANumber, ShownIsOfTheLog};
 ghost use Rattle.evidence_spec.specs.Laws.{SegmentIsOfTheLog};
 ghost use Rattle.evidence_spec.specs.Laws.{SegmentsGoOnSound};
+ghost use Rattle.evidence_spec.specs.Laws.{BaseIsOfTheLog};
 ghost use Rattle.evidence_spec.specs.Laws.{ContentsGiveEntriesBack, AcceptedEvidenceProves};
 ghost use Rattle.evidence_spec.specs.Laws.{AuthenticatorsShowOnePair};
 ghost use Rattle.evidence_spec.specs.Laws.{SegmentsShowTheirMarks};
 ghost use Rattle.evidence_spec.specs.Laws.{OwnTextsProveNothing, UnsignedProveNothing};
 ghost use Rattle.evidence_spec.specs.Laws.{OneReadingProvesNothing};
+
+use replay_spec::state_laws::honest_states_are_spelled;
 
 /// A log has one mark at each number: a hash, or that no entry has it.
 pub fn one_mark_at_a_number()
@@ -27,6 +30,14 @@ pub fn a_segment_after_a_reached_place_is_sound()
     ensures { SegmentsGoOnSound }
 {}
 
+/// Where the closing of a good base is a pair of an honest log, and no two texts have one digest, the log has reached
+/// the base's state at the base's number, and all that the base shows are marks of the log.
+pub fn a_base_is_of_the_log()
+    ensures { BaseIsOfTheLog }
+{
+    honest_states_are_spelled();
+}
+
 /// Entries of one kind whose contents have one digest are the same, where no two texts have one digest.
 pub fn contents_give_entries_back()
     ensures { ContentsGiveEntriesBack }
@@ -36,7 +47,9 @@ pub fn contents_give_entries_back()
 /// texts have one digest.
 pub fn accepted_evidence_proves()
     ensures { AcceptedEvidenceProves }
-{}
+{
+    honest_states_are_spelled();
+}
 
 /// A signed authenticator alone, and the links of a closed segment, are closed showings, of that pair and of
 /// the segment's marks.

@@ -4,5 +4,5 @@
 pub mod laws;
 mod limits;
 
-pub use limits::MAX_AUDITED;
+pub use limits::{MAX_AUDITED, MAX_KNOWN, MAX_STATE};
 pub use replay_spec::{ClosedSegment, Entry, MAX_ENTRIES, MAX_SKIPPED, copy_of, link_hash};

@@ -1,7 +1,8 @@
 -- What evidence lacks that isn't accepted.
 use Rattle.std.specs.Prelude.{◌≡◌, ◌⊎◌, ℕ, List, Option, Some, None}
 use Rattle.challenge.specs.evidence_spec.Showing.{ShowingParts}
-use Rattle.challenge.specs.evidence_spec.Evidence.{Charge, Fork, Replay, EvidenceParts, charge_version}
+use Rattle.challenge.specs.evidence_spec.Evidence.{Charge, Fork, Replay, Based, EvidenceParts}
+use Rattle.challenge.specs.evidence_spec.Evidence.{charge_version}
 use Rattle.challenge.specs.evidence_showings.Showings.{Ends}
 use Rattle.challenge.specs.declared.finding.NotAccepted.{NotAccepted}
 use Rattle.challenge.specs.declared.finding.NotAccepted.TheVariants as reasons
@@ -23,6 +24,8 @@ lacking lacks.NoKey = reasons.NotSigned
 lacking lacks.NotSigned = reasons.NotSigned
 lacking lacks.NoTwoHashes = reasons.NoTwoMarks
 lacking lacks.NoTwoMarks = reasons.NoTwoMarks
+lacking lacks.NoGoodBase = reasons.NoGoodBase
+lacking lacks.NotFromBase = reasons.NotFromBase
 lacking lacks.NoFault = reasons.NoFault
 
 -- The first showing begins at 0; or the second does, where the first ends in its closing.
@@ -34,6 +37,7 @@ IsZeroFork v a (Some b) = (a.first ≡ 0) ⊎ (Ends v a × (b.first ≡ 0))
 abbrev pub BeginsAtZero : Charge → Type 0
 BeginsAtZero (Fork f) = IsZeroFork f.log_version f.a f.b
 BeginsAtZero (Replay s) = ⊥
+BeginsAtZero (Based b s) = b.showing.first ≡ 0
 
 -- the roster has no key of the node
 abbrev pub HasNoKey : List Member → ℕ → Type 0
@@ -50,4 +54,6 @@ IsLack ms e lacks.NoKey = HasNoKey ms e.node
 IsLack ms e lacks.NotSigned = ¬ (HasNoKey ms e.node)
 IsLack ms e lacks.NoTwoHashes = charge_version e.charge ≡ One
 IsLack ms e lacks.NoTwoMarks = charge_version e.charge ≡ Two
+IsLack ms e lacks.NoGoodBase = Unit {0}
+IsLack ms e lacks.NotFromBase = Unit {0}
 IsLack ms e lacks.NoFault = Unit {0}

@@ -1,3 +1,4 @@
 pub mod Shown
 pub mod Lacks
 pub mod Numbers
+pub mod Starts

@@ -1,5 +1,6 @@
 //! What a file shows, in words.
 
+use crate::base::add_base;
 use crate::entry::add_all_entries;
 use crate::facts::Facts;
 use crate::file::File;
@@ -85,6 +86,13 @@ fn add_case(facts: &mut Facts, file: &File, case: &Case, trusted: Option<&Roster
             add_log(facts, &log);
             add_detail(facts, &log, detail);
         }
+        Charge::Based(based) => {
+            facts.words("charge", "its log has a fault after a base");
+            add_base(facts, &case.roster, based.base());
+            let log = Log::after(&case.roster, based);
+            add_log(facts, &log);
+            add_detail(facts, &log, detail);
+        }
     }
 }
 
@@ -103,7 +111,10 @@ fn add_log(facts: &mut Facts, log: &Log<'_>) {
 /// Adds which entries a file has, and what follows from them.
 fn add_contents(facts: &mut Facts, log: &Log<'_>) {
     let mut draft = facts.draft();
-    if log.audited.first().get() == 1 {
+    if log.base.is_some() {
+        draft.words("its entries after the base, which --entries lists; what is owed at an entry follows from the ");
+        draft.words("state of the base and the entries before it, and --state K shows the state before entry K");
+    } else if log.audited.first().get() == 1 {
         draft.words("all entries from 1 to ");
         draft.number(log.last_number());
         draft.words(
@@ -121,7 +132,7 @@ fn add_detail(facts: &mut Facts, log: &Log<'_>, detail: Detail) {
     if detail.entries {
         add_all_entries(facts, log);
     }
-    if log.audited.first().get() == 1 {
+    if log.is_whole() {
         add_state(facts, log, detail.state);
     } else {
         add_no_state(facts, detail.state);
@@ -142,22 +153,37 @@ fn add_finding(facts: &mut Facts, roster: &Roster, evidence: &Evidence, finding:
                 add_two_marks(facts, fork, at.get(), one, other);
             }
         }
-        Finding::Fault(fault, number) => {
-            if let Charge::Replay(log) = evidence.charge() {
-                add_found_fault(facts, &Log::new(roster, log), fault, number.get());
+        Finding::Fault(fault, number) => match evidence.charge() {
+            Charge::Replay(log) => {
+                add_found_fault(facts, &Log::new(roster, log), fault, number.get(), LOG_RULES);
             }
-        }
+            Charge::Based(based) => {
+                let log = Log::after(roster, based);
+                add_found_fault(facts, &log, fault, number.get(), BASE_RULES);
+            }
+            Charge::Fork(_) => {}
+        },
         Finding::NotAccepted(why) => add_reason(facts, lack_of(roster, evidence, why).words()),
     }
 }
 
-/// Adds a fault that a replay finds in the log of a node.
-fn add_found_fault(facts: &mut Facts, log: &Log<'_>, fault: ReplayFault, number: u64) {
+/// What a fault in a log rests on.
+const LOG_RULES: &str =
+    "the rules of docs/CHECKING.md, which stand on RFC 1094, RFC 4506 and RFC 5531";
+
+/// What one after a base rests on.
+const BASE_RULES: &str = "the rules of docs/CHECKING.md, which stand on RFC 1094, RFC 4506 and RFC 5531; the state at the base is the one that the digest in the log says, and nothing before it is looked at";
+
+/// Adds a fault that a replay finds in the log of a node, by these rules.
+fn add_found_fault(
+    facts: &mut Facts,
+    log: &Log<'_>,
+    fault: ReplayFault,
+    number: u64,
+    rules: &'static str,
+) {
     add_fault(facts, log, fault, number);
-    add_premises(
-        facts,
-        "the rules of docs/CHECKING.md, which stand on RFC 1094, RFC 4506 and RFC 5531",
-    );
+    add_premises(facts, rules);
 }
 
 /// Adds two marks at one number; of one showing alone the hash that a log begins after, and its own.

@@ -1,11 +1,14 @@
 //! What was owed at a faulty entry, and what was given.
 
+ghost use Rattle.std.specs.Prelude.{◌≡◌, IfOk, IfSome, true};
+ghost use Rattle.explain.specs.Starts.{KnowsFew};
+
 use crate::entry::{add_signed_digest, add_verdict, call_before, kind_name, reply_group};
 use crate::facts::Facts;
 use crate::places::Log;
 use crate::roster::node_fact;
-use challenge::{Outcome, ReplayFault, opening_state, replay_outcome};
-use checkpoint::{Machine, SentMessage, Stage, State, state_digest};
+use challenge::{BaseText, MAX_KNOWN, Outcome, ReplayFault, opening_state, replay_outcome};
+use checkpoint::{Machine, SentMessage, Stage, State, StateFault, read_state, state_digest};
 use secure_log::log_entries::{Entry, Receipt, receipt_hash};
 use secure_log::{Number, Roster, Word};
 use std::alloc::{AllocError, Global};
@@ -19,6 +22,9 @@ pub(crate) fn add_comparison(facts: &mut Facts, log: &Log<'_>, fault: ReplayFaul
     }
 }
 
+/// More than the numbers that the entries of evidence take up: 65 for each of 65,536, and one more.
+const MOST_NUMBERS: u64 = 4_259_841;
+
 /// The state before a place of a member's log, if the entries before it have no fault.
 pub(crate) fn state_before(
     alloc: Global,
@@ -28,12 +34,60 @@ pub(crate) fn state_before(
     let Some(member) = log.member else {
         return Ok(None);
     };
-    let start = opening_state(alloc, &member)?;
+    match log.base {
+        Some(base) => match start_of(alloc, base)? {
+            Some(start) => state_after(alloc, log, start, at),
+            None => Ok(None),
+        },
+        None => state_after(alloc, log, opening_state(alloc, &member)?, at),
+    }
+}
+
+/// The state of a base, if its bytes are the text of one.
+pub(crate) fn read_base_state(alloc: Global, base: &BaseText) -> Result<Option<State>, AllocError> {
+    match read_state(alloc, base.state()) {
+        Ok(state) => Ok(Some(state)),
+        Err(StateFault::Garbage | StateFault::NotAState) => Ok(None),
+        Err(StateFault::NoMemory) => Err(AllocError),
+    }
+}
+
+/// The same, if it knows no more messages than a base's may.
+pub(crate) fn start_of(alloc: Global, base: &BaseText) -> Result<Option<State>, AllocError>
+    ensures { IfOk result (λ o. IfSome o (λ s. KnowsFew s.state)) }
+{
+    match read_base_state(alloc, base)? {
+        Some(state) if knows_few(&state) => Ok(Some(state)),
+        _ => Ok(None),
+    }
+}
+
+/// Whether a state knows no more messages of either kind than a base's may.
+fn knows_few(state: &State) -> bool
+    ensures { result ≡ true → KnowsFew state.now.state }
+{
+    state.received().len() <= MAX_KNOWN as usize && state.sends().len() <= MAX_KNOWN as usize
+}
+
+/// The state before a place of a log that begins after a state, if the entries before it have no fault. None, too,
+/// where their numbers would come near 2^64.
+fn state_after(
+    alloc: Global,
+    log: &Log<'_>,
+    start: State,
+    at: usize,
+) -> Result<Option<State>, AllocError>
+    requires { KnowsFew start.state }
+{
+    let first = log.audited.first();
+    if first.get() > u64::MAX - MOST_NUMBERS {
+        return Ok(None);
+    }
     log.audited.fits();
-    let first = Number::new(1);
+    let opening = log.audited.opening();
     let skips = log.audited.skips();
     let entries = &log.entries()[..at.min(log.entries().len())];
-    match replay_outcome(alloc, log.roster, start, first, &[0; 32], skips, entries)? {
+    match replay_outcome(alloc, log.roster, start, first, &opening, skips, entries)? {
         Outcome::Sound(state) => Ok(Some(state)),
         Outcome::Fault(..) => Ok(None),
     }

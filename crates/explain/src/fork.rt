@@ -34,12 +34,22 @@ pub(crate) fn add_showings(facts: &mut Facts, roster: &Roster, fork: &Fork) {
 
 fn add_showing(facts: &mut Facts, roster: &Roster, version: LogVersion, showing: &Showing) {
     facts.item();
+    add_showing_parts(facts, roster, version, showing);
+    facts.end();
+}
+
+/// Adds what a showing of a log of this version says.
+pub(crate) fn add_showing_parts(
+    facts: &mut Facts,
+    roster: &Roster,
+    version: LogVersion,
+    showing: &Showing,
+) {
     facts.number("node", u64::from(showing.node()));
     facts.place("first", showing.first());
     facts.hex("hash before it", showing.opening());
     add_links(facts, showing);
     add_closing(facts, roster, version, showing.closing());
-    facts.end();
 }
 
 /// Adds a showing's links, by their numbers.

@@ -31,6 +31,10 @@ pub enum Lack {
     NoTwoHashes,
     /// No two marks are shown at the number, of a log of version 2.
     NoTwoMarks,
+    /// A base is not good, though its showing is closed.
+    NoGoodBase,
+    /// The log doesn't begin right after the base, with the hash that the base shows there.
+    NotFromBase,
     /// A replay finds no fault.
     NoFault,
 }
@@ -49,6 +53,8 @@ impl Lack {
             Lack::NotSigned => "what closes it does not verify by the node's key",
             Lack::NoTwoHashes => "no two hashes are shown at the number",
             Lack::NoTwoMarks => "no two marks are shown at the number",
+            Lack::NoGoodBase => "the base is not a good one",
+            Lack::NotFromBase => "the log does not go on from the base",
             Lack::NoFault => "the log has no fault",
         }
     }
@@ -68,6 +74,8 @@ pub fn lack_of(roster: &Roster, evidence: &Evidence, why: NotAccepted) -> Lack
         NotAccepted::NotSigned if has_no_key(roster, evidence) => Lack::NoKey,
         NotAccepted::NotSigned => Lack::NotSigned,
         NotAccepted::NoTwoMarks => no_two(evidence),
+        NotAccepted::NoGoodBase => Lack::NoGoodBase,
+        NotAccepted::NotFromBase => Lack::NotFromBase,
         NotAccepted::NoFault => Lack::NoFault,
     }
 }
@@ -90,6 +98,7 @@ fn shown_version(evidence: &Evidence) -> LogVersion
     match evidence.charge() {
         Charge::Fork(fork) => fork.log_version,
         Charge::Replay(log) => log.log_version(),
+        Charge::Based(based) => based.base().log_version(),
     }
 }
 
@@ -101,6 +110,7 @@ fn begins_at_zero(evidence: &Evidence) -> bool
     match evidence.charge() {
         Charge::Fork(fork) => is_zero_fork(fork),
         Charge::Replay(_) => false,
+        Charge::Based(based) => based.base().showing().first() == 0,
     }
 }
 

@@ -1,6 +1,7 @@
 //! Evidence, and the calls and replies in it, in words: facts that are shown as lines or as JSON.
 #![tactic(auto)]
 
+mod base;
 mod call;
 mod case;
 mod comparison;

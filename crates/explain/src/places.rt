@@ -5,7 +5,7 @@ ghost use Rattle.challenge.specs.evidence_spec.Evidence.{MAX_AUDITED};
 ghost use Rattle.explain.specs.Numbers.{AreBelow, IsNumber, StandsAt, number_at, skipped_in};
 
 use crate::facts::Facts;
-use challenge::AuditedLog;
+use challenge::{AuditedLog, BaseText, BasedReplay};
 use secure_log::log_entries::{Entry, skipped_at};
 use secure_log::{Kind, LogVersion, Member, Roster};
 
@@ -15,6 +15,8 @@ pub(crate) struct Log<'a> {
     pub roster: &'a Roster,
     /// What the roster says of the node that keeps it, if it is a member.
     pub member: Option<Member>,
+    /// The base after which its entries stand, if they don't begin with the log.
+    pub base: Option<&'a BaseText>,
     pub audited: &'a AuditedLog,
 }
 
@@ -24,8 +26,22 @@ impl<'a> Log<'a> {
         Log {
             roster,
             member: roster.member(audited.node()),
+            base: None,
             audited,
         }
+    }
+
+    /// The same of entries after a base.
+    pub fn after(roster: &'a Roster, based: &'a BasedReplay) -> Log<'a> {
+        Log {
+            base: Some(based.base()),
+            ..Log::new(roster, based.log())
+        }
+    }
+
+    /// Whether what stands before its first entry is known: the log begins with it, or a base has the state there.
+    pub fn is_whole(&self) -> bool {
+        self.base.is_some() || self.audited.first().get() == 1
     }
 
     /// The node that keeps it.

@@ -1,6 +1,6 @@
 //! The state of a node before an entry, in words.
 
-use crate::comparison::state_before;
+use crate::comparison::{start_of, state_before};
 use crate::entry::{call_before, call_group, reply_group};
 use crate::facts::Facts;
 use crate::places::{Log, add_word};
@@ -37,7 +37,7 @@ pub(crate) fn add_no_state(facts: &mut Facts, number: Option<u64>) {
 
 /// Adds the state before the entry with a number, or why there is none.
 fn add_state_before(facts: &mut Facts, log: &Log<'_>, number: u64) {
-    if number > log.last_number().saturating_add(1) {
+    if number < log.audited.first().get() || number > log.last_number().saturating_add(1) {
         facts.words("none", "the file does not have all entries before it");
         return;
     }
@@ -47,7 +47,21 @@ fn add_state_before(facts: &mut Facts, log: &Log<'_>, number: u64) {
         Ok(None) if log.member.is_none() => {
             facts.words("none", "the roster does not say what the node is");
         }
-        Ok(None) => facts.words("none", "an entry before it has a fault"),
+        Ok(None) => add_no_start(facts, log),
+        Err(AllocError) => facts.refuse(),
+    }
+}
+
+/// Says why there is no state before an entry of a member: no log begins with its base's state, or an entry before it
+/// has a fault.
+fn add_no_start(facts: &mut Facts, log: &Log<'_>) {
+    let start = match log.base {
+        Some(base) => start_of(facts.alloc(), base),
+        None => return facts.words("none", "an entry before it has a fault"),
+    };
+    match start {
+        Ok(Some(_)) => facts.words("none", "an entry before it has a fault"),
+        Ok(None) => facts.words("none", "no log begins with the state of the base"),
         Err(AllocError) => facts.refuse(),
     }
 }

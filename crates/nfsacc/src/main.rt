@@ -19,7 +19,7 @@ use errors::TimedErrors;
 use evidence::{check_file, show_roster};
 use rpc::records::{Counting, RecordFault, RecordReader};
 use rpc_streams::run_rpc;
-use scripts::{ScriptEnd, ScriptFault, run_script};
+use scripts::{ScriptEnd, ScriptFault, ScriptFiles, run_script};
 use serve::{Opened, open, order_of, report_served};
 use serving::serve;
 use shelf::{FileShelf, leads_to};
@@ -146,7 +146,10 @@ where
         &mut reader,
         &mut writer,
         &mut shelf,
-        request.roster_out,
+        ScriptFiles {
+            roster: request.roster_out,
+            bases: request.base_out,
+        },
     );
     match &ended {
         Ok(end) => report_end(rt, end),

@@ -21,7 +21,7 @@ pub use gateway::links::{Clock, FixedClock, Link, LinkFault, ScriptedClock};
 pub use gateway::{Gateway, Served, Service, StreamFault};
 pub use honest::HonestServer;
 pub use node::Node;
-pub use node_logs::{AckTaken, Forked, NodeLog, Receipt};
+pub use node_logs::{AckTaken, BaseFault, Forked, NodeLog, Receipt};
 pub use role::{Client, Role, Server};
 pub use server::ServerNode;
 pub use shared::Shared;

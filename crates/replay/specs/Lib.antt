@@ -1,3 +1,4 @@
+pub use Rattle.checkpoint.specs as checkpoint
 pub use Rattle.replay_spec.specs as replay_spec
 pub mod Faults
 pub mod Steps

@@ -16,10 +16,14 @@ mod take;
 mod turns;
 mod verdict;
 
-pub use checkpoint::SharedState;
+pub use checkpoint::parts::read_parts;
+pub use checkpoint::{SharedState, State, StateFault, read_state, state_digest};
 pub use fault::ReplayFault;
-pub use machine::{Clients, FreeMachine, KindMachine, Machine, NodeKind, ServerMachine, Servers};
+pub use machine::{
+    Clients, FreeMachine, KindMachine, Machine, NodeKind, ServerMachine, Servers, state_kind,
+};
 pub use opening::opening_state;
 pub use outcome::{Outcome, replay_outcome};
+pub use state_spec::laws::a_text_has_one_state;
 pub use steps::{StepFault, step};
 pub use verdict::{Verdict, replay, replay_entries};

@@ -66,6 +66,13 @@ pub(crate) fn kind_of(machine: &checkpoint::Machine) -> Kind
     }
 }
 
+/// The kind of a state's node.
+pub fn state_kind(state: &State) -> Kind
+    ensures { result ≡ kind_of state.now.state.machine }
+{
+    kind_of(state.machine())
+}
+
 /// A kind of nodes, as a type, which stands for a kind of member.
 pub trait NodeKind {
     ghost use Rattle.authenticator.specs.declared.member.Kind.{Kind};

@@ -95,6 +95,15 @@ pub record IsSkipped (text : List ℕ) (claims : List Claim) : Type 0 where
   pub claims_are : claims ≡ []
   pub says : (text ≡ codes "ok\n") ⊎ IsRefusal text
 
+-- the line `marked K`
+abbrev pub marked_line : (number : ℕ) → List ℕ
+marked_line number = codes "marked " ++ (decimal number ++ codes "\n")
+
+-- A CHECK was logged and its number is printed, or a refusal is; and nothing was asked of the witness.
+pub record IsMarked (text : List ℕ) (claims : List Claim) : Type 0 where
+  pub claims_are : claims ≡ []
+  pub says : ((number : ℕ) × (text ≡ marked_line number)) ⊎ IsRefusal text
+
 -- A packet was handed in: the event that it spells is answered, or it was refused before.
 abbrev pub IsHeard : List ℕ → List Claim → Type 0
 IsHeard text claims = ((event : Event) × IsAnswered event text claims) ⊎ IsTurnedAway text claims
@@ -202,6 +211,7 @@ abbrev pub IsDone : Act → List ℕ → List Claim → Type 0
 IsDone (a.Call pair body) = IsSilent
 IsDone (a.Fork pair first second) = IsSilent
 IsDone (a.Lie server) = IsSilent
+IsDone (a.Mark server) = IsMarked
 IsDone (a.Skip node by) = IsSkipped
 IsDone (a.Learn place) = IsHanded
 IsDone (a.Forge place) = IsHanded

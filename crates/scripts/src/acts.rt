@@ -5,6 +5,7 @@ ghost use Rattle.scripts.specs.Said.{IsLineOf};
 ghost use Rattle.scripts.specs.Turns.{Does, IsDone, IsHeard};
 
 use crate::answer::{line_of, said_line};
+use crate::bases::BaseFiles;
 use crate::line::Act;
 use crate::parties::Parties;
 use crate::stop::Stop;
@@ -25,6 +26,7 @@ pub(crate) struct Run<'a, 's, R, S> {
     pub(crate) shelf: &'s mut S,
     /// What goes between two nodes, for the time of an exchange.
     pub(crate) text: Vec<u8>,
+    pub(crate) bases: BaseFiles<'a>,
 }
 
 impl<R: Threads + Wait + Sync, S: Shelf> Run<'_, '_, R, S> {
@@ -37,6 +39,7 @@ impl<R: Threads + Wait + Sync, S: Shelf> Run<'_, '_, R, S> {
             Act::Call(pair, body) => self.call(time, pair, &body),
             Act::Fork(pair, first, second) => self.fork(time, pair, first, second),
             Act::Lie(server) => self.lie(server),
+            Act::Mark(server) => self.mark(server),
             Act::Skip(node, by) => self.skip(node, by),
             Act::Challenge(pair, number) => self.challenge(pair, number),
             Act::Ack(pair, number) => self.acknowledge(time, pair, number),

@@ -4,7 +4,7 @@ ghost use Rattle.std.specs.Prelude.{◌≡◌, ◌++◌, codes, IfOk, string_byt
 ghost use Rattle.authenticator.specs.Numbers.{number_in};
 ghost use Rattle.node_book.specs.Replies.{indication_in};
 ghost use Rattle.scripts.specs.Said.{said_line};
-ghost use Rattle.scripts.specs.Turns.{flooded_line, forwarded_words, refused_line, told_line};
+ghost use Rattle.scripts.specs.Turns.{flooded_line, forwarded_words, marked_line, refused_line, told_line};
 
 use authenticator::{Authenticator, LogVersion};
 use std::alloc::{AllocError, Global};
@@ -29,6 +29,13 @@ pub(crate) fn flooded_line(alloc: Global, times: u32) -> Result<String, AllocErr
     ensures { IfOk result (λ line. string_bytes line ≡ flooded_line times) }
 {
     format!(in alloc; "flooded {times}\n")
+}
+
+/// The line `marked K`.
+pub(crate) fn marked_line(alloc: Global, number: u64) -> Result<String, AllocError>
+    ensures { IfOk result (λ line. string_bytes line ≡ marked_line number) }
+{
+    format!(in alloc; "marked {number}\n")
 }
 
 /// The line of a reply: `reply HEX`, or `no reply`.

@@ -3,6 +3,7 @@
 
 mod acts;
 mod answer;
+mod bases;
 mod cursor;
 mod line;
 mod lines;
@@ -13,5 +14,5 @@ mod stop;
 mod witness;
 mod words;
 
-pub use script::{ScriptEnd, ScriptFault, run_script};
+pub use script::{ScriptEnd, ScriptFault, ScriptFiles, run_script};
 pub use witness_calls::Shelf;

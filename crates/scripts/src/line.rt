@@ -86,6 +86,8 @@ pub(crate) enum Act<'a> {
     Fork(Pair, Body, Body),
     /// `lie S`: a server's next reply is changed.
     Lie(u32),
+    /// `mark S`: a server logs the digest of its state.
+    Mark(u32),
     /// `skip N BY`: the next entry of a node's log skips so many numbers.
     Skip(u32, u32),
     /// `learn N K`: the witness gets a node's authenticator.
@@ -202,6 +204,7 @@ fn read_act<'a>(alloc: Global, name: &str, words: &mut Words<'a>) -> Result<Act<
 fn of_node<'a>(name: &str, words: &mut Words<'a>) -> Result<Act<'a>, LineFault> {
     match name {
         "lie" => Ok(Act::Lie(words.number()?)),
+        "mark" => Ok(Act::Mark(words.number()?)),
         "skip" => {
             let node = words.number()?;
             Ok(Act::Skip(node, words.number()?))

@@ -1,10 +1,10 @@
 //! Messages between the nodes of a script.
 
 ghost use Rattle.std.specs.Prelude.{◌≡◌, IfOk, string_bytes};
-ghost use Rattle.scripts.specs.Turns.{Does, IsHanded, IsRefusal, IsSilent, IsSkipped};
+ghost use Rattle.scripts.specs.Turns.{Does, IsHanded, IsMarked, IsRefusal, IsSilent, IsSkipped};
 
 use crate::acts::Run;
-use crate::answer::{refused_line, reply_line};
+use crate::answer::{marked_line, refused_line, reply_line};
 use crate::line::Pair;
 use crate::stop::Stop;
 use authenticator::Number;
@@ -41,6 +41,20 @@ impl<R: Threads + Wait + Sync, S: Shelf> Run<'_, '_, R, S> {
             return Err(Stop::Bad);
         }
         self.line("ok")
+    }
+
+    /// `mark S`: the server logs a CHECK. Where bases are written its base is, once something after it is signed.
+    pub(crate) fn mark(&mut self, server: u32) -> Result<String, Stop>
+        ensures { IfOk result (λ text. Does IsMarked self.old.caller (string_bytes text) self.new.caller) }
+    {
+        let node = self.parties.server(server).ok_or(Stop::Bad)?;
+        match node.checkpoint(self.alloc) {
+            Ok(number) => {
+                self.bases.wait_for(server, number.get())?;
+                Ok(marked_line(self.alloc, number.get())?)
+            }
+            Err(refusal) => self.refuse(refusal),
+        }
     }
 
     /// `skip N BY`: the next entry of the node's log skips so many numbers.

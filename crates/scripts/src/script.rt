@@ -6,6 +6,7 @@ ghost use Rattle.scripts.specs.Ends.{Closes, IsEnd, IsReadToEnd, Writes, last_li
 ghost use Rattle.scripts.specs.Turns.{Leaves, Runs, TakesTurn};
 
 use crate::acts::Run;
+use crate::bases::BaseFiles;
 use crate::cursor::Cursor;
 use crate::line::{Line, read_line};
 use crate::parties::{ListedNodes, Parties};
@@ -30,6 +31,15 @@ pub enum ScriptEnd {
     Bad(u64),
 }
 
+/// The files that a script writes beside those that its lines name.
+#[derive(Clone, Copy, Debug, PartialEq, Eq)]
+pub struct ScriptFiles<'a> {
+    /// The name of the file that the roster's text goes to, if one is named.
+    pub roster: Option<&'a str>,
+    /// What the names of the files that bases go to begin with, if bases are written.
+    pub bases: Option<&'a str>,
+}
+
 /// Why a script could not be run to its end.
 #[derive(Debug, Drop)]
 pub enum ScriptFault {
@@ -43,7 +53,9 @@ pub enum ScriptFault {
 
 /// Runs a script: reads it line by line, does what each line says, and writes what it prints before the next
 /// line is read. The nodes stand on its first lines; where a name is given for it, the file of their roster
-/// is put in its place before the next line runs. At the end it writes `closed ok`, or `closed fault 1` where
+/// is put in its place before the next line runs. Where it is given what the names of files with bases begin with, the
+/// roster and the base of each CHECK that a line `mark` logs is put in the file PREFIX.N.K, of the server N and the number
+/// K, once the server has signed something after it. At the end it writes `closed ok`, or `closed fault 1` where
 /// receipts and journal don't fit. After a bad line, and after a fault, what was printed before stands, and
 /// nothing more is written.
 pub fn run_script<R: Threads + Wait + Sync, I: Read, O: Write, S: Shelf>(
@@ -52,14 +64,14 @@ pub fn run_script<R: Threads + Wait + Sync, I: Read, O: Write, S: Shelf>(
     reader: &mut I,
     writer: &mut O,
     shelf: &mut S,
-    roster_file: Option<&str>,
+    files: ScriptFiles<'_>,
 ) -> Result<ScriptEnd, ScriptFault>
     ensures end { IfOk result IsEnd }
     ensures turns { IfOk result (Writes (O.contents writer.old) (O.contents writer.new)) }
     ensures read { IfOk result (IsReadToEnd (I.remaining reader.new)) }
 {
     let mut cursor = Cursor::new(alloc);
-    match run_all(rt, alloc, reader, &mut cursor, writer, shelf, roster_file) {
+    match run_all(rt, alloc, reader, &mut cursor, writer, shelf, files) {
         Ok(end) => Ok(end),
         Err(Stop::Bad) => Ok(ScriptEnd::Bad(cursor.number())),
         Err(Stop::NoMemory) => Err(ScriptFault::NoMemory),
@@ -76,7 +88,7 @@ fn run_all<R: Threads + Wait + Sync, I: Read, O: Write, S: Shelf>(
     cursor: &mut Cursor,
     writer: &mut O,
     shelf: &mut S,
-    roster_file: Option<&str>,
+    files: ScriptFiles<'_>,
 ) -> Result<ScriptEnd, Stop>
     ensures end { IfOk result IsEnd }
     ensures turns { IfOk result (Writes (O.contents writer.old) (O.contents writer.new)) }
@@ -85,7 +97,7 @@ fn run_all<R: Threads + Wait + Sync, I: Read, O: Write, S: Shelf>(
 {
     let (listed, more) = read_nodes(rt, alloc, reader, cursor)?;
     let roster = Roster::new(listed.members(alloc)?).map_err(|_| Stop::Bad)?;
-    if let Some(name) = roster_file {
+    if let Some(name) = files.roster {
         put_roster(alloc, shelf, name, &roster)?;
     }
     let parties = listed.make(alloc, &roster)?;
@@ -95,6 +107,7 @@ fn run_all<R: Threads + Wait + Sync, I: Read, O: Write, S: Shelf>(
         service: &service,
         parties,
         pass,
+        bases: files.bases,
     };
     let pass = run_rest(rt, alloc, context, reader, cursor, writer, shelf, more)?;
     close(alloc, service, pass, writer)
@@ -107,6 +120,8 @@ struct ScriptContext<'a> {
     service: &'a WitnessService,
     parties: Parties,
     pass: Pass,
+    /// What the names of files with bases begin with, if they are written.
+    bases: Option<&'a str>,
 }
 
 /// Runs the line that is there, if one is, and those after it. Gives the pass back, with all receipts.
@@ -131,6 +146,7 @@ fn run_rest<'a, R: Threads + Wait + Sync, I: Read, O: Write, S: Shelf>(
         service,
         parties,
         pass,
+        bases,
     } = context;
     let mut run = Run {
         alloc,
@@ -139,6 +155,7 @@ fn run_rest<'a, R: Threads + Wait + Sync, I: Read, O: Write, S: Shelf>(
         caller: Caller::new(rt, alloc, service, roster, pass),
         shelf,
         text: Vec::new(alloc),
+        bases: BaseFiles::new(alloc, bases),
     };
     run_lines(&mut run, reader, cursor, writer, there)?;
     Ok(run.caller.into_pass())
@@ -231,6 +248,7 @@ fn run_line<R: Threads + Wait + Sync, O: Write, S: Shelf>(
         Line::Node(_) => Err(Stop::Bad),
         Line::Act(act) => {
             let text = run.act(cursor.time(), act)?;
+            run.put_bases()?;
             write_text(writer, &text)
         }
     }

@@ -210,7 +210,7 @@ impl<R: Threads + Wait + Sync, S: Shelf> Run<'_, '_, R, S> {
     }
 
     /// Puts a file in its place.
-    fn put(&mut self, file: &str, bytes: &[u8]) -> Result<(), Stop>
+    pub(crate) fn put(&mut self, file: &str, bytes: &[u8]) -> Result<(), Stop>
         ensures { self.new.caller ≡ self.old.caller }
     {
         match self.shelf.put(file, bytes) {

@@ -60,7 +60,7 @@ module _ (w : Watched) (past : Past) (b : Book) (c : ClosedParts)
   -- ---- what is shown
 
   abbrev with_it : Option EvidenceParts → List Pair
-  with_it e = showing_of b.log_version e b.learned (b.segments ++ c.segment ∷ [])
+  with_it e = showing_of b.base b.log_version e b.learned (b.segments ++ c.segment ∷ [])
 
   -- the pair of its closing
   abbrev closing_pair : Pair
@@ -70,7 +70,7 @@ module _ (w : Watched) (past : Past) (b : Book) (c : ClosedParts)
   older =
       same_through (with_it b.evidence) (marks_of c.segment ++ book_shown b)
       (marks_of c.segment ++ shown w past)
-      (add_segment b.log_version b.evidence b.learned b.segments c.segment)
+      (add_segment b.base b.log_version b.evidence b.learned b.segments c.segment)
       (same_past (marks_of c.segment) (book_shown b) (shown w past) k.of.stands.pairs)
 
   -- where there is evidence now, it shows the segment's closing besides
@@ -80,7 +80,7 @@ module _ (w : Watched) (past : Past) (b : Book) (c : ClosedParts)
   newer e none now whole version =
       same_through (with_it (Some e)) (closing_pair ∷ with_it None)
       (marks_of c.segment ++ shown w past)
-      (add_exposing b.log_version e closing_pair b.learned (b.segments ++ c.segment ∷ [])
+      (add_exposing b.base b.log_version e closing_pair b.learned (b.segments ++ c.segment ∷ [])
       (fork_shows b (versioned_showing c.segment) (marks_of c.segment) e fork))
       (same_through (closing_pair ∷ with_it None) (with_it None)
       (marks_of c.segment ++ shown w past)
@@ -139,6 +139,8 @@ module _ (w : Watched) (past : Past) (b : Book) (c : ClosedParts)
 
   fits : IsWhole c.segment → c.segment.log_version ≡ b.log_version → IsWanted → FitsTogether after
   fits whole version told = record {
+    begun = k.fits.begun;
+    started = k.fits.started;
     above = k.fits.above;
     differ = k.fits.differ;
     whole = λ s i. by s (split s b.segments (c.segment ∷ []) i);
@@ -182,7 +184,11 @@ module _ (w : Watched) (past : Past) (b : Book) (c : ClosedParts)
       let f = fits whole version (wanted (Wanted c.segment.first (last_of c.segment)) refl is) in
       record {
         of = record {
-          of_member = record { node = k.of.of_member.node; version = k.of.of_member.version };
+          of_member = record {
+            node = k.of.of_member.node;
+            version = k.of.of_member.version;
+            base = k.of.of_member.base;
+          };
           stands = record {
             end = k.of.stands.end;
             stage = refl;

@@ -4,8 +4,8 @@ use Rattle.std.proofs.Common.{◌≡◌, ◌⊎◌, inl, inr, ℕ, zero, suc, �
 use Rattle.std.proofs.Common.{not, ◌==◌, nat_lt, List, [], ◌∷◌, ◌++◌}
 use Rattle.std.proofs.Common.{Option, Some, None, refl, sym, ap, ap₂, subst, ◌∙◌, arith, append-nil}
 use Rattle.std.proofs.Common.{eqb-true, eq-eqb}
-use Rattle.std.specs.Prelude.{is_some}
-use Rattle.std.proofs.lemmas.Bool.{and_parts, and_from, true≢false, ltb-true, ltb-false}
+use Rattle.std.specs.Prelude.{is_some, nat_le}
+use Rattle.std.proofs.lemmas.Bool.{and_parts, and_from, true≢false, leb-true, ltb-true, ltb-false}
 use Rattle.authenticator.specs.declared.authenticator.Authenticator.{Authenticator}
 use Rattle.authenticator.specs.declared.member.LogVersion.{LogVersion}
 use Rattle.authenticator.specs.Signing.{is_same}
@@ -14,19 +14,22 @@ use Rattle.secure_log.specs.LogEntries.Chain.{AreNumbered, IsAmong, Link, hash_a
 use Rattle.secure_log.specs.Versioned.{VersionedParts, versioned_links}
 use Rattle.secure_log.specs.Marks.{segment_mark_at}
 use Rattle.secure_log.proofs.OfLogEntries.Marks.{one_mark}
+use Rattle.witness_laws.specs.evidence_spec.Showing.{showing_marks}
 use Rattle.witness_laws.specs.evidence_spec.Evidence.{EvidenceParts}
+use Rattle.witness_laws.specs.witness_spec.Starting.{KnownBase, start_number}
 use Rattle.witness_laws.specs.witness_spec.Pairs.{Pair, number_of, pair_of, differ, is_fork, first_fork}
 use Rattle.witness_laws.specs.witness_spec.Pairs.{last_of, marks_of}
 use Rattle.witness_laws.specs.witness_spec.Standing.{Wanted}
-use Rattle.witness_book_laws.specs.Books.{Book, exposed, exposing_pairs, book_shown}
+use Rattle.witness_book_laws.specs.Books.{Book, exposed, exposing_pairs, base_pairs, book_shown}
 use Rattle.witness_book_laws.specs.Fitting.{IsMore, FitsTogether}
 use Rattle.witness_book_laws.specs.LookUps.{hash_shown, is_other_hash, HasOneMark}
 use Rattle.witness_book_laws.specs.Answers.{shows_another, lesser, least_from, answer_fork}
 use Rattle.witness_book_laws.proofs.Lists.{passer, passed}
+use Rattle.witness_laws.proofs.OfAnswers.Answering.{passes}
 use Rattle.witness_laws.proofs.OfEvidence.Audits.{are_numbered}
 use Rattle.witness_laws.proofs.OfEvidence.Before.{split}
 use Rattle.witness_laws.proofs.OfEvidence.Marks.{mark_within, opening_there}
-use Rattle.witness_book_laws.proofs.Kept.{Shower, AtFirst, Exposing, Learned, Segment, shower, shows}
+use Rattle.witness_book_laws.proofs.Kept.{Shower, AtFirst, Exposing, Learned, Segment, OfBase, shower, shows}
 use Rattle.witness_book_laws.proofs.Segments.{marked, tile_between}
 use Rattle.witness_book_laws.proofs.LookUps.{among_there, among_some, fork_by_look_up}
 
@@ -278,7 +281,7 @@ asked b s last fits wanted =
       below = λ t i.
           omega (
             arith,
-            (tile_between 1 fits.tiles.audited (b.end.number + 1) t fits.tiles.tile
+            (tile_between (start_number b.base + 1) fits.tiles.audited (b.end.number + 1) t fits.tiles.tile
                 (subst (IsAmong t) all i)).1,
           );
     }
@@ -329,7 +332,7 @@ module _ (b : Book) (s : VersionedParts) (fits : FitsTogether b) (one : HasOneMa
         mark = x;
         there = among_there (at a) (marks_of s) x f;
         forks = passed (λ q. differ (at a, x) q) (book_shown b) (pair_of b.log_version a)
-            (shows b.log_version b.evidence b.learned b.segments (pair_of b.log_version a) (Learned a i refl))
+            (shows b.base b.log_version b.evidence b.learned b.segments (pair_of b.log_version a) (Learned a i refl))
             (and_from (at a == at a) (not (is_same x a.hash)) (eq-eqb (at a) (at a) refl)
             (other_side a.hash x h));
       }
@@ -340,15 +343,21 @@ module _ (b : Book) (s : VersionedParts) (fits : FitsTogether b) (one : HasOneMa
       let r = passer (λ q. differ (k, f.mark) q) (book_shown b) f.forks in
       let both = and_parts (k == r.one.0) (not (is_same f.mark r.one.1)) r.passes in
       by r.one (eqb-true k r.one.0 both.0) both.1
-      (shower b.log_version b.evidence b.learned b.segments r.one r.among)
+      (shower b.base b.log_version b.evidence b.learned b.segments r.one r.among)
     where
       no_evidence : (o : Option EvidenceParts) (q : Pair) → is_some o ≡ false → IsAmong q (exposing_pairs o)
           → ⊥
       no_evidence None q e i = i
       no_evidence (Some g) q e i = true≢false e
 
+      base_low : (base : Option KnownBase) (q : Pair) → IsAmong q (base_pairs base) → q.0 ≤ start_number base
+      base_low None q j = absurd j
+      base_low (Some o) q j =
+          leb-true q.0 o.parts.at
+          (passes (λ (p : Pair). nat_le p.0 o.parts.at) q (showing_marks o.parts.showing) j)
+
       by : (q : Pair) → k ≡ q.0 → not (is_same f.mark q.1) ≡ true
-          → Shower b.log_version b.evidence b.learned b.segments q → IsCharged b.log_version s b.learned k
+          → Shower b.base b.log_version b.evidence b.learned b.segments q → IsCharged b.log_version s b.learned k
       by q number other (AtFirst same) =
           absurd (omega (arith, past, number, ap (λ (p : Pair). p.0) same))
       by q number other (Exposing j) = absurd (no_evidence b.evidence q hidden j)
@@ -366,6 +375,7 @@ module _ (b : Book) (s : VersionedParts) (fits : FitsTogether b) (one : HasOneMa
           }
       by q number other (Segment t j there) =
           absurd (omega (arith, past, number, (marked t q.0 q.1 (fits.whole t j) there).1, is.below t j))
+      by q number other (OfBase j) = absurd (omega (arith, past, number, base_low b.base q j, fits.begun))
 
   -- where the opening is the book's, each fork is a learned authenticator's
   each_fork : is_other_hash s.opening (hash_shown b b.end.number) ≡ false → (k : ℕ) → Forks k

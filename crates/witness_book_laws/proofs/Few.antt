@@ -1,7 +1,7 @@
 -- A book's state knows few messages.
 -- Serves: books_are_ready.
-use Rattle.std.proofs.Common.{◌≡◌, ℕ, ◌+◌, ◌≤◌, Bool, true, false, cond, List, [], ◌∷◌, length, count_by}
-use Rattle.std.proofs.Common.{◌++◌, Some, inl, refl, sym, ap, subst, ◌∙◌, arith, nat_cmp}
+use Rattle.std.proofs.Common.{◌≡◌, ℕ, ◌+◌, ◌-◌, ◌≤◌, Bool, true, false, cond, List, [], ◌∷◌, length, count_by}
+use Rattle.std.proofs.Common.{◌++◌, Option, Some, None, inl, refl, sym, ap, subst, ◌∙◌, arith, nat_cmp}
 use Rattle.std.specs.FinMap as finite
 use Rattle.std.proofs.lemmas.List.Sums.{sum_by-cons}
 use Rattle.authenticator.specs.declared.authenticator.Authenticator.{Authenticator}
@@ -23,16 +23,18 @@ use Rattle.witness_laws.specs.witness_spec.Refusals.{NoJob, WrongJob}
 use Rattle.witness_laws.specs.witness_spec.Events.{JobParts}
 use Rattle.witness_laws.specs.witness_spec.Replies.{Reply, Noted, Opened, Accepted, Closed, Asked, Job, Filed}
 use Rattle.witness_laws.specs.witness_spec.Replies.{Returned, Forwarded, FileRefused}
+use Rattle.witness_laws.specs.witness_spec.Starting.{KnownBase, IsBaseAt, start_number}
+use Rattle.witness_laws.specs.witness_spec.Watched.{Watched, IsInRoster}
 use Rattle.witness_laws.specs.witness_spec.Steps.{Step, Learn, SendChallenge, Answer, AckIn, Audit, Begin}
 use Rattle.witness_laws.specs.witness_spec.Steps.{File, PutBack}
 use Rattle.witness_laws.specs.witness_spec.Steps.{Forward, Ask}
 use Rattle.witness_laws.specs.witness_spec.Pairs.{last_of}
 use Rattle.witness_laws.specs.witness_spec.Standing.{End}
-use Rattle.witness_book_laws.specs.Books.{Book, book_opening, exposed, job_out}
+use Rattle.witness_book_laws.specs.Books.{Book, book_starting, exposed, job_out}
 use Rattle.witness_book_laws.specs.Replying.{BookOwes}
 use Rattle.witness_book_laws.specs.Going.{book_after, having_filed}
 use Rattle.witness_book_laws.specs.Fitting.{FitsTogether, IsOne, IsMore}
-use Rattle.witness_book_laws.specs.Ready.{KnowsFew}
+use Rattle.witness_book_laws.specs.Ready.{KnowsFew, known_at_start}
 use Rattle.witness_laws.proofs.OfEvidence.Before.{on_right}
 use Rattle.witness_laws.proofs.OfEvidence.Marks.{few_spans}
 use Rattle.witness_book_laws.proofs.Limits.{as_many_placed}
@@ -96,19 +98,26 @@ takes_in ms s g t shown is =
 -- ---- each step
 
 module _ (b : Book) (few : KnowsFew b) where
-  -- a book with the same end
-  same_end : (c : Book) → c.end ≡ b.end → KnowsFew c
-  same_end c same = record {
-    received = subst (λ (e : End). finite.len e.state.received ≤ e.number) (sym same) few.received;
-    sends = subst (λ (e : End). finite.len e.state.sends ≤ e.number) (sym same) few.sends;
+  -- a book with the same base and end
+  same_end : (c : Book) → c.end ≡ b.end → c.base ≡ b.base → KnowsFew c
+  same_end c same base = record {
+    received = subst (λ o. finite.len c.end.state.received ≤ known_at_start o + (c.end.number - start_number o))
+        (sym base)
+        (subst (λ (e : End). finite.len e.state.received
+        ≤ known_at_start b.base + (e.number - start_number b.base)) (sym same) few.received);
+    sends = subst (λ o. finite.len c.end.state.sends ≤ known_at_start o + (c.end.number - start_number o))
+        (sym base)
+        (subst (λ (e : End). finite.len e.state.sends
+        ≤ known_at_start b.base + (e.number - start_number b.base)) (sym same) few.sends);
   }
 
   -- the end's number is greater by the numbers that the entries of the segment that was filed take up
   filed_few : (ms : List Member) (s : State) (g : VersionedParts) (v : Verdict) → s ≡ b.end.state
       → verdict_of ms s (places_in g) ≡ v → last_of g ≡ b.end.number + span g.entries
-      → KnowsFew (having_filed b g v)
-  filed_few ms s g (Fault fault number) state is last = same_end (having_filed b g (Fault fault number)) refl
-  filed_few ms s g (Sound t shown) state is last =
+      → start_number b.base ≤ b.end.number → KnowsFew (having_filed b g v)
+  filed_few ms s g (Fault fault number) state is last begun =
+      same_end (having_filed b g (Fault fault number)) refl refl
+  filed_few ms s g (Sound t shown) state is last begun =
       let more : TakesIn b.end.state (length g.entries) t =
       subst (λ u. TakesIn u (length g.entries) t) state (takes_in ms s g t shown is) in
       let received = more.received in
@@ -117,8 +126,8 @@ module _ (b : Book) (few : KnowsFew b) where
       let sent = few.sends in
       let count = few_spans g.entries in
       record {
-        received = omega (arith, received, before, last, count);
-        sends = omega (arith, sends, sent, last, count);
+        received = omega (arith, received, before, last, count, begun);
+        sends = omega (arith, sends, sent, last, count, begun);
       }
 
   -- the segment that is out ends so many numbers above the end
@@ -138,17 +147,17 @@ module _ (b : Book) (few : KnowsFew b) where
   -- a step that gets the reply of the book leaves it so that its state knows few messages
   pub few_on : (step : Step) (r : Reply) → FitsTogether b → BookOwes b step r → IsDoneStep step
       → KnowsFew (book_after b step r)
-  few_on (Learn a) Noted fits o done = same_end (book_after b (Learn a) Noted) refl
+  few_on (Learn a) Noted fits o done = same_end (book_after b (Learn a) Noted) refl refl
   few_on (Learn a) r fits o done = few
-  few_on (SendChallenge e) Opened fits o done = same_end (book_after b (SendChallenge e) Opened) refl
+  few_on (SendChallenge e) Opened fits o done = same_end (book_after b (SendChallenge e) Opened) refl refl
   few_on (SendChallenge e) r fits o done = few
-  few_on (Answer c) Accepted fits o done = same_end (book_after b (Answer c) Accepted) refl
+  few_on (Answer c) Accepted fits o done = same_end (book_after b (Answer c) Accepted) refl refl
   few_on (Answer c) r fits o done = few
-  few_on (AckIn a) Closed fits o done = same_end (book_after b (AckIn a) Closed) refl
+  few_on (AckIn a) Closed fits o done = same_end (book_after b (AckIn a) Closed) refl refl
   few_on (AckIn a) r fits o done = few
-  few_on Audit (Asked first last) fits o done = same_end (book_after b Audit (Asked first last)) refl
+  few_on Audit (Asked first last) fits o done = same_end (book_after b Audit (Asked first last)) refl refl
   few_on Audit r fits o done = few
-  few_on Begin (Job j) fits o done = same_end (book_after b Begin (Job j)) refl
+  few_on Begin (Job j) fits o done = same_end (book_after b Begin (Job j)) refl refl
   few_on Begin r fits o done = few
   few_on (File d) Filed fits o done =
       let there : job_out b ≡ Some d.job =
@@ -156,11 +165,11 @@ module _ (b : Book) (few : KnowsFew b) where
       (λ h. absurd (cc)) (λ h. absurd (cc)) o.told) in
       let out = out_of b d.job there in
       filed_few d.job.segment.roster d.job.state d.job.segment.segment d.verdict out.state (sym done)
-      (last_out d.job fits out)
+      (last_out d.job fits out) fits.begun
   few_on (File d) r fits o done = few
-  few_on (PutBack j) Returned fits o done = same_end (book_after b (PutBack j) Returned) refl
+  few_on (PutBack j) Returned fits o done = same_end (book_after b (PutBack j) Returned) refl refl
   few_on (PutBack j) r fits o done = few
-  few_on Forward (Forwarded a) fits o done = same_end (book_after b Forward (Forwarded a)) refl
+  few_on Forward (Forwarded a) fits o done = same_end (book_after b Forward (Forwarded a)) refl refl
   few_on Forward r fits o done = few
   few_on (Ask q) r fits o done = few
 
@@ -177,6 +186,15 @@ few_by kinds.Client node =
     let sends = finite.len-empty nat_cmp SentMessage in
     (omega (arith, received), omega (arith, sends))
 
--- at first none
-pub few_first : (m : Member) → KnowsFew (book_opening m)
-few_first m = record { received = (few_by m.kind m.node).0; sends = (few_by m.kind m.node).1 }
+-- at first no more than may be known there
+pub few_first : (w : Watched) → IsInRoster w → KnowsFew (book_starting w.member w.base)
+few_first w is = by w.base is.base
+  where
+    by : (base : Option KnownBase) → IsBaseAt w.roster w.member base → KnowsFew (book_starting w.member base)
+    by None known =
+        let few = few_by w.member.kind w.member.node in
+        record { received = omega (arith, few.0); sends = omega (arith, few.1) }
+    by (Some b) known = record {
+      received = omega (arith, known.good.state.few_received);
+      sends = omega (arith, known.good.state.few_sends);
+    }

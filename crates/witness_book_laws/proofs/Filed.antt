@@ -11,14 +11,14 @@ use Rattle.std.proofs.lemmas.Grind.{flat_map-append}
 use Rattle.std.proofs.lemmas.List.{drop-append-le}
 use Rattle.authenticator.specs.declared.authenticator.Authenticator.{Authenticator}
 use Rattle.authenticator.specs.declared.member.LogVersion.{LogVersion}
-use Rattle.secure_log.specs.LogEntries.Chain.{IsAmong, Logged, span, zeros}
+use Rattle.secure_log.specs.LogEntries.Chain.{IsAmong, Logged, span}
 use Rattle.secure_log.specs.LogEntries.Words.{MaySkip}
 use Rattle.secure_log.specs.Versioned.{VersionedParts, versioned_links}
 use Rattle.witness_laws.specs.state_spec.State.{State}
 use Rattle.replay_spec.specs.Placed.{places_from, places_in}
 use Rattle.replay_spec.specs.Replay.{Honest, Verdict, Sound, Fault}
 use Rattle.replay_spec.proofs.Runs.{is_sound}
-use Rattle.witness_laws.specs.evidence_spec.Evidence.{Charge, Replay, EvidenceParts}
+use Rattle.witness_laws.specs.evidence_spec.Evidence.{Charge, EvidenceParts}
 use Rattle.witness_laws.specs.witness_spec.Events.{DoneParts}
 use Rattle.witness_laws.specs.witness_spec.Replies.{Filed}
 use Rattle.witness_laws.specs.witness_spec.Watched.{Watched}
@@ -28,9 +28,12 @@ use Rattle.witness_laws.specs.witness_spec.Standing.{End, end_of, moved_by, verd
 use Rattle.witness_laws.specs.witness_spec.Standing.{audited, shown}
 use Rattle.witness_laws.specs.witness_spec.Standing.{noted_before}
 use Rattle.witness_laws.specs.witness_spec.Standing.{kept, Out, sound_found, all_found, forwards}
-use Rattle.witness_laws.specs.witness_spec.Exposing.{replay_of, evidence}
+use Rattle.witness_laws.specs.witness_spec.Exposing.{replay_from, replay_of, evidence}
+use Rattle.witness_laws.specs.witness_spec.Starting.{KnownBase, start_number, start_hash}
 use Rattle.witness_laws.specs.witness_spec.Histories.{HoldSame}
-use Rattle.witness_book_laws.specs.Books.{Book, exposed, exposing_pairs, book_shown, book_audited}
+use Rattle.witness_book_laws.specs.Books.{Book, exposed, base_pairs, charged_pairs, exposing_pairs}
+use Rattle.witness_book_laws.specs.Books.{book_shown, book_audited}
+use Rattle.witness_book_laws.specs.Going as books
 use Rattle.witness_book_laws.specs.Going.{evidence_of, first_evidence, verdict_charge, evidence_filed}
 use Rattle.witness_book_laws.specs.Going.{learned_above}
 use Rattle.witness_book_laws.specs.Going.{having_filed, after_file}
@@ -39,7 +42,7 @@ use Rattle.witness_book_laws.specs.Fitting.{FitsTogether}
 use Rattle.witness_book_laws.proofs.Lists.{filtered, same_filter}
 use Rattle.witness_laws.proofs.OfEvidence.Before.{passing, on_right}
 use Rattle.witness_book_laws.proofs.Kept.{differ_filter, showing_of, Shower, AtFirst, Exposing, Learned}
-use Rattle.witness_book_laws.proofs.Kept.{Segment}
+use Rattle.witness_book_laws.proofs.Kept.{Segment, OfBase}
 use Rattle.witness_book_laws.proofs.Kept.{shower}
 use Rattle.witness_book_laws.proofs.Kept.{shows, same_through}
 use Rattle.witness_book_laws.proofs.Segments.{tile_more, audited_are}
@@ -102,15 +105,16 @@ module _ (w : Watched) (past : Past) (b : Book) (d : DoneParts) (k : Known w pas
   charge_same : (v : Verdict) → verdict_charge b s v ≡ replay_of w past s v
   charge_same (Sound t found) = refl
   charge_same (Fault fault number) =
-      ap₂ (λ n ls. Some (Replay (whole b.log_version n ls))) k.of.of_member.node k.audited
-      ∙ ap (λ v. Some (Replay (whole v w.member.node (audited w past)))) k.of.of_member.version
+      ap₂ (λ n ls. Some (replay_from b.base (whole b.base b.log_version n ls))) k.of.of_member.node k.audited
+      ∙ ap₂ (λ o v. Some (replay_from o (whole o v w.member.node (audited w past)))) k.of.of_member.base
+      k.of.of_member.version
     where
-      whole : LogVersion → ℕ → List Logged → VersionedParts
-      whole v n ls = record {
+      whole : Option KnownBase → LogVersion → ℕ → List Logged → VersionedParts
+      whole o v n ls = record {
         log_version = v;
         node = n;
-        first = 1;
-        opening = zeros;
+        first = start_number o + 1;
+        opening = start_hash o;
         entries = ls ++ s.entries;
         closing = s.closing;
       }
@@ -126,11 +130,15 @@ module _ (w : Watched) (past : Past) (b : Book) (d : DoneParts) (k : Known w pas
   shows_none : (v : Verdict) → exposing_pairs (evidence_filed b s v) ≡ exposing_pairs b.evidence
   shows_none v = by b.evidence v
     where
+      none_charged : (o : Option KnownBase) (t : VersionedParts) → charged_pairs (replay_from o t) ≡ []
+      none_charged None t = refl
+      none_charged (Some base) t = refl
+
       by : (o : Option EvidenceParts) (v : Verdict)
           → exposing_pairs (first_evidence o (evidence_of b (verdict_charge b s v))) ≡ exposing_pairs o
       by (Some e) v = refl
       by None (Sound t found) = refl
-      by None (Fault fault number) = refl
+      by None (Fault fault number) = none_charged b.base (books.audited_with b s)
 
   some_evidence : (o : Option EvidenceParts) (e : EvidenceParts) → is_some (first_evidence o (Some e)) ≡ true
   some_evidence None e = refl
@@ -139,50 +147,52 @@ module _ (w : Watched) (past : Past) (b : Book) (d : DoneParts) (k : Known w pas
   -- ---- what is shown
 
   fewer : HoldSame
-      (showing_of log b.evidence
+      (showing_of b.base log b.evidence
       (filter (λ a. nat_lt (last_of s) (number_of log a)) b.learned) b.segments)
-      (showing_of log b.evidence b.learned b.segments)
+      (showing_of b.base log b.evidence b.learned b.segments)
   fewer p = (
-    λ i. shows log b.evidence b.learned b.segments p (to (shower log b.evidence less b.segments p i)),
-    λ i. shows log b.evidence less b.segments p (from (shower log b.evidence b.learned b.segments p i)),
+    λ i. shows b.base log b.evidence b.learned b.segments p (to (shower b.base log b.evidence less b.segments p i)),
+    λ i. shows b.base log b.evidence less b.segments p (from (shower b.base log b.evidence b.learned b.segments p i)),
   )
     where
       less : List Authenticator
       less = filter (λ a. nat_lt (last_of s) (number_of log a)) b.learned
 
-      to : Shower log b.evidence less b.segments p → Shower log b.evidence b.learned b.segments p
+      to : Shower b.base log b.evidence less b.segments p → Shower b.base log b.evidence b.learned b.segments p
       to (AtFirst same) = AtFirst same
       to (Exposing i) = Exposing i
       to (Learned a i same) =
           Learned a (filtered (λ c. nat_lt (last_of s) (number_of log c)) b.learned a i).0 same
       to (Segment t i j) = Segment t i j
+      to (OfBase i) = OfBase i
 
       by : (a : Authenticator) (c : Bool) → nat_lt (last_of s) (number_of log a) ≡ c
-          → IsAmong a b.learned → p ≡ pair_of log a → Shower log b.evidence less b.segments p
+          → IsAmong a b.learned → p ≡ pair_of log a → Shower b.base log b.evidence less b.segments p
       by a true e i same =
           Learned a (passing (λ c. nat_lt (last_of s) (number_of log c)) b.learned a i e) same
       by a false e i same =
           Segment s among (subst (λ q. IsAmong q (marks_of s)) (sym same)
           (agrees a i (omega (arith, ltb-false (last_of s) (number_of log a) e))))
 
-      from : Shower log b.evidence b.learned b.segments p → Shower log b.evidence less b.segments p
+      from : Shower b.base log b.evidence b.learned b.segments p → Shower b.base log b.evidence less b.segments p
       from (AtFirst same) = AtFirst same
       from (Exposing i) = Exposing i
       from (Learned a i same) = by a (nat_lt (last_of s) (number_of log a)) refl i same
       from (Segment t i j) = Segment t i j
+      from (OfBase i) = OfBase i
 
   shown_same : (v : Verdict) → HoldSame (book_shown (having_filed b s v)) (shown w past)
   shown_same v =
       subst (λ ps. HoldSame (first_pair ∷ (ps ++ (map (pair_of log) (learned_above log s v b.learned)
-      ++ flat_map marks_of b.segments))) (shown w past)) (sym (shows_none v)) (by v)
+      ++ (flat_map marks_of b.segments ++ base_pairs b.base)))) (shown w past)) (sym (shows_none v)) (by v)
     where
       by : (v : Verdict)
-          → HoldSame (showing_of log b.evidence (learned_above log s v b.learned) b.segments) (shown w past)
+          → HoldSame (showing_of b.base log b.evidence (learned_above log s v b.learned) b.segments) (shown w past)
       by (Sound t found) =
           same_through
-          (showing_of log b.evidence (filter (λ a. nat_lt (last_of s) (number_of log a)) b.learned)
+          (showing_of b.base log b.evidence (filter (λ a. nat_lt (last_of s) (number_of log a)) b.learned)
           b.segments)
-          (showing_of log b.evidence b.learned b.segments) (shown w past) fewer k.of.stands.pairs
+          (showing_of b.base log b.evidence b.learned b.segments) (shown w past) fewer k.of.stands.pairs
       by (Fault fault number) = k.of.stands.pairs
 
   -- ---- what is kept
@@ -252,6 +262,8 @@ module _ (w : Watched) (past : Past) (b : Book) (d : DoneParts) (k : Known w pas
 
   fits : (v : Verdict) → found_by ≡ v → FitsTogether (having_filed b s v)
   fits (Sound t found) is = record {
+    begun = omega (arith, k.fits.begun, one.follows.some);
+    started = k.fits.started;
     above = λ a i.
         ltb-true (last_of s) (number_of b.log_version a)
         (filtered (λ c. nat_lt (last_of s) (number_of b.log_version c)) b.learned a i).1;
@@ -264,13 +276,15 @@ module _ (w : Watched) (past : Past) (b : Book) (d : DoneParts) (k : Known w pas
       more = [];
       are = k.fits.tiles.are ∙ (ap (λ l. k.fits.tiles.audited ++ l) one.is
           ∙ sym (append-nil (k.fits.tiles.audited ++ s ∷ [])));
-      tile = tile_more 1 k.fits.tiles.audited b.end.number s k.fits.tiles.tile one.follows;
+      tile = tile_more (start_number b.base + 1) k.fits.tiles.audited b.end.number s k.fits.tiles.tile one.follows;
       rest = inl refl;
     };
     agrees = tt;
     sends = sends t found is;
   }
   fits (Fault fault number) is = record {
+    begun = k.fits.begun;
+    started = k.fits.started;
     above = k.fits.above;
     differ = k.fits.differ;
     whole = k.fits.whole;
@@ -308,7 +322,7 @@ module _ (w : Watched) (past : Past) (b : Book) (d : DoneParts) (k : Known w pas
       → Known w ((File d, Filed) ∷ past) (having_filed b s v)
   known_by v is x = record {
     of = record {
-      of_member = record { node = k.of.of_member.node; version = k.of.of_member.version };
+      of_member = record { node = k.of.of_member.node; version = k.of.of_member.version; base = k.of.of_member.base };
       stands = record {
         end = ap₂ (λ (e : End) (told : Verdict). moved_by e (last_of s) told) k.of.stands.end (sym is);
         stage = refl;

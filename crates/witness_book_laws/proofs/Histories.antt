@@ -4,8 +4,9 @@ use Rattle.std.proofs.Common.{◌≡◌, inl, inr, ℕ, Bool, true, false, cond,
 use Rattle.std.proofs.Common.{Some, None, Result, Ok, Err, refl, sym, ap, subst, ◌∙◌, arith, eqb-true, eq-eqb}
 use Rattle.std.specs.FinMap as finite
 use Rattle.std.specs.Ordering.{nat_cmp}
-use Rattle.std.specs.Prelude.{is_some, ◌<◌, IsTrue, nat_lt}
-use Rattle.std.proofs.lemmas.Bool.{and_parts, ltb-true, lt-ltb, true≢false}
+use Rattle.std.specs.Prelude.{◌+◌, ◌-◌, ◌≤◌, is_some, ◌<◌, IsTrue, nat_lt}
+use Rattle.std.proofs.lemmas.Option.{same_Some}
+use Rattle.std.proofs.lemmas.Bool.{and_parts, ltb-true, ltb-false, lt-ltb, true≢false}
 use Rattle.authenticator.specs.Roster.{member_of, member_values, rises_above}
 use Rattle.authenticator.specs.declared.member.Kind.{Kind}
 use Rattle.authenticator.specs.declared.member.Kind.TheVariants as kinds
@@ -16,12 +17,16 @@ use Rattle.witness_laws.specs.packets.Packet.{Delivery}
 use Rattle.witness_laws.specs.packets.Packet as packets
 use Rattle.witness_laws.specs.packets.Judging.{judged}
 use Rattle.replay_spec.specs.Opening.{opening_by}
-use Rattle.secure_log.specs.LogEntries.Chain.{IsAmong}
+use Rattle.secure_log.specs.LogEntries.Chain.{IsAmong, zeros}
 use Rattle.witness_laws.specs.witness_spec.Refusals.{Refusal, BadSignature}
 use Rattle.witness_laws.specs.witness_spec.Events.{PublicKey, Event, IsEvent}
 use Rattle.witness_laws.specs.witness_spec.Events as events
 use Rattle.witness_laws.specs.witness_spec.Replies.{Reply, is_want_of_memory}
-use Rattle.witness_laws.specs.witness_spec.Watched.{Watched, IsInRoster}
+use Rattle.witness_laws.specs.witness_spec.Pairs.{first_pair}
+use Rattle.witness_laws.specs.witness_spec.Starting.{KnownBase, Beginning, IsBaseAt, IsBeginning, IsKnownBase}
+use Rattle.witness_laws.specs.witness_spec.Starting.{IsOfSome, base_of, node_of, start_number, start_pairs}
+use Rattle.witness_laws.specs.witness_spec.Starting.{start_state, is_below}
+use Rattle.witness_laws.specs.witness_spec.Watched.{Watched, watched, IsInRoster, IsWatchedFrom}
 use Rattle.witness_laws.specs.witness_spec.Steps.{Step, Learn, SendChallenge, Answer, AckIn, Audit, Begin}
 use Rattle.witness_laws.specs.witness_spec.Steps.{File, PutBack}
 use Rattle.witness_laws.specs.witness_spec.Steps.{Forward}
@@ -32,10 +37,13 @@ use Rattle.witness_laws.specs.witness_spec.Whose.{delivered_step, judged_step, w
 use Rattle.witness_laws.specs.witness_spec.Histories.{History, own_step, own, IsHistory, AreOwed, own_of}
 use Rattle.witness_laws.proofs.OwnSteps.{own_owed}
 use Rattle.witness_laws.proofs.Checked.{AreChecked, own_checked}
+use Rattle.witness_laws.proofs.OfEvidence.Before.{found}
+use Rattle.witness_laws.proofs.OfEvidence.Starts.{base_mark, none_exposed, not_below}
 use Rattle.witness_laws.proofs.OfEvidence.Told.{Told, Without, With, told}
-use Rattle.witness_book_laws.specs.Books.{book_opening}
+use Rattle.witness_book_laws.specs.Books.{base_pairs, book_starting}
 use Rattle.witness_book_laws.specs.Going.{book_after_steps}
-use Rattle.witness_book_laws.specs.Fitting.{SendsLieBelowIn}
+use Rattle.witness_book_laws.specs.Fitting.{SendsLieBelowIn, IsStart}
+use Rattle.witness_book_laws.proofs.Kept.{all_of}
 use Rattle.witness_book_laws.proofs.Quiet.{Exposure, Hidden, Open}
 use Rattle.witness_book_laws.proofs.Known.{Known}
 use Rattle.witness_book_laws.proofs.Steps.{IsDoneStep, known_on}
@@ -122,13 +130,17 @@ one_done ms node e r past (Ok o) false is_w event rest = by (o.member.node == no
     by true = (done_event o ms e is_w event, rest)
     by false = rest
 
--- all done values among a node's own steps of a history have verdicts of their own
-pub own_done : (ms : List Member) (node : ℕ) (history : History) → IsHistory ms history
+all_done : (g : Beginning) (ms : List Member) (node : ℕ) (history : History) → IsHistory g history
     → AreDone (own ms node history)
-own_done ms node [] h = tt
-own_done ms node (p ∷ history) h =
+all_done g ms node [] h = tt
+all_done g ms node (p ∷ history) h =
     one_done ms node p.0 p.1 (own ms node history) (whose ms p.0) (is_want_of_memory p.1) refl h.0
-    (own_done ms node history h.2)
+    (all_done g ms node history h.2)
+
+-- all done values among a node's own steps of a history have verdicts of their own
+pub own_done : (g : Beginning) (w : Watched) → IsWatchedFrom g w → (history : History) → IsHistory g history
+    → AreDone (own_of w history)
+own_done g w from history h = all_done g w.roster w.member.node history h
 
 -- ---- what is known
 
@@ -140,11 +152,38 @@ no_sends : (v : LogVersion) (kind : Kind) (node : ℕ) → SendsLieBelowIn v (op
 no_sends v kinds.Server node = λ k h. absurd (true≢false (sym h ∙ ap is_some (finite.get-empty nat_cmp k)))
 no_sends v kinds.Client node = λ k h. absurd (true≢false (sym h ∙ ap is_some (finite.get-empty nat_cmp k)))
 
--- at first the member's opening book is known
-pub at_first : (w : Watched) → Known w [] (book_opening w.member)
-at_first w = record {
+-- the pairs that a book shows at first are those of the contract
+pub first_pairs : (base : Option KnownBase) → (first_pair ∷ base_pairs base) ≡ start_pairs base
+first_pairs None = refl
+first_pairs (Some b) = refl
+
+module _ (ms : List Member) (m : Member) where
+  first_sends : (base : Option KnownBase) → IsBaseAt ms m base
+      → SendsLieBelowIn m.log_version (start_state m base) (start_number base + 1)
+  first_sends None known = no_sends m.log_version m.kind m.node
+  first_sends (Some b) known =
+      subst (λ v. SendsLieBelowIn v b.state (b.parts.at + 1)) known.good.of_member.log_version
+      (λ word h. omega (arith, known.good.state.sends word h))
+
+  first_start : (base : Option KnownBase) → IsBaseAt ms m base → IsStart base
+  first_start base known = record {
+    own = not_below ms m base known (start_number base) (omega arith);
+    marks = λ n above low. by base known n above low;
+  }
+    where
+      by : (base : Option KnownBase) → IsBaseAt ms m base → (n : ℕ) → is_below base n ≡ false
+          → n ≤ start_number base → (mark : List ℕ) × IsAmong (n, mark) (start_pairs base)
+      by None known n above low =
+          let none : n ≡ 0 = omega (arith, low) in (zeros, inl (ap (λ (k : ℕ). (k, zeros)) none))
+      by (Some b) known n above low =
+          let has = base_mark ms m b known n (ltb-false n (b.parts.showing.first - 1) above) low in
+          (has.mark, inr has.there)
+
+-- at first the member's book is known
+pub at_first : (w : Watched) → IsInRoster w → Known w [] (book_starting w.member w.base)
+at_first w is = record {
   of = record {
-    of_member = record { node = refl; version = refl };
+    of_member = record { node = refl; version = refl; base = refl };
     stands = record {
       end = refl;
       stage = refl;
@@ -154,20 +193,22 @@ at_first w = record {
       challenges = refl;
       outbox = refl;
       evidence = refl;
-      pairs = λ p. (λ i. i, λ i. i);
+      pairs = λ p. (subst (IsAmong p) (first_pairs w.base), subst (IsAmong p) (sym (first_pairs w.base)));
     };
   };
   fits = record {
+    begun = omega arith;
+    started = first_start w.roster w.member w.base is.base;
     above = λ a i. absurd i;
     differ = tt;
     whole = λ s i. absurd i;
     version = λ s i. absurd i;
     tiles = record { audited = []; more = []; are = refl; tile = refl; rest = inl refl };
     agrees = tt;
-    sends = no_sends w.member.log_version w.member.kind w.member.node;
+    sends = first_sends w.roster w.member w.base is.base;
   };
   kept_differ = tt;
-  exposure = Hidden refl refl;
+  exposure = Hidden refl (none_exposed w is);
   audited = refl;
   sent = omega arith;
   roster = tt;
@@ -175,25 +216,25 @@ at_first w = record {
 
 -- after own steps with the replies that are owed, of values that were checked
 pub known : (w : Watched) (past : Past) → IsInRoster w → AreOwed w past
-    → AreChecked w past → AreDone past → Known w past (book_after_steps w.member past)
-known w [] is owed checked done = at_first w
+    → AreChecked w past → AreDone past → Known w past (book_after_steps w past)
+known w [] is owed checked done = at_first w is
 known w (p ∷ past) is owed checked done =
-    known_on w past (book_after_steps w.member past) (known w past is owed.1 checked.1 done.1) p.0 p.1 is
+    known_on w past (book_after_steps w past) (known w past is owed.1 checked.1 done.1) p.0 p.1 is
     owed.0 checked.0 done.0 (exposure_of w (p ∷ past) (told w (p ∷ past) is owed checked))
 
 -- whether a member is exposed after a history
-pub exposed_or_not : (w : Watched) (history : History) → IsInRoster w
-    → IsHistory w.roster history → Exposure w (own_of w history)
-exposed_or_not w history is h =
+pub exposed_or_not : (g : Beginning) (w : Watched) (history : History) → IsInRoster w → IsWatchedFrom g w
+    → IsHistory g history → Exposure w (own_of w history)
+exposed_or_not g w history is from h =
     exposure_of w (own_of w history)
-    (told w (own_of w history) is (own_owed w is history h) (own_checked w is history h))
+    (told w (own_of w history) is (own_owed g w is from history h) (own_checked g w is from history h))
 
 -- after a member's own steps of a history
-pub own_known : (w : Watched) (history : History) → IsInRoster w
-    → IsHistory w.roster history → Known w (own_of w history) (book_after_steps w.member (own_of w history))
-own_known w history is h =
-    known w (own_of w history) is (own_owed w is history h) (own_checked w is history h)
-    (own_done w.roster w.member.node history h)
+pub own_known : (g : Beginning) (w : Watched) (history : History) → IsInRoster w → IsWatchedFrom g w
+    → IsHistory g history → Known w (own_of w history) (book_after_steps w (own_of w history))
+own_known g w history is from h =
+    known w (own_of w history) is (own_owed g w is from history h) (own_checked g w is from history h)
+    (own_done g w from history h)
 
 -- ---- members of a roster
 
@@ -224,3 +265,23 @@ its_member low (x ∷ ms) m rise (inr i) =
     differs : (a b : ℕ) (c : Bool) → (a == b) ≡ c → a < b → c ≡ false
     differs a b false e less = refl
     differs a b true e less = absurd (omega (arith, less, eqb-true a b e))
+
+-- the base that a beginning has of a member is of it
+pub base_known : (g : Beginning) (m : Member) → IsBeginning g → member_of g.roster m.node ≡ Some m
+    → IsBaseAt g.roster m (base_of g m.node)
+base_known g m begins is = by (base_of g m.node) refl
+  where
+    by : (o : Option KnownBase) → base_of g m.node ≡ o → IsBaseAt g.roster m o
+    by None e = tt
+    by (Some b) e =
+        let f = found (λ (x : KnownBase). node_of x == m.node) g.bases b e in
+        let some = all_of (IsOfSome g.roster) g.bases b begins.known f.0 in
+        let node : b.parts.showing.node ≡ m.node = eqb-true b.parts.showing.node m.node f.1 in
+        let same : some.member ≡ m =
+        same_Some _ _ (sym some.known.good.is_member ∙ (ap (member_of g.roster) node ∙ is)) in
+        subst (λ x. IsKnownBase g.roster x b) same some.known
+
+-- so each member of a beginning's roster is watched under the roster
+pub in_roster : (g : Beginning) (m : Member) → IsBeginning g → member_of g.roster m.node ≡ Some m
+    → IsInRoster (watched g m)
+in_roster g m begins is = record { is_member = is; base = base_known g m begins is }

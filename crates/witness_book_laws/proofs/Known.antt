@@ -1,8 +1,8 @@
 -- A book that is known to be that of a member's own steps: its forks are those that are owed.
 -- Serves: all laws here.
-use Rattle.std.proofs.Common.{◌↔◌, ◌≡◌, ℕ, ◌≤◌, true, cond, ◌==◌, ◌&&◌, nat_le, List, []}
+use Rattle.std.proofs.Common.{◌↔◌, ◌≡◌, ℕ, ◌≤◌, ◌+◌, true, cond, ◌==◌, ◌&&◌, nat_le, List, []}
 use Rattle.std.proofs.Common.{◌∷◌, find, length, Option, Some, None, refl, sym, ap, ap₂, subst, ◌∙◌, eqb-true}
-use Rattle.std.specs.Prelude.{is_some, option_map, option_and_then}
+use Rattle.std.specs.Prelude.{not, is_some, option_map, option_and_then}
 use Rattle.std.proofs.lemmas.Bool.{and_parts, leb-true}
 use Rattle.authenticator.specs.declared.member.Member.{Member}
 use Rattle.authenticator.specs.declared.member.LogVersion.{LogVersion}
@@ -10,6 +10,7 @@ use Rattle.secure_log.specs.Versioned.{VersionedParts}
 use Rattle.witness_laws.specs.evidence_spec.Showing.{ShowingParts}
 use Rattle.witness_laws.specs.evidence_spec.Evidence.{Charge, Fork, EvidenceParts}
 use Rattle.witness_laws.specs.witness_spec.Replies.{Reply}
+use Rattle.witness_laws.specs.witness_spec.Starting.{KnownBase, start_number, start_showing}
 use Rattle.witness_laws.specs.witness_spec.Watched.{Watched}
 use Rattle.witness_laws.specs.witness_spec.Steps.{Step, Past}
 use Rattle.witness_laws.specs.witness_spec.Owing.{Owes}
@@ -101,7 +102,7 @@ module _ (w : Watched) (past : Past) (b : Book) where
       find_same (λ (s : VersionedParts). nat_le s.first n && nat_le n (last_of s)) b.segments
       (all_accepted past)
       of.stands.segments
-      (λ x y i j e f. tile_one 1 b.segments t.next n t.tile x y i j (bounds x e) (bounds y f))
+      (λ x y i j e f. tile_one (start_number b.base + 1) b.segments t.next n t.tile x y i j (bounds x e) (bounds y f))
     where
       bounds : (s : VersionedParts) → (nat_le s.first n && nat_le n (last_of s)) ≡ true
           → (s.first ≤ n) × (n ≤ last_of s)
@@ -110,17 +111,19 @@ module _ (w : Watched) (past : Past) (b : Book) where
           (leb-true s.first n both.0, leb-true n (last_of s) both.1)
 
   -- the fork of a new showing with an old one, if there is one, at a number
-  abbrev made : LogVersion → ShowingParts → ℕ → Option ShowingParts → Option Charge
-  made v new n old =
-      cond (n == 0) (Some (Fork (record { log_version = v; at = 0; a = new; b = None })))
-      (option_map (λ o. Fork (record { log_version = v; at = n; a = o; b = Some new })) old)
+  abbrev made : Option KnownBase → LogVersion → ShowingParts → ℕ → Option ShowingParts → Option Charge
+  made base v new n old =
+      cond ((n == 0) && not (is_some (start_showing base 0)))
+      (Some (Fork (record { log_version = v; at = 0; a = new; b = None })))
+      (option_map (λ o. Fork (record { log_version = v; at = n; a = o; b = Some new }))
+      (cond (is_some (start_showing base n)) (start_showing base n) old))
 
   forks_same : IsBookOf w past b → FitsTogether b → (new : ShowingParts) (n : ℕ)
-      → fork_of b.log_version b.learned b.segments new n
-      ≡ fork_of w.member.log_version (kept w past) (all_accepted past) new n
+      → fork_of b.base b.log_version b.learned b.segments new n
+      ≡ fork_of w.base w.member.log_version (kept w past) (all_accepted past) new n
   forks_same of fits new n =
-      ap (λ v. fork_of v b.learned b.segments new n) of.of_member.version
-      ∙ ap (made w.member.log_version new n)
+      ap₂ (λ o v. fork_of o v b.learned b.segments new n) of.of_member.base of.of_member.version
+      ∙ ap (made w.base w.member.log_version new n)
       (ap₂ (λ a s. or_segment w.member.log_version a s) (found_learned of fits n) (found_segment of fits n))
 
   then_same : (f g : ℕ → Option Charge) → ((n : ℕ) → f n ≡ g n) → (o : Option ℕ)
@@ -134,13 +137,13 @@ module _ (w : Watched) (past : Past) (b : Book) where
       ≡ option_map (λ g. record { node = w.member.node; charge = g }) (new_fork w past new ps)
   fork_same of fits new ps =
       ap (λ n. option_map (λ (g : Charge). charged n g)
-      (option_and_then (fork_of b.log_version b.learned b.segments new) (first_fork ps (book_shown b))))
+      (option_and_then (fork_of b.base b.log_version b.learned b.segments new) (first_fork ps (book_shown b))))
       of.of_member.node
       ∙ ap (option_map (λ (g : Charge). charged w.member.node g))
-      (ap (option_and_then (fork_of b.log_version b.learned b.segments new))
+      (ap (option_and_then (fork_of b.base b.log_version b.learned b.segments new))
       (first_forks ps (book_shown b) (shown w past) of.stands.pairs)
-      ∙ then_same (fork_of b.log_version b.learned b.segments new)
-      (fork_of w.member.log_version (kept w past) (all_accepted past) new)
+      ∙ then_same (fork_of b.base b.log_version b.learned b.segments new)
+      (fork_of w.base w.member.log_version (kept w past) (all_accepted past) new)
       (forks_same of fits new) (first_fork ps (shown w past)))
 
 -- What is known of a book tells what it owes: what is owed after the steps.

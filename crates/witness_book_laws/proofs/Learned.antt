@@ -14,9 +14,10 @@ use Rattle.secure_log.specs.LogEntries.Chain.{IsAmong}
 use Rattle.witness_laws.specs.evidence_spec.Showing.{ShowingParts, authenticator_showing}
 use Rattle.witness_laws.specs.evidence_spec.Evidence.{EvidenceParts}
 use Rattle.witness_laws.specs.witness_spec.Replies.{Noted}
+use Rattle.witness_laws.specs.witness_spec.Starting.{start_number, is_below}
 use Rattle.witness_laws.specs.witness_spec.Watched.{Watched}
 use Rattle.witness_laws.specs.witness_spec.Steps.{Learn, Past}
-use Rattle.witness_laws.specs.witness_spec.Pairs.{Pair, number_of, pair_of, first_pair, same_pair, is_shown}
+use Rattle.witness_laws.specs.witness_spec.Pairs.{Pair, number_of, pair_of, same_pair, is_shown}
 use Rattle.witness_laws.specs.witness_spec.Pairs.{last_of, marks_of}
 use Rattle.witness_laws.specs.witness_spec.Standing.{End, end_of, pairs_noted, shown, is_exposed}
 use Rattle.witness_laws.specs.witness_spec.Standing.{unless_exposed}
@@ -34,7 +35,7 @@ use Rattle.witness_book_laws.proofs.Lists.{passed, same_more}
 use Rattle.witness_laws.proofs.OfEvidence.Before.{split, on_right}
 use Rattle.witness_book_laws.proofs.Kept.{all_by}
 use Rattle.witness_book_laws.proofs.Kept.{differ_more, showing_of, Learned, Segment}
-use Rattle.witness_book_laws.proofs.Kept.{shows, fork_shows, same_after, same_through, add_learned}
+use Rattle.witness_book_laws.proofs.Kept.{shows, starts_shown, fork_shows, same_after, same_through, add_learned}
 use Rattle.witness_book_laws.proofs.Kept.{add_exposing}
 use Rattle.witness_book_laws.proofs.Segments.{mark_at, held, more_exposed}
 use Rattle.witness_book_laws.proofs.Quiet.{Exposure, Hidden, Open, unsent, found_stays}
@@ -44,6 +45,8 @@ use Rattle.witness_book_laws.proofs.Known.{Known, first_same, fork_same}
 
 -- it wasn't shown, and no other hash was at its number
 pub record IsNew (b : Book) (a : Authenticator) : Type 0 where
+  -- it isn't below the base
+  pub above : is_below b.base (number_of b.log_version a) ≡ false
   -- it wasn't shown
   pub new : IsAmong (pair_of b.log_version a) (book_shown b) → ⊥
   -- a hash that was shown at its number is its own
@@ -61,27 +64,29 @@ module _ (b : Book) (a : Authenticator) (fits : FitsTogether b) (is : IsNew b a)
 
   -- so it lies above the end
   pub new_above : b.end.number < number
-  new_above = by (nat_lt b.end.number number) refl (nat_lt 0 number) refl
+  new_above = by (nat_lt b.end.number number) refl (nat_lt (start_number b.base) number) refl
     where
-      at_zero : number ≡ 0 → ⊥
-      at_zero e =
-          none_there first_pair.1 (inl (ap (λ (n : ℕ). (n, first_pair.1)) e))
+      at_start : number ≤ start_number b.base → ⊥
+      at_start low =
+          let r = fits.started.marks number is.above low in
+          none_there r.0
+          (starts_shown b.base b.log_version b.evidence b.learned b.segments (number, r.0) r.1)
 
-      low : number ≤ b.end.number → 0 < number → ⊥
+      low : number ≤ b.end.number → start_number b.base < number → ⊥
       low le some =
-          let h = held b number fits.tiles (omega (arith, some)) le in
+          let h = held b number fits.tiles some le in
           let w = fits.whole h.segment h.among in
           let p = mark_at h.segment number w (omega (arith, h.from)) h.to in
           none_there p.mark
-          (shows b.log_version b.evidence b.learned b.segments (number, p.mark)
+          (shows b.base b.log_version b.evidence b.learned b.segments (number, p.mark)
           (Segment h.segment h.among p.there))
 
-      by : (x : Bool) → nat_lt b.end.number number ≡ x → (y : Bool) → nat_lt 0 number ≡ y
+      by : (x : Bool) → nat_lt b.end.number number ≡ x → (y : Bool) → nat_lt (start_number b.base) number ≡ y
           → b.end.number < number
       by true e y f = ltb-true b.end.number number e
       by false e true f =
-          absurd (low (omega (arith, ltb-false b.end.number number e)) (ltb-true 0 number f))
-      by false e false f = absurd (at_zero (omega (arith, ltb-false 0 number f)))
+          absurd (low (omega (arith, ltb-false b.end.number number e)) (ltb-true (start_number b.base) number f))
+      by false e false f = absurd (at_start (ltb-false (start_number b.base) number f))
 
   -- it agrees with the segment that is out
   new_agrees : (s : Stage) → s ≡ b.stage → AgreesAt b.log_version s b.learned
@@ -115,7 +120,7 @@ module _ (b : Book) (a : Authenticator) (fits : FitsTogether b) (is : IsNew b a)
           let p = mark_at c.segment number (fits.whole c.segment there.0)
           (omega (arith, there.1, new_above)) low in
           absurd (none_there p.mark
-          (shows b.log_version b.evidence b.learned b.segments (number, p.mark)
+          (shows b.base b.log_version b.evidence b.learned b.segments (number, p.mark)
           (Segment c.segment there.0 p.there)))
 
 -- ---- the parts after it
@@ -125,6 +130,8 @@ module _ (b : Book) (a : Authenticator) (fits : FitsTogether b) where
   pub fits_exposed : (l : List Authenticator) (e : Option EvidenceParts) → l ≡ b.learned
       → (exposed b ≡ true → is_some e ≡ true) → FitsTogether (record b { learned = l; evidence = e })
   fits_exposed l e same then = record {
+    begun = fits.begun;
+    started = fits.started;
     above = λ x i. fits.above x (subst (IsAmong x) same i);
     differ = subst (NumbersDiffer b.log_version) (sym same) fits.differ;
     whole = fits.whole;
@@ -144,6 +151,8 @@ module _ (b : Book) (a : Authenticator) (fits : FitsTogether b) where
   pub fits_learned : (l : List Authenticator) (e : Option EvidenceParts) → l ≡ b.learned ++ a ∷ []
       → e ≡ b.evidence → IsNew b a → FitsTogether (record b { learned = l; evidence = e })
   fits_learned l e same none is = record {
+    begun = fits.begun;
+    started = fits.started;
     above = λ x i. above x (split x b.learned (a ∷ []) (subst (IsAmong x) same i));
     differ = subst (NumbersDiffer b.log_version) (sym same)
         (differ_more b.log_version b.learned a fits.differ other);
@@ -173,7 +182,7 @@ module _ (b : Book) (a : Authenticator) (fits : FitsTogether b) where
       other c i same =
           none_there b a fits is c.hash
           (subst (λ n. IsAmong (n, c.hash) (book_shown b)) same
-          (shows b.log_version b.evidence b.learned b.segments (pair_of b.log_version c) (Learned c i refl)))
+          (shows b.base b.log_version b.evidence b.learned b.segments (pair_of b.log_version c) (Learned c i refl)))
 
 -- ---- what is known after it
 
@@ -213,7 +222,7 @@ module _ (w : Watched) (past : Past) (b : Book) (a : Authenticator)
       → Known w ((Learn a, Noted) ∷ past) after
   known_by keeps differ showing fits x = record {
     of = record {
-      of_member = record { node = k.of.of_member.node; version = k.of.of_member.version };
+      of_member = record { node = k.of.of_member.node; version = k.of.of_member.version; base = k.of.of_member.base };
       stands = record {
         end = k.of.stands.end;
         stage = k.of.stands.stage;
@@ -271,7 +280,7 @@ module _ (w : Watched) (past : Past) (b : Book) (a : Authenticator)
       (subst (NumbersDiffer w.member.log_version) (sym (kept_exposed (still x))) k.kept_differ)
       (subst (HoldSame (book_shown after)) (sym (shown_by true is))
       (subst (λ ps. HoldSame ps (shown w past))
-      (sym (ap₂ (λ o xs. showing_of b.log_version o xs b.segments) (now ∙ sym some) same)) k.of.stands.pairs))
+      (sym (ap₂ (λ o xs. showing_of b.base b.log_version o xs b.segments) (now ∙ sym some) same)) k.of.stands.pairs))
       (fits_exposed b a k.fits l (evidence_noted b a) same (λ h. ap (λ o. is_some o) now)) x
     where
       now : evidence_noted b a ≡ Some e
@@ -295,13 +304,13 @@ module _ (w : Watched) (past : Past) (b : Book) (a : Authenticator)
       (subst (NumbersDiffer w.member.log_version) (sym (kept_exposed now)) k.kept_differ)
       (subst (HoldSame (book_shown after)) (sym (shown_by false is))
       (subst (λ ps. HoldSame ps (pair ∷ shown w past))
-      (sym (ap₂ (λ o xs. showing_of b.log_version o xs b.segments) there same))
-      (same_through (showing_of b.log_version (Some e) b.learned b.segments)
-      (pair ∷ showing_of b.log_version None b.learned b.segments) (pair ∷ shown w past)
-      (add_exposing b.log_version e pair b.learned b.segments
+      (sym (ap₂ (λ o xs. showing_of b.base b.log_version o xs b.segments) there same))
+      (same_through (showing_of b.base b.log_version (Some e) b.learned b.segments)
+      (pair ∷ showing_of b.base b.log_version None b.learned b.segments) (pair ∷ shown w past)
+      (add_exposing b.base b.log_version e pair b.learned b.segments
       (fork_shows b showing_it (pair ∷ []) e fork))
-      (same_after pair (showing_of b.log_version None b.learned b.segments) (shown w past)
-      (subst (λ o. HoldSame (showing_of b.log_version o b.learned b.segments) (shown w past)) none
+      (same_after pair (showing_of b.base b.log_version None b.learned b.segments) (shown w past)
+      (subst (λ o. HoldSame (showing_of b.base b.log_version o b.learned b.segments) (shown w past)) none
       k.of.stands.pairs)))))
       (fits_exposed b a k.fits l (evidence_noted b a) same (λ h. ap (λ o. is_some o) there))
       (Open e some now)
@@ -320,9 +329,10 @@ module _ (w : Watched) (past : Past) (b : Book) (a : Authenticator)
   -- it is kept
   stays_hidden : b.evidence ≡ None → is_exposed w past ≡ false
       → evidence w ((Learn a, Noted) ∷ past) ≡ None → is_exposed w ((Learn a, Noted) ∷ past) ≡ false
+      → is_below w.base (number_of w.member.log_version a) ≡ false
       → is_shown (pair_of w.member.log_version a) (shown w past) ≡ false
       → Known w ((Learn a, Noted) ∷ past) after
-  stays_hidden none is some now unshown =
+  stays_hidden none is some now above unshown =
       known_by
       (subst (λ xs. HoldSame xs (kept w ((Learn a, Noted) ∷ past))) (sym same)
       (subst (HoldSame (b.learned ++ a ∷ [])) (sym its_kept)
@@ -334,10 +344,10 @@ module _ (w : Watched) (past : Past) (b : Book) (a : Authenticator)
       ))
       (subst (HoldSame (book_shown after)) (sym (shown_by false is))
       (subst (λ ps. HoldSame ps (pair ∷ shown w past))
-      (sym (ap₂ (λ o xs. showing_of b.log_version o xs b.segments) (there ∙ sym none) same))
-      (same_through (showing_of b.log_version b.evidence (b.learned ++ a ∷ []) b.segments)
+      (sym (ap₂ (λ o xs. showing_of b.base b.log_version o xs b.segments) (there ∙ sym none) same))
+      (same_through (showing_of b.base b.log_version b.evidence (b.learned ++ a ∷ []) b.segments)
       (pair ∷ book_shown b) (pair ∷ shown w past)
-      (add_learned b.log_version b.evidence b.learned b.segments a)
+      (add_learned b.base b.log_version b.evidence b.learned b.segments a)
       (same_after pair (book_shown b) (shown w past) k.of.stands.pairs))))
       (fits_learned b a k.fits l (evidence_noted b a) same (there ∙ sym none) fresh)
       (Hidden some now)
@@ -357,6 +367,7 @@ module _ (w : Watched) (past : Past) (b : Book) (a : Authenticator)
 
       fresh : IsNew b a
       fresh = record {
+        above = ap₂ (λ o v. is_below o (number_of v a)) k.of.of_member.base k.of.of_member.version ∙ above;
         new = λ i.
             true≢false (sym (passed (λ q. same_pair pair q) (shown w past) pair
             ((k.of.stands.pairs pair).0 i)
@@ -381,18 +392,18 @@ module _ (w : Watched) (past : Past) (b : Book) (a : Authenticator)
           none_there b a k.fits fresh c.hash
           (subst (λ n. IsAmong (n, c.hash) (book_shown b))
           (sym (subst (λ v. number_of v a ≡ number_of v c) (sym k.of.of_member.version) same))
-          (shows b.log_version b.evidence b.learned b.segments (pair_of b.log_version c)
+          (shows b.base b.log_version b.evidence b.learned b.segments (pair_of b.log_version c)
           (Learned c ((k.of.stands.learned c).1 i) refl)))
 
   -- What is known after an authenticator that was noted.
-  pub noted_known : (is_exposed w past ≡ false
-      → is_shown (pair_of w.member.log_version a) (shown w past) ≡ false)
+  pub noted_known : (is_exposed w past ≡ false → is_below w.base (number_of w.member.log_version a) ≡ false)
+      → (is_exposed w past ≡ false → is_shown (pair_of w.member.log_version a) (shown w past) ≡ false)
       → Exposure w ((Learn a, Noted) ∷ past) → Known w ((Learn a, Noted) ∷ past) (after_learn b a Noted)
-  noted_known unshown x = by k.exposure x
+  noted_known above unshown x = by k.exposure x
     where
       by : Exposure w past → Exposure w ((Learn a, Noted) ∷ past)
           → Known w ((Learn a, Noted) ∷ past) (after_learn b a Noted)
       by (Open e some is) y = was_exposed e (k.of.stands.evidence ∙ some) is y
       by (Hidden none is) (Open e some now) = exposes e (k.of.stands.evidence ∙ none) is some now
       by (Hidden none is) (Hidden gone now) =
-          stays_hidden (k.of.stands.evidence ∙ none) is gone now (unshown is)
+          stays_hidden (k.of.stands.evidence ∙ none) is gone now (above is) (unshown is)

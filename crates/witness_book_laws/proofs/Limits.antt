@@ -23,12 +23,13 @@ use Rattle.secure_log.specs.LogEntries.Chain.{IsAmong}
 use Rattle.witness_laws.specs.evidence_spec.Showing.{authenticator_showing}
 use Rattle.witness_laws.specs.evidence_spec.Evidence.{EvidenceParts}
 use Rattle.witness_laws.specs.witness_spec.Events.{Event, IsEvent}
-use Rattle.witness_laws.specs.witness_spec.Watched.{Watched, IsInRoster}
+use Rattle.witness_laws.specs.witness_spec.Starting.{KnownBase, Beginning, start_number, is_below}
+use Rattle.witness_laws.specs.witness_spec.Watched.{Watched, IsInRoster, IsWatchedFrom}
 use Rattle.witness_laws.specs.witness_spec.Whose.{whose}
 use Rattle.witness_laws.specs.witness_spec.Histories.{History, IsHistory, AreOwed, own_of}
 use Rattle.witness_laws.proofs.OwnSteps.{own_owed}
 use Rattle.witness_laws.proofs.Checked.{AreChecked, own_checked}
-use Rattle.witness_laws.specs.witness_spec.Refusals.{ChallengesFull, LearnedFull, NoJob, WrongJob}
+use Rattle.witness_laws.specs.witness_spec.Refusals.{ChallengesFull, LearnedFull, NoJob, WrongJob, BelowBase}
 use Rattle.witness_laws.specs.witness_spec.Events.{JobParts, DoneParts}
 use Rattle.witness_laws.specs.witness_spec.Replies.{Reply, Noted, Already, Opened, Accepted, Closed, Asked}
 use Rattle.witness_laws.specs.witness_spec.Replies.{Job, Filed}
@@ -49,7 +50,7 @@ use Rattle.witness_book_laws.proofs.Known.{owes_known}
 use Rattle.witness_book_laws.proofs.Histories.{AreDone, own_done, done_event, known, exposed_or_not}
 use Rattle.witness_book_laws.proofs.LookUps.{one_hash}
 use Rattle.witness_book_laws.proofs.AnyBook.{any_goes_on}
-use Rattle.witness_book_laws.specs.Books.{Book, book_opening, exposed, book_shown, job_out}
+use Rattle.witness_book_laws.specs.Books.{Book, book_starting, exposed, book_shown, job_out}
 use Rattle.witness_book_laws.specs.Replying.{has_no_room, BookOwes}
 use Rattle.witness_book_laws.specs.Going.{first_evidence, fork_evidence, evidence_noted, learned_unless}
 use Rattle.witness_book_laws.specs.Going.{book_after, having_filed, book_after_steps}
@@ -131,12 +132,14 @@ module _ (b : Book) (lim : KeepsLimits b) where
   hidden_of None f h = refl
   hidden_of (Some e) f h = absurd (cc)
 
-  room_of : (x y z : Bool) → x ≡ false
-      → Noted ≡ cond x Noted (cond y Already (cond z (Refused LearnedFull) Noted)) → z ≡ false
-  room_of true y z e h = absurd (true≢false e)
-  room_of false true z e h = absurd (cc)
-  room_of false false true e h = absurd (cc)
-  room_of false false false e h = refl
+  room_of : (x v y z : Bool) → x ≡ false
+      → Noted ≡ cond x Noted (cond v (Refused BelowBase) (cond y Already (cond z (Refused LearnedFull) Noted)))
+      → z ≡ false
+  room_of true v y z e h = absurd (true≢false e)
+  room_of false true y z e h = absurd (cc)
+  room_of false false true z e h = absurd (cc)
+  room_of false false false true e h = absurd (cc)
+  room_of false false false false e h = refl
 
   few_of : (x y z : Bool) → x ≡ false → y ≡ true → (not x && (y && z)) ≡ false → z ≡ false
   few_of true y z e f h = absurd (true≢false e)
@@ -145,8 +148,9 @@ module _ (b : Book) (lim : KeepsLimits b) where
 
   module _ (a : Authenticator) (fits : FitsTogether (book_after b (Learn a) Noted))
       (one : HasOneMark (book_after b (Learn a) Noted))
-      (told : Noted ≡ cond (exposed b) Noted (cond (is_shown (pair_of b.log_version a) (book_shown b)) Already
-      (cond (has_no_room b a) (Refused LearnedFull) Noted))) where
+      (told : Noted ≡ cond (exposed b) Noted (cond (is_below b.base (number_of b.log_version a))
+      (Refused BelowBase) (cond (is_shown (pair_of b.log_version a) (book_shown b)) Already
+      (cond (has_no_room b a) (Refused LearnedFull) Noted)))) where
     abbrev now : Option EvidenceParts
     now = evidence_noted b a
 
@@ -170,10 +174,10 @@ module _ (b : Book) (lim : KeepsLimits b) where
         there : (q : Pair) → IsAmong q (pair ∷ book_shown b)
             → IsAmong q (book_shown (book_after b (Learn a) Noted))
         there q i =
-            subst (λ e. IsAmong q (showing_of b.log_version e (learned_unless e b.learned a) b.segments))
+            subst (λ e. IsAmong q (showing_of b.base b.log_version e (learned_unless e b.learned a) b.segments))
             (sym none)
-            (subst (λ e. IsAmong q (showing_of b.log_version e (b.learned ++ a ∷ []) b.segments)) was
-            ((add_learned b.log_version b.evidence b.learned b.segments a q).1 i))
+            (subst (λ e. IsAmong q (showing_of b.base b.log_version e (b.learned ++ a ∷ []) b.segments)) was
+            ((add_learned b.base b.log_version b.evidence b.learned b.segments a q).1 i))
 
         by : (x : Bool) → is_fork pair (book_shown b) ≡ x → x ≡ false
         by false e = refl
@@ -192,8 +196,8 @@ module _ (b : Book) (lim : KeepsLimits b) where
     learned_few None is =
         let was : b.evidence ≡ None =
         hidden_of b.evidence its_fork is in
-        let room = room_of (exposed b) (is_shown pair (book_shown b)) (has_no_room b a)
-        (ap (λ o. is_some o) was) told in
+        let room = room_of (exposed b) (is_below b.base number) (is_shown pair (book_shown b))
+        (has_no_room b a) (ap (λ o. is_some o) was) told in
         let above = fits.above a (subst (λ o. IsAmong a (learned_unless o b.learned a)) (sym is)
         (on_right a b.learned (a ∷ []) (inl refl))) in
         let few = few_of (is_fork pair (book_shown b)) (nat_lt b.end.number number)
@@ -227,19 +231,19 @@ module _ (b : Book) (lim : KeepsLimits b) where
   -- ---- the audit
 
   at_stage : (s t : Stage) → b.stage ≡ s → audit_last b.end.number s ≡ audit_last b.end.number t
-      → (audit_last b.end.number t ≤ MAX_AUDITED)
+      → (audit_last b.end.number t ≤ start_number b.base + MAX_AUDITED)
       × (length b.outbox + (audit_last b.end.number t - b.end.number) ≤ MAX_OUTBOX)
   at_stage s t is same =
       let e : audit_last b.end.number b.stage ≡ audit_last b.end.number t =
       ap (audit_last b.end.number) is ∙ same in (
-        subst (λ n. n ≤ MAX_AUDITED) e lim.last,
+        subst (λ n. n ≤ start_number b.base + MAX_AUDITED) e lim.last,
         subst (λ n. length b.outbox + (n - b.end.number) ≤ MAX_OUTBOX) e lim.outbox,
       )
 
   -- what is filed leaves room
   filed_limits : (s : VersionedParts) (v : Verdict)
       → (length b.outbox + (last_of s - b.end.number) ≤ MAX_OUTBOX)
-      → last_of s ≤ MAX_AUDITED → s.first ≡ b.end.number + 1
+      → last_of s ≤ start_number b.base + MAX_AUDITED → s.first ≡ b.end.number + 1
       → last_of s + 1 ≡ s.first + span s.entries → length (sound_found v) ≤ length s.entries
       → KeepsLimits (having_filed b s v)
   filed_limits s v room last first count few = by v few
@@ -393,8 +397,8 @@ few_found step done d is =
     (sym (subst IsDoneStep is done))
 
 -- at first it keeps them
-pub first_limits : (m : Member) → KeepsLimits (book_opening m)
-first_limits m = record {
+pub first_limits : (m : Member) (base : Option KnownBase) → KeepsLimits (book_starting m base)
+first_limits m base = record {
   learned = omega arith;
   challenges = omega arith;
   end = omega arith;
@@ -403,33 +407,33 @@ first_limits m = record {
 }
 
 known_limits : (w : Watched) (past : Past) → IsInRoster w
-    → AreOwed w past → AreChecked w past → AreDone past → KeepsLimits (book_after_steps w.member past)
-known_limits w [] is owed checked done = first_limits w.member
+    → AreOwed w past → AreChecked w past → AreDone past → KeepsLimits (book_after_steps w past)
+known_limits w [] is owed checked done = first_limits w.member w.base
 known_limits w (p ∷ past) is owed checked done =
     let k = known w past is owed.1 checked.1 done.1 in
     let n = known w (p ∷ past) is owed checked done in
-    limits_on (book_after_steps w.member past) (known_limits w past is owed.1 checked.1 done.1) p.0 p.1 k.fits
-    ((owes_known w past (book_after_steps w.member past) k p.0 p.1).0 owed.0)
+    limits_on (book_after_steps w past) (known_limits w past is owed.1 checked.1 done.1) p.0 p.1 k.fits
+    ((owes_known w past (book_after_steps w past) k p.0 p.1).0 owed.0)
     (λ d same at. few_found p.0 done.0 d same) n.fits
-    (one_hash w (p ∷ past) (book_after_steps w.member (p ∷ past)) n.of n.exposure)
+    (one_hash w (p ∷ past) (book_after_steps w (p ∷ past)) n.of n.exposure)
 
 -- a member's book after its own steps of a history keeps its limits
-pub own_limits : (w : Watched) (history : History) → IsInRoster w
-    → IsHistory w.roster history → KeepsLimits (book_after_steps w.member (own_of w history))
-own_limits w history is h =
-    known_limits w (own_of w history) is (own_owed w is history h) (own_checked w is history h)
-    (own_done w.roster w.member.node history h)
+pub own_limits : (g : Beginning) (w : Watched) (history : History) → IsInRoster w → IsWatchedFrom g w
+    → IsHistory g history → KeepsLimits (book_after_steps w (own_of w history))
+own_limits g w history is from h =
+    known_limits w (own_of w history) is (own_owed g w is from history h) (own_checked g w is from history h)
+    (own_done g w from history h)
 
 -- so does any book that fits together and keeps them, with each further step
-pub any_limits : (w : Watched) (history : History) (b : Book) (event : Event) (step : Step)
-    (reply : Reply) → IsInRoster w → IsHistory w.roster history → FitsTogether b
+pub any_limits : (g : Beginning) (w : Watched) (history : History) (b : Book) (event : Event) (step : Step)
+    (reply : Reply) → IsInRoster w → IsWatchedFrom g w → IsHistory g history → FitsTogether b
     → IsBookOf w (own_of w history) b → KeepsLimits b → IsEvent event
     → whose w.roster event ≡ Ok (record { member = w.member; step = step }) → BookOwes b step reply
     → KeepsLimits (book_after b step reply)
-any_limits w history b event step reply is h fits of lim e its owes =
-    let g = any_goes_on w history b is h fits of event step reply e its owes in
+any_limits g w history b event step reply is from h fits of lim e its owes =
+    let goes = any_goes_on g w history b is from h fits of event step reply e its owes in
     limits_on b lim step reply fits owes
     (λ d same at. few_found step
-    (done_event (record { member = w.member; step = step }) w.roster event its e) d same) g.fits
-    (one_hash w (own_of w ((event, reply) ∷ history)) (book_after b step reply) g.of
-    (exposed_or_not w ((event, reply) ∷ history) is g.is))
+    (done_event (record { member = w.member; step = step }) w.roster event its e) d same) goes.fits
+    (one_hash w (own_of w ((event, reply) ∷ history)) (book_after b step reply) goes.of
+    (exposed_or_not g w ((event, reply) ∷ history) is from goes.is))

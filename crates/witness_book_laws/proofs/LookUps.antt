@@ -1,6 +1,6 @@
 -- What a book looks up tells whether a pair was shown, and whether another hash is at its number.
 -- Serves: look_ups_tell.
-use Rattle.std.proofs.Common.{◌≡◌, inl, ℕ, ◌≤◌, Bool, true, false, cond, not, ◌==◌, ◌&&◌}
+use Rattle.std.proofs.Common.{◌≡◌, inl, inr, ℕ, ◌+◌, ◌≤◌, Bool, true, false, cond, not, ◌==◌, ◌&&◌}
 use Rattle.std.proofs.Common.{nat_le, List, find, Option, Some, None, refl, sym, ap, ap₂}
 use Rattle.std.proofs.Common.{subst, ◌∙◌, arith, eqb-true, eq-eqb}
 use Rattle.std.specs.Prelude.{is_some, option_map}
@@ -14,19 +14,20 @@ use Rattle.secure_log.specs.Versioned.{VersionedParts}
 use Rattle.secure_log.specs.Marks.{mark_among}
 use Rattle.secure_log.specs.LogEntries.Chain.{IsAmong}
 use Rattle.witness_laws.specs.evidence_spec.Evidence.{EvidenceParts}
+use Rattle.witness_laws.specs.witness_spec.Starting.{KnownBase, start_number, start_pairs, is_below}
 use Rattle.witness_laws.specs.witness_spec.Watched.{Watched}
 use Rattle.witness_laws.specs.witness_spec.Steps.{Past}
 use Rattle.witness_laws.specs.witness_spec.Pairs.{Pair, number_of, last_of, marks_of, same_pair, differ}
 use Rattle.witness_laws.specs.witness_spec.Pairs.{is_shown, is_fork}
 use Rattle.witness_laws.specs.witness_spec.Exposing.{segment_holding}
 use Rattle.witness_laws.proofs.OfEvidence.Before.{one_shown}
-use Rattle.witness_book_laws.specs.Books.{Book, exposed, exposing_pairs, book_shown}
+use Rattle.witness_book_laws.specs.Books.{Book, exposed, exposing_pairs, base_pairs, book_shown}
 use Rattle.witness_book_laws.specs.Fitting.{FitsTogether, IsBookOf}
-use Rattle.witness_book_laws.specs.LookUps.{hash_held, hash_shown, is_hash, is_other_hash}
+use Rattle.witness_book_laws.specs.LookUps.{base_mark_at, or_else, hash_held, hash_shown, is_hash, is_other_hash}
 use Rattle.witness_book_laws.specs.LookUps.{HasOneMark}
 use Rattle.witness_book_laws.proofs.Lists.{same_truth, passer, passed}
 use Rattle.witness_laws.proofs.OfEvidence.Before.{found, not_found}
-use Rattle.witness_book_laws.proofs.Kept.{Shower, AtFirst, Exposing, Learned, Segment, shower, shows}
+use Rattle.witness_book_laws.proofs.Kept.{Shower, AtFirst, Exposing, Learned, Segment, OfBase, shower, shows}
 use Rattle.witness_book_laws.proofs.Segments.{mark_at, marked, IsHeldIn, tile_holds, tile_between, tiled}
 use Rattle.witness_book_laws.proofs.Quiet.{Exposure}
 use Rattle.witness_book_laws.proofs.Known.{exposed_same}
@@ -70,7 +71,7 @@ module _ (b : Book) (fits : FitsTogether b) (n : ℕ) where
       → hash_held o b n ≡ Some y
       → IsAmong (n, y) (book_shown b)
   held_there (Some s) y e h =
-      shows b.log_version b.evidence b.learned b.segments (n, y)
+      shows b.base b.log_version b.evidence b.learned b.segments (n, y)
       (Segment s (found holds b.segments s e).0 (among_there n (marks_of s) y h))
   held_there None y e h = by (find (λ a. is_at a) b.learned) refl h
     where
@@ -81,18 +82,27 @@ module _ (b : Book) (fits : FitsTogether b) (n : ℕ) where
       by (Some a) f k =
           let r = found (λ c. is_at c) b.learned a f in
           let hash : y ≡ a.hash = sym (same_Some _ _ k) in
-          shows b.log_version b.evidence b.learned b.segments (n, y)
+          shows b.base b.log_version b.evidence b.learned b.segments (n, y)
           (Learned a r.0 (ap₂ (λ (m : ℕ) (x : List ℕ). (m, x))
           (sym (eqb-true (number_of b.log_version a) n r.1)) hash))
 
   looked : (y : List ℕ) → hash_shown b n ≡ Some y → IsAmong (n, y) (book_shown b)
-  looked y h = by (n == 0) refl h
+  looked y h = by_base (base_mark_at b.base n) refl h
     where
       by : (z : Bool) → (n == 0) ≡ z
           → cond z (Some zeros) (hash_held (segment_holding n b.segments) b n) ≡ Some y
           → IsAmong (n, y) (book_shown b)
       by true e k = inl (ap₂ (λ (m : ℕ) (x : List ℕ). (m, x)) (eqb-true n 0 e) (sym (same_Some _ _ k)))
       by false e k = held_there (segment_holding n b.segments) y refl k
+
+      by_base : (o : Option (List ℕ)) → base_mark_at b.base n ≡ o
+          → or_else o (cond (n == 0) (Some zeros) (hash_held (segment_holding n b.segments) b n)) ≡ Some y
+          → IsAmong (n, y) (book_shown b)
+      by_base (Some x) e k =
+          subst (λ z. IsAmong (n, z) (book_shown b)) (same_Some _ _ k)
+          (shows b.base b.log_version b.evidence b.learned b.segments (n, x)
+          (OfBase (among_there n (base_pairs b.base) x e)))
+      by_base None e k = by (n == 0) refl k
 
   -- ---- what is shown is found
 
@@ -112,8 +122,8 @@ module _ (b : Book) (fits : FitsTogether b) (n : ℕ) where
           among_some n (marks_of s) p.mark p.there k
 
   unfound : (x : List ℕ) → exposed b ≡ false → (n == 0) ≡ false → IsAmong (n, x) (book_shown b)
-      → hash_held (segment_holding n b.segments) b n ≡ None → ⊥
-  unfound x hidden some i k = by (shower b.log_version b.evidence b.learned b.segments (n, x) i)
+      → base_mark_at b.base n ≡ None → hash_held (segment_holding n b.segments) b n ≡ None → ⊥
+  unfound x hidden some i no_base k = by (shower b.base b.log_version b.evidence b.learned b.segments (n, x) i)
     where
       no_evidence : (o : Option EvidenceParts) → is_some o ≡ false → IsAmong (n, x) (exposing_pairs o) → ⊥
       no_evidence None e i = i
@@ -146,35 +156,53 @@ module _ (b : Book) (fits : FitsTogether b) (n : ℕ) where
           → IsHeldIn b.segments n
       in_segment s j there =
           let t = tiled b fits.tiles in
-          tile_holds 1 b.segments t.next n t.tile (at_least n some)
-          (omega (
-            arith,
-            (marked s n x (fits.whole s j) there).1,
-            (tile_between 1 b.segments t.next s t.tile j).1,
-          ))
+          let between = tile_between (start_number b.base + 1) b.segments t.next s t.tile j in
+          tile_holds (start_number b.base + 1) b.segments t.next n t.tile
+          (past_start (nat_le (start_number b.base + 1) n) refl
+          (omega (arith, (marked s n x (fits.whole s j) there).0, between.0)))
+          (omega (arith, (marked s n x (fits.whole s j) there).1, between.1))
         where
-          at_least : (m : ℕ) → (m == 0) ≡ false → 1 ≤ m
-          at_least m e = by_zero (nat_le 1 m) refl
-            where
-              by_zero : (c : Bool) → nat_le 1 m ≡ c → 1 ≤ m
-              by_zero true f = leb-true 1 m f
-              by_zero false f =
-                  absurd (true≢false (sym (eq-eqb m 0 (omega (arith, leb-false 1 m f))) ∙ e))
+          -- what was shown at first is the base's, but at 0
+          of_base : (base : Option KnownBase) (y : List ℕ) → IsAmong (n, y) (start_pairs base)
+              → IsAmong (n, y) (base_pairs base)
+          of_base None y (inl same) =
+              absurd (true≢false (sym (eq-eqb n 0 (ap (λ (p : Pair). p.0) same)) ∙ some))
+          of_base None y (inr i) = absurd i
+          of_base (Some o) y (inl same) =
+              absurd (true≢false (sym (eq-eqb n 0 (ap (λ (p : Pair). p.0) same)) ∙ some))
+          of_base (Some o) y (inr i) = i
 
-      by : Shower b.log_version b.evidence b.learned b.segments (n, x) → ⊥
+          past_start : (c : Bool) → nat_le (start_number b.base + 1) n ≡ c → start_number b.base ≤ n
+              → start_number b.base + 1 ≤ n
+          past_start true e low = leb-true (start_number b.base + 1) n e
+          past_start false e low =
+              let same : start_number b.base ≡ n =
+              omega (arith, low, leb-false (start_number b.base + 1) n e) in
+              let above : is_below b.base n ≡ false = ap (is_below b.base) (sym same) ∙ fits.started.own in
+              let r = fits.started.marks n above (omega (arith, same)) in
+              absurd (among_some n (base_pairs b.base) r.0 (of_base b.base r.0 r.1) no_base)
+
+      by : Shower b.base b.log_version b.evidence b.learned b.segments (n, x) → ⊥
       by (AtFirst same) = true≢false (sym (eq-eqb n 0 (ap (λ (p : Pair). p.0) same)) ∙ some)
       by (Exposing j) = no_evidence b.evidence hidden j
       by (Learned a j same) =
           no_learned a j (ap (λ (p : Pair). p.0) same) (segment_holding n b.segments) refl k
       by (Segment s j there) = not_held x (in_segment s j there) k
+      by (OfBase j) = among_some n (base_pairs b.base) x j no_base
 
   unlooked : (x : List ℕ) → exposed b ≡ false → hash_shown b n ≡ None → IsAmong (n, x) (book_shown b) → ⊥
-  unlooked x hidden h i = by (n == 0) refl h
+  unlooked x hidden h i = by_base (base_mark_at b.base n) refl h
     where
-      by : (z : Bool) → (n == 0) ≡ z
+      by : base_mark_at b.base n ≡ None → (z : Bool) → (n == 0) ≡ z
           → cond z (Some zeros) (hash_held (segment_holding n b.segments) b n) ≡ None → ⊥
-      by true e k = absurd (cc)
-      by false e k = unfound x hidden e i k
+      by none true e k = absurd (cc)
+      by none false e k = unfound x hidden e i none k
+
+      by_base : (o : Option (List ℕ)) → base_mark_at b.base n ≡ o
+          → or_else o (cond (n == 0) (Some zeros) (hash_held (segment_holding n b.segments) b n)) ≡ None
+          → ⊥
+      by_base (Some y) e k = absurd (cc)
+      by_base None e k = by e (n == 0) refl k
 
   -- ---- what it tells
 

@@ -137,7 +137,7 @@ module _ (w : Watched) (past : Past) where
   pub having_challenged : (e : Envelope) (r : Reply) (b : Book) → Exposure w past → IsBookOf w past b
       → IsBookOf w ((SendChallenge e, r) ∷ past) (after_send_challenge b e r)
   having_challenged e Opened b x of = record {
-    of_member = record { node = of.of_member.node; version = of.of_member.version };
+    of_member = record { node = of.of_member.node; version = of.of_member.version; base = of.of_member.base };
     stands = record {
       end = of.stands.end;
       stage = of.stands.stage;
@@ -165,7 +165,7 @@ module _ (w : Watched) (past : Past) where
   pub having_acked : (a : Ack) (r : Reply) (b : Book) → Exposure w past → IsBookOf w past b
       → IsBookOf w ((AckIn a, r) ∷ past) (after_ack b a r)
   having_acked a Closed b x of = record {
-    of_member = record { node = of.of_member.node; version = of.of_member.version };
+    of_member = record { node = of.of_member.node; version = of.of_member.version; base = of.of_member.base };
     stands = record {
       end = of.stands.end;
       stage = of.stands.stage;
@@ -195,7 +195,7 @@ module _ (w : Watched) (past : Past) where
   pub having_asked : (r : Reply) (b : Book) → Exposure w past → IsBookOf w past b
       → IsBookOf w ((Audit, r) ∷ past) (after_audit b r)
   having_asked (Asked first last) b x of = record {
-    of_member = record { node = of.of_member.node; version = of.of_member.version };
+    of_member = record { node = of.of_member.node; version = of.of_member.version; base = of.of_member.base };
     stands = record {
       end = of.stands.end;
       stage = refl;
@@ -223,7 +223,7 @@ module _ (w : Watched) (past : Past) where
   pub having_begun : (r : Reply) (b : Book) → Exposure w past → IsBookOf w past b
       → IsBookOf w ((Begin, r) ∷ past) (after_begin b r)
   having_begun (Job j) b x of = record {
-    of_member = record { node = of.of_member.node; version = of.of_member.version };
+    of_member = record { node = of.of_member.node; version = of.of_member.version; base = of.of_member.base };
     stands = record {
       end = of.stands.end;
       stage = refl;
@@ -252,7 +252,7 @@ module _ (w : Watched) (past : Past) where
   pub having_put_back : (j : JobParts) (r : Reply) (b : Book) → Exposure w past → IsBookOf w past b
       → IsBookOf w ((PutBack j, r) ∷ past) (after_put_back b j r)
   having_put_back j Returned b x of = record {
-    of_member = record { node = of.of_member.node; version = of.of_member.version };
+    of_member = record { node = of.of_member.node; version = of.of_member.version; base = of.of_member.base };
     stands = record {
       end = of.stands.end;
       stage = refl;
@@ -282,7 +282,7 @@ module _ (w : Watched) (past : Past) where
   pub having_forwarded : (r : Reply) (b : Book) → Exposure w past → IsBookOf w past b
       → IsBookOf w ((Forward, r) ∷ past) (after_forward b r)
   having_forwarded (Forwarded a) b x of = record {
-    of_member = record { node = of.of_member.node; version = of.of_member.version };
+    of_member = record { node = of.of_member.node; version = of.of_member.version; base = of.of_member.base };
     stands = record {
       end = of.stands.end;
       stage = of.stands.stage;

@@ -1,19 +1,20 @@
 -- The book of a member after its own steps replies what is owed.
 -- Serves: all laws here.
 use Rattle.std.proofs.Common.{◌≡◌, ◌↔◌, ℕ, ◌+◌, Bool, true, false, cond, not, ◌&&◌, nat_lt, nat_le, List, []}
-use Rattle.std.proofs.Common.{◌∷◌, map, filter, length, Some, refl, sym, ap, inl}
+use Rattle.std.proofs.Common.{◌∷◌, map, filter, length, Option, Some, refl, sym, ap, ap₂, inl}
 use Rattle.std.proofs.Common.{◌∙◌}
 use Rattle.authenticator.specs.declared.authenticator.Authenticator.{Authenticator}
 use Rattle.authenticator.specs.declared.member.LogVersion.{LogVersion}
 use Rattle.secure_log.specs.Versioned.{ClosedParts}
 use Rattle.envelopes.specs.Acknowledgement.{acked_message}
-use Rattle.witness_laws.specs.witness_spec.Refusals.{LearnedFull, NothingToAudit, NoJob, WrongJob}
+use Rattle.witness_laws.specs.witness_spec.Refusals.{LearnedFull, NothingToAudit, NoJob, WrongJob, BelowBase}
 use Rattle.witness_laws.specs.witness_spec.Events.{JobParts, Question, ItsIndication, ItsChallenges}
 use Rattle.witness_laws.specs.witness_spec.Events.{ItsEvidence}
 use Rattle.witness_laws.specs.witness_spec.Replies.{Reply, Noted, Already, Job, Filed, Returned, Told}
 use Rattle.witness_laws.specs.witness_spec.Replies.{OpenList}
 use Rattle.witness_laws.specs.witness_spec.Replies.{EvidenceIs}
 use Rattle.witness_laws.specs.witness_spec.Replies.{Refused, FileRefused, PutBackRefused, Exposed}
+use Rattle.witness_laws.specs.witness_spec.Starting.{KnownBase, start_number, is_below}
 use Rattle.witness_laws.specs.witness_spec.Watched.{Watched}
 use Rattle.witness_laws.specs.witness_spec.Steps.{Step, Learn, SendChallenge, Answer, AckIn, Audit, Begin}
 use Rattle.witness_laws.specs.witness_spec.Steps.{File, PutBack}
@@ -46,14 +47,14 @@ reach_same v end xs ys same =
     (same_filter (λ n. nat_le n (end + MAX_ASKED)) (map (λ a. number_of v a) xs)
     (map (λ a. number_of v a) ys) (same_map (λ a. number_of v a) xs ys same))
 
-ask_same : (v : LogVersion) (is : Bool) (end waiting : ℕ) (xs ys : List Authenticator) → HoldSame xs ys
-    → ask_reply v is end waiting xs ≡ ask_reply v is end waiting ys
-ask_same v true end waiting xs ys same = refl
-ask_same v false end waiting [] [] same = refl
-ask_same v false end waiting [] (y ∷ ys) same = absurd ((same y).1 (inl refl))
-ask_same v false end waiting (x ∷ xs) [] same = absurd ((same x).0 (inl refl))
-ask_same v false end waiting (x ∷ xs) (y ∷ ys) same =
-    ap (ask_up_to end waiting) (reach_same v end (x ∷ xs) (y ∷ ys) same)
+ask_same : (v : LogVersion) (is : Bool) (start end waiting : ℕ) (xs ys : List Authenticator)
+    → HoldSame xs ys → ask_reply v is start end waiting xs ≡ ask_reply v is start end waiting ys
+ask_same v true start end waiting xs ys same = refl
+ask_same v false start end waiting [] [] same = refl
+ask_same v false start end waiting [] (y ∷ ys) same = absurd ((same y).1 (inl refl))
+ask_same v false start end waiting (x ∷ xs) [] same = absurd ((same x).0 (inl refl))
+ask_same v false start end waiting (x ∷ xs) (y ∷ ys) same =
+    ap (ask_up_to start end waiting) (reach_same v end (x ∷ xs) (y ∷ ys) same)
 
 make : ℕ → ℕ → End → ClosedParts → JobParts
 make node number end c = record { node = node; number = number; state = end.state; segment = c }
@@ -63,11 +64,12 @@ module _ (w : Watched) (past : Past) (b : Book) (of : IsBookOf w past b)
   -- ---- each event
 
   -- what the book replies to an authenticator of a log of a version
-  abbrev learn_in : LogVersion → Authenticator → Reply
-  learn_in v a =
-      cond (exposed b) Noted (cond (is_shown (pair_of v a) (book_shown b)) Already
+  abbrev learn_in : Option KnownBase → LogVersion → Authenticator → Reply
+  learn_in base v a =
+      cond (exposed b) Noted (cond (is_below base (number_of v a)) (Refused BelowBase)
+      (cond (is_shown (pair_of v a) (book_shown b)) Already
       (cond (not (is_fork (pair_of v a) (book_shown b)) && (nat_lt b.end.number (number_of v a)
-      && nat_le MAX_LEARNED (length b.learned))) (Refused LearnedFull) Noted))
+      && nat_le MAX_LEARNED (length b.learned))) (Refused LearnedFull) Noted)))
 
   learns : (a : Authenticator) → owing.learn_reply w past a ≡ book_reply false b (Learn a)
   learns a =
@@ -82,25 +84,29 @@ module _ (w : Watched) (past : Past) (b : Book) (of : IsBookOf w past b)
       && nat_le MAX_LEARNED (length (kept w past)))) (sym of.stands.end)
       ∙ ap (λ n. not (is_fork (pair_of v a) (book_shown b)) && (nat_lt b.end.number (number_of v a)
       && nat_le MAX_LEARNED n)) (sym count)) in
-      ap (λ x. cond x Noted (cond (is_shown (pair_of v a) (shown w past)) Already
-      (cond (owing.has_no_room w past a) (Refused LearnedFull) Noted))) (sym is)
-      ∙ (ap (λ x. cond (exposed b) Noted (cond x Already
-      (cond (owing.has_no_room w past a) (Refused LearnedFull) Noted))) (sym there)
-      ∙ (ap (λ x. cond (exposed b) Noted (cond (is_shown (pair_of v a) (book_shown b)) Already
-      (cond x (Refused LearnedFull) Noted))) room
-      ∙ ap (λ u. learn_in u a) (sym of.of_member.version)))
+      let low = is_below w.base (number_of v a) in
+      ap (λ x. cond x Noted (cond low (Refused BelowBase) (cond (is_shown (pair_of v a) (shown w past)) Already
+      (cond (owing.has_no_room w past a) (Refused LearnedFull) Noted)))) (sym is)
+      ∙ (ap (λ x. cond (exposed b) Noted (cond low (Refused BelowBase) (cond x Already
+      (cond (owing.has_no_room w past a) (Refused LearnedFull) Noted)))) (sym there)
+      ∙ (ap (λ x. cond (exposed b) Noted (cond low (Refused BelowBase)
+      (cond (is_shown (pair_of v a) (book_shown b)) Already (cond x (Refused LearnedFull) Noted)))) room
+      ∙ (ap (λ u. learn_in w.base u a) (sym of.of_member.version)
+      ∙ ap (λ o. learn_in o b.log_version a) (sym of.of_member.base))))
 
-  asks : ask_reply w.member.log_version (is_exposed w past) (end_of w past).number (length (outbox w past))
-      (kept w past)
-      ≡ ask_reply b.log_version (exposed b) b.end.number (length b.outbox) b.learned
+  asks : ask_reply w.member.log_version (is_exposed w past) (start_number w.base) (end_of w past).number
+      (length (outbox w past)) (kept w past)
+      ≡ ask_reply b.log_version (exposed b) (start_number b.base) b.end.number (length b.outbox) b.learned
   asks =
       let v = w.member.log_version in
-      sym (ap (λ u. ask_reply u (exposed b) b.end.number (length b.outbox) b.learned) of.of_member.version
-      ∙ (ask_same v (exposed b) b.end.number (length b.outbox) b.learned (kept w past) of.stands.learned
-      ∙ (ap (λ x. ask_reply v x b.end.number (length b.outbox) (kept w past)) is
-      ∙ (ap (λ (e : End). ask_reply v (is_exposed w past) e.number (length b.outbox)
+      let n = start_number w.base in
+      sym (ap₂ (λ u o. ask_reply u (exposed b) (start_number o) b.end.number (length b.outbox) b.learned)
+      of.of_member.version of.of_member.base
+      ∙ (ask_same v (exposed b) n b.end.number (length b.outbox) b.learned (kept w past) of.stands.learned
+      ∙ (ap (λ x. ask_reply v x n b.end.number (length b.outbox) (kept w past)) is
+      ∙ (ap (λ (e : End). ask_reply v (is_exposed w past) n e.number (length b.outbox)
       (kept w past)) of.stands.end
-      ∙ ap (λ (xs : List Authenticator). ask_reply v (is_exposed w past) (end_of w past).number
+      ∙ ap (λ (xs : List Authenticator). ask_reply v (is_exposed w past) n (end_of w past).number
       (length xs)
       (kept w past)) of.stands.outbox))))
 

@@ -8,6 +8,7 @@ use Rattle.std.proofs.lemmas.List.Elements.{filter-append}
 use Rattle.secure_log.specs.Versioned.{VersionedParts, versioned_links, EndsIn}
 use Rattle.secure_log.specs.LogEntries.Chain.{IsAmong, last_number}
 use Rattle.secure_log.proofs.Gaps.{closing_number}
+use Rattle.witness_laws.specs.witness_spec.Starting.{start_number}
 use Rattle.witness_laws.specs.witness_spec.Pairs.{last_of, marks_of}
 use Rattle.witness_laws.specs.witness_spec.Standing.{Stage, NoAudit, Wanted, Given, Out}
 use Rattle.witness_laws.specs.witness_spec.Histories.{HoldSame}
@@ -125,47 +126,48 @@ tile_one first (z ∷ ss) next n t x y (inr i) (inr j) f g =
 -- ---- the segments of a book
 
 -- all of them follow on one another
-pub record IsTiled (segments : List VersionedParts) : Type 0 where
+pub record IsTiled (first : ℕ) (segments : List VersionedParts) : Type 0 where
   -- the number after the last
   pub next : ℕ
   -- they follow on one another up to it
-  pub tile : Tile 1 segments next
+  pub tile : Tile first segments next
 
-all_tiled : (end : ℕ) (is_exposed : Bool) (s : Stage) (done more : List VersionedParts)
-    → Tile 1 done (end + 1) → IsMore end is_exposed s more → IsTiled (done ++ more)
-all_tiled end x s done more t rest = by s rest
+all_tiled : (first end : ℕ) (is_exposed : Bool) (s : Stage) (done more : List VersionedParts)
+    → Tile first done (end + 1) → IsMore end is_exposed s more → IsTiled first (done ++ more)
+all_tiled first end x s done more t rest = by s rest
   where
-    none : more ≡ [] → IsTiled (done ++ more)
+    none : more ≡ [] → IsTiled first (done ++ more)
     none e =
         record {
           next = end + 1;
-          tile = subst (λ l. Tile 1 l (end + 1)) (sym (ap (λ l. done ++ l) e ∙ append-nil done)) t;
+          tile = subst (λ l. Tile first l (end + 1)) (sym (ap (λ l. done ++ l) e ∙ append-nil done)) t;
         }
 
-    one : (c : VersionedParts) → IsOne end c more → IsTiled (done ++ more)
+    one : (c : VersionedParts) → IsOne end c more → IsTiled first (done ++ more)
     one c o = record {
       next = last_of c + 1;
-      tile = subst (λ l. Tile 1 (done ++ l) (last_of c + 1)) (sym o.is)
-          (tile_more 1 done end c t o.follows);
+      tile = subst (λ l. Tile first (done ++ l) (last_of c + 1)) (sym o.is)
+          (tile_more first done end c t o.follows);
     }
 
-    by : (s : Stage) → IsMore end x s more → IsTiled (done ++ more)
+    by : (s : Stage) → IsMore end x s more → IsTiled first (done ++ more)
     by NoAudit (inl e) = none e
     by NoAudit (inr f) = one f.segment f.one
-    by (Wanted first last) r = none r.0
+    by (Wanted from last) r = none r.0
     by (Given c) r = one c.segment r
     by (Out c) r = one c.segment r
 
 -- so do those of a book
-pub tiled : (b : Book) → AreTiles b → IsTiled b.segments
+pub tiled : (b : Book) → AreTiles b → IsTiled (start_number b.base + 1) b.segments
 tiled b t =
-    subst IsTiled (sym t.are)
-    (all_tiled b.end.number (exposed b) b.stage t.audited t.more t.tile t.rest)
+    subst (IsTiled (start_number b.base + 1)) (sym t.are)
+    (all_tiled (start_number b.base + 1) b.end.number (exposed b) b.stage t.audited t.more t.tile t.rest)
 
--- each number from 1 to the end lies in an accepted segment
-pub held : (b : Book) (n : ℕ) → AreTiles b → 1 ≤ n → n ≤ b.end.number → IsHeldIn b.segments n
+-- each number from the one after that where the audit began to the end lies in an accepted segment
+pub held : (b : Book) (n : ℕ) → AreTiles b → start_number b.base < n → n ≤ b.end.number → IsHeldIn b.segments n
 held b n t low high =
-    let r = tile_holds 1 t.audited (b.end.number + 1) n t.tile low (omega (arith, high)) in
+    let r = tile_holds (start_number b.base + 1) t.audited (b.end.number + 1) n t.tile (omega (arith, low))
+    (omega (arith, high)) in
     record {
       segment = r.segment;
       among = subst (IsAmong r.segment) (sym t.are) (on_left r.segment t.audited t.more r.among);
@@ -216,7 +218,8 @@ audited_are b t =
     ap (λ l. flat_map (λ (s : VersionedParts). s.entries) (filter test l)) t.are
     ∙ ap (λ l. flat_map (λ (s : VersionedParts). s.entries) l)
     (filter-append test t.audited t.more
-    ∙ (ap₂ (λ (k l : List VersionedParts). k ++ l) (within_end 1 b.end.number t.audited t.tile)
+    ∙ (ap₂ (λ (k l : List VersionedParts). k ++ l)
+    (within_end (start_number b.base + 1) b.end.number t.audited t.tile)
     (past_end b.end.number (exposed b) b.stage t.more t.rest)
     ∙ append-nil t.audited))
 

@@ -21,12 +21,13 @@ use Rattle.replay_spec.specs.Placed.{places_in}
 use Rattle.replay_spec.specs.Replay.{verdict_of}
 use Rattle.secure_log.specs.LogEntries.Chain.{IsAmong}
 use Rattle.witness_laws.specs.witness_spec.Refusals.{NotAsked, TooFar, BookFull, OutboxFull, LearnedFull}
-use Rattle.witness_laws.specs.witness_spec.Refusals.{NothingToAudit}
+use Rattle.witness_laws.specs.witness_spec.Refusals.{NothingToAudit, BelowBase}
 use Rattle.witness_laws.specs.witness_spec.Events.{JobParts, DoneParts, Question}
 use Rattle.witness_laws.specs.witness_spec.Replies.{Reply, Noted, Already, Opened, Accepted, Closed, Asked}
 use Rattle.witness_laws.specs.witness_spec.Replies.{Job, Filed}
 use Rattle.witness_laws.specs.witness_spec.Replies.{Returned}
 use Rattle.witness_laws.specs.witness_spec.Replies.{Forwarded, Refused, Challenge}
+use Rattle.witness_laws.specs.witness_spec.Starting.{start_number, is_below}
 use Rattle.witness_laws.specs.witness_spec.Watched.{Watched, IsInRoster}
 use Rattle.witness_laws.specs.witness_spec.Steps.{Step, Learn, SendChallenge, Answer, AckIn, Audit, Begin}
 use Rattle.witness_laws.specs.witness_spec.Steps.{File, PutBack}
@@ -70,31 +71,14 @@ IsDoneStep (File d) =
     d.verdict ≡ verdict_of d.job.segment.roster d.job.state (places_in d.job.segment.segment)
 IsDoneStep _ = Unit {0}
 
--- ---- the parts of a book whose challenges and outbox change
+-- ---- the parts of a book whose audit, challenges and outbox change
 
-fits_with : (b : Book) (c : List Challenge) (o : List Authenticator) → FitsTogether b
-    → FitsTogether (record b { challenges = c; outbox = o })
-fits_with b c o f = record {
-  above = f.above;
-  differ = f.differ;
-  whole = f.whole;
-  version = f.version;
-  tiles = record {
-    audited = f.tiles.audited;
-    more = f.tiles.more;
-    are = f.tiles.are;
-    tile = f.tiles.tile;
-    rest = f.tiles.rest;
-  };
-  agrees = f.agrees;
-  sends = f.sends;
-}
-
--- those of a book whose audit changes
-fits_at : (b : Book) (s : Stage) (n : ℕ) (c : List Challenge) → (f : FitsTogether b)
+fits_at : (b : Book) (s : Stage) (n : ℕ) (c : List Challenge) (o : List Authenticator) → (f : FitsTogether b)
     → IsMore b.end.number (exposed b) s f.tiles.more → AgreesAt b.log_version s b.learned
-    → FitsTogether (record b { stage = s; begun = n; challenges = c })
-fits_at b s n c f rest agrees = record {
+    → FitsTogether (record b { stage = s; begun = n; challenges = c; outbox = o })
+fits_at b s n c o f rest agrees = record {
+  begun = f.begun;
+  started = f.started;
   above = f.above;
   differ = f.differ;
   whole = f.whole;
@@ -110,6 +94,11 @@ fits_at b s n c f rest agrees = record {
   sends = f.sends;
 }
 
+-- those of a book whose challenges and outbox alone change
+fits_with : (b : Book) (c : List Challenge) (o : List Authenticator) → FitsTogether b
+    → FitsTogether (record b { challenges = c; outbox = o })
+fits_with b c o f = fits_at b b.stage b.begun c o f f.tiles.rest f.agrees
+
 -- ---- what a reply tells of the book
 
 -- an audit that asks: there was none, the node isn't exposed, and the numbers follow on the end
@@ -123,7 +112,7 @@ pub record Asks (b : Book) (first last : ℕ) : Type 0 where
   -- the numbers are in order
   pub order : first ≤ last
   -- so many entries may be audited
-  pub few : last ≤ MAX_AUDITED
+  pub few : last ≤ start_number b.base + MAX_AUDITED
   -- what it finds has room
   pub room : length b.outbox + (last - b.end.number) ≤ MAX_OUTBOX
 
@@ -146,7 +135,7 @@ pub asks : (b : Book) (first last : ℕ) → FitsTogether b → Asked first last
 asks b first last fits told = by b.stage refl (told)
   where
     upto : (x y z : Bool) → (reach b == 0) ≡ x
-        → nat_lt MAX_AUDITED (reach b) ≡ y
+        → nat_lt (start_number b.base + MAX_AUDITED) (reach b) ≡ y
         → nat_lt MAX_OUTBOX (length b.outbox + (reach b - b.end.number)) ≡ z
         → b.stage ≡ NoAudit → exposed b ≡ false
         → Asked first last ≡ cond x (Refused TooFar) (cond y (Refused BookFull) (cond z (Refused OutboxFull)
@@ -164,7 +153,7 @@ asks b first last fits told = by b.stage refl (told)
           hidden = hidden;
           first_is = same.0;
           order = omega (arith, same.0, same.1, reached.0.order);
-          few = omega (arith, same.1, ltb-false MAX_AUDITED (reach b) f);
+          few = omega (arith, same.1, ltb-false (start_number b.base + MAX_AUDITED) (reach b) f);
           room = omega (
             arith,
             same.1,
@@ -174,15 +163,16 @@ asks b first last fits told = by b.stage refl (told)
         }
 
     by_learned : (x : Bool) (l : List Authenticator) → b.learned ≡ l → exposed b ≡ x → b.stage ≡ NoAudit
-        → Asked first last ≡ ask_reply b.log_version x b.end.number (length b.outbox) l → Asks b first last
+        → Asked first last ≡ ask_reply b.log_version x (start_number b.base) b.end.number (length b.outbox) l
+        → Asks b first last
     by_learned true l e is none h = absurd (cc)
     by_learned false [] e is none h = absurd (cc)
     by_learned false (a ∷ l) e is none h =
         upto (reach b == 0)
-        (nat_lt MAX_AUDITED (reach b))
+        (nat_lt (start_number b.base + MAX_AUDITED) (reach b))
         (nat_lt MAX_OUTBOX
         (length b.outbox + (reach b - b.end.number))) refl refl refl none is
-        (h ∙ ap (λ xs. ask_up_to b.end.number (length b.outbox)
+        (h ∙ ap (λ xs. ask_up_to (start_number b.base) b.end.number (length b.outbox)
         (last_in_reach b.log_version b.end.number xs)) (sym e))
 
     by : (s : Stage) → b.stage ≡ s → Asked first last ≡ reply_to_audit b b.stage → Asks b first last
@@ -401,7 +391,7 @@ module _ (w : Watched) (past : Past) (b : Book) (k : Known w past b) where
       let a = asks b first last k.fits h in
       record {
         of = having_asked w past (Asked first last) b k.exposure k.of;
-        fits = fits_at b (Wanted first last) b.begun _ k.fits
+        fits = fits_at b (Wanted first last) b.begun _ b.outbox k.fits
             (by a (subst (λ s. IsMore b.end.number (exposed b) s k.fits.tiles.more) a.none
             k.fits.tiles.rest)) tt;
         kept_differ = k.kept_differ;
@@ -439,9 +429,9 @@ module _ (w : Watched) (past : Past) (b : Book) (k : Known w past b) where
       let p = mark_at c.segment (number_of v a) (k.fits.whole c.segment among)
       (omega (arith, one.follows.first, k.fits.above a i)) le in
       let its = (k.of.stands.pairs (pair_of v a)).0
-      (shows v b.evidence b.learned b.segments (pair_of v a) (Learned a i refl)) in
+      (shows b.base v b.evidence b.learned b.segments (pair_of v a) (Learned a i refl)) in
       let there = (k.of.stands.pairs (number_of v a, p.mark)).0
-      (shows v b.evidence b.learned b.segments (number_of v a, p.mark) (Segment c.segment among p.there)) in
+      (shows b.base v b.evidence b.learned b.segments (number_of v a, p.mark) (Segment c.segment among p.there)) in
       let same : p.mark ≡ a.hash =
       one_shown w past (sym (exposed_same w past b k.of k.exposure) ∙ hidden)
       (number_of v a) p.mark a.hash there its in
@@ -453,7 +443,7 @@ module _ (w : Watched) (past : Past) (b : Book) (k : Known w past b) where
       let g = begins b j h in
       record {
         of = having_begun w past (Job j) b k.exposure k.of;
-        fits = fits_at b (Out j.segment) (b.begun + 1) b.challenges k.fits
+        fits = fits_at b (Out j.segment) (b.begun + 1) b.challenges b.outbox k.fits
             (subst (λ s. IsMore b.end.number (exposed b) s k.fits.tiles.more) g.given k.fits.tiles.rest)
             (agreeing j.segment g.given g.hidden);
         kept_differ = k.kept_differ;
@@ -479,7 +469,7 @@ module _ (w : Watched) (past : Past) (b : Book) (k : Known w past b) where
       let o = out_of b j (h refl) in
       record {
         of = having_put_back w past j Returned b k.exposure k.of;
-        fits = fits_at b (Given j.segment) b.begun b.challenges k.fits
+        fits = fits_at b (Given j.segment) b.begun b.challenges b.outbox k.fits
             (subst (λ s. IsMore b.end.number (exposed b) s k.fits.tiles.more) o.at k.fits.tiles.rest) tt;
         kept_differ = k.kept_differ;
         exposure = x;
@@ -500,24 +490,33 @@ module _ (w : Watched) (past : Past) (b : Book) (k : Known w past b) where
 
   -- ---- what is handed in, and what is filed
 
-  unshown : (a : Authenticator) (x y z : Bool) → is_exposed w past ≡ x
+  unshown : (a : Authenticator) (x v y z : Bool) → is_exposed w past ≡ x
+      → is_below w.base (number_of w.member.log_version a) ≡ v
       → is_shown (pair_of w.member.log_version a) (shown w past) ≡ y
-      → Noted ≡ cond x Noted (cond y Already (cond z (Refused LearnedFull) Noted))
-      → is_exposed w past ≡ false → is_shown (pair_of w.member.log_version a) (shown w past) ≡ false
-  unshown a true y z is e h hidden = absurd (true≢false (sym is ∙ hidden))
-  unshown a false true z is e h hidden = absurd (cc)
-  unshown a false false z is e h hidden = e
+      → Noted ≡ cond x Noted (cond v (Refused BelowBase) (cond y Already (cond z (Refused LearnedFull) Noted)))
+      → is_exposed w past ≡ false
+      → (is_below w.base (number_of w.member.log_version a) ≡ false)
+      × (is_shown (pair_of w.member.log_version a) (shown w past) ≡ false)
+  unshown a true v y z is f e h hidden = absurd (true≢false (sym is ∙ hidden))
+  unshown a false true y z is f e h hidden = absurd (cc)
+  unshown a false false true z is f e h hidden = absurd (cc)
+  unshown a false false false z is f e h hidden = (f, e)
 
   noted : (a : Authenticator) (r : Reply)
       → r ≡ cond (is_exposed w past) Noted
+      (cond (is_below w.base (number_of w.member.log_version a)) (Refused BelowBase)
       (cond (is_shown (pair_of w.member.log_version a) (shown w past)) Already
-      (cond (has_no_room w past a) (Refused LearnedFull) Noted))
+      (cond (has_no_room w past a) (Refused LearnedFull) Noted)))
       → Exposure w ((Learn a, r) ∷ past) → Known w ((Learn a, r) ∷ past) (after_learn b a r)
   noted a Noted h x =
-      noted_known w past b a k
-      (unshown a (is_exposed w past) (is_shown (pair_of w.member.log_version a) (shown w past))
-      (has_no_room w past a) refl refl h)
-      x
+      noted_known w past b a k (λ hidden. (both hidden).0) (λ hidden. (both hidden).1) x
+    where
+      both : is_exposed w past ≡ false
+          → (is_below w.base (number_of w.member.log_version a) ≡ false)
+          × (is_shown (pair_of w.member.log_version a) (shown w past) ≡ false)
+      both =
+          unshown a (is_exposed w past) (is_below w.base (number_of w.member.log_version a))
+          (is_shown (pair_of w.member.log_version a) (shown w past)) (has_no_room w past a) refl refl refl h
   noted a r h x =
       known_quiet (Learn a, r) (record {
         notes = refl;

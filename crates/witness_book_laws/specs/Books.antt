@@ -6,11 +6,12 @@ use Rattle.authenticator.specs.declared.member.LogVersion.{LogVersion}
 use Rattle.authenticator.specs.declared.member.Member.{Member}
 use Rattle.secure_log.specs.LogEntries.Chain.{Logged}
 use Rattle.secure_log.specs.Versioned.{VersionedParts, ClosedParts}
-use Rattle.replay_spec.specs.Opening.{opening_of}
+use Rattle.witness_laws.specs.evidence_spec.Base.{base_marks}
 use Rattle.witness_laws.specs.evidence_spec.Showing.{ShowingParts}
-use Rattle.witness_laws.specs.evidence_spec.Evidence.{Charge, Fork, Replay, EvidenceParts}
+use Rattle.witness_laws.specs.evidence_spec.Evidence.{Charge, Fork, Replay, Based, EvidenceParts}
 use Rattle.witness_laws.specs.witness_spec.Events.{JobParts}
 use Rattle.witness_laws.specs.witness_spec.Replies.{Challenge, Indication, Exposed}
+use Rattle.witness_laws.specs.witness_spec.Starting.{KnownBase, start_number, start_state}
 use Rattle.witness_laws.specs.witness_spec.Pairs.{Pair, pair_of, first_pair, last_of, marks_of}
 use Rattle.witness_laws.specs.witness_spec.Standing.{End, Stage, NoAudit, Wanted, Given, Out}
 use Rattle.witness_laws.specs.witness_spec.Standing.{without_evidence}
@@ -22,6 +23,8 @@ pub record Book : Type 0 where
   pub node : ℕ
   -- the version of its log
   pub log_version : LogVersion
+  -- the base from which its audit began, if it did from one
+  pub base : Option KnownBase
   -- the last number that was audited, and the state there
   pub end : End
   -- how far the audit is, with the segment that is given or out
@@ -39,12 +42,13 @@ pub record Book : Type 0 where
   -- the evidence, if the node is exposed
   pub evidence : Option EvidenceParts
 
--- the book of a member at first
-abbrev pub book_opening : Member → Book
-book_opening m = record {
+-- the book of a member at first, from its base if there is one
+abbrev pub book_starting : Member → Option KnownBase → Book
+book_starting m base = record {
   node = m.node;
   log_version = m.log_version;
-  end = record { number = 0; state = opening_of m };
+  base = base;
+  end = record { number = start_number base; state = start_state m base };
   stage = NoAudit;
   begun = 0;
   learned = [];
@@ -69,18 +73,25 @@ newer_closing old (Some new) = new.closing
 abbrev pub charged_pairs : Charge → List Pair
 charged_pairs (Fork f) = pair_of f.log_version (newer_closing f.a f.b) ∷ []
 charged_pairs (Replay s) = []
+charged_pairs (Based b s) = []
 
 -- the same of the evidence, if there is some
 abbrev pub exposing_pairs : Option EvidenceParts → List Pair
 exposing_pairs None = []
 exposing_pairs (Some e) = charged_pairs e.charge
 
--- What was shown: the pair before the first entry, what exposed the node, what is kept, and the accepted
--- segments.
+-- the marks that a base has up to its number; none without one
+abbrev pub base_pairs : Option KnownBase → List Pair
+base_pairs None = []
+base_pairs (Some b) = base_marks b.parts
+
+-- What was shown: the pair before the first entry, what exposed the node, what is kept, the accepted segments,
+-- and the base.
 abbrev pub book_shown : Book → List Pair
 book_shown b =
     first_pair
-    ∷ (exposing_pairs b.evidence ++ (map (pair_of b.log_version) b.learned ++ flat_map marks_of b.segments))
+    ∷ (exposing_pairs b.evidence
+    ++ (map (pair_of b.log_version) b.learned ++ (flat_map marks_of b.segments ++ base_pairs b.base)))
 
 -- a segment lies up to the end
 abbrev pub is_audited : (end : ℕ) → VersionedParts → Bool

@@ -1,15 +1,15 @@
 -- What holds of a book: how its parts fit together, and whose steps it is the book of.
-use Rattle.std.specs.Prelude.{◌≡◌, ◌≢◌, ◌⊎◌, ℕ, ◌+◌, ◌<◌, ◌≤◌, Bool, true, IsTrue, List, [], ◌∷◌, ◌++◌}
+use Rattle.std.specs.Prelude.{◌≡◌, ◌≢◌, ◌⊎◌, ℕ, ◌+◌, ◌<◌, ◌≤◌, Bool, true, false, Option, IsTrue, List, [], ◌∷◌, ◌++◌}
 use Rattle.std.specs.List.{AllByRecursion}
 use Rattle.std.specs.FinMap.{contains_key}
 use Rattle.authenticator.specs.declared.authenticator.Authenticator.{Authenticator}
 use Rattle.authenticator.specs.declared.member.LogVersion.{LogVersion}
-use Rattle.authenticator.specs.declared.member.Member.{Member}
 use Rattle.authenticator.specs.Numbers.{number_in}
 use Rattle.secure_log.specs.Versioned.{VersionedParts, versioned_links}
 use Rattle.witness_laws.specs.state_spec.State.{State}
 use Rattle.secure_log.specs.LogEntries.Chain.{IsAmong, span}
 use Rattle.secure_log.specs.LogEntries.Words.{MaySkip}
+use Rattle.witness_laws.specs.witness_spec.Starting.{KnownBase, start_number, start_pairs, is_below}
 use Rattle.witness_laws.specs.witness_spec.Watched.{Watched}
 use Rattle.witness_laws.specs.witness_spec.Steps.{Past}
 use Rattle.witness_laws.specs.witness_spec.Pairs.{pair_of, number_of, first_of, last_of, marks_of}
@@ -76,8 +76,8 @@ IsMore end is_exposed (Wanted first last) more = (more ≡ []) × (first ≡ end
 IsMore end is_exposed (Given c) more = IsOne end c.segment more
 IsMore end is_exposed (Out c) more = IsOne end c.segment more
 
--- The accepted segments are those that were audited, which hold each number from 1 to the end, and one more
--- at most.
+-- The accepted segments are those that were audited, which hold each number from where the audit began to the
+-- end, and one more at most.
 pub record AreTiles (b : Book) : Type 0 where
   -- those that were audited
   pub audited : List VersionedParts
@@ -85,8 +85,8 @@ pub record AreTiles (b : Book) : Type 0 where
   pub more : List VersionedParts
   -- all are these
   pub are : b.segments ≡ audited ++ more
-  -- they follow on one another from 1 to the end
-  pub tile : Tile 1 audited (b.end.number + 1)
+  -- they follow on one another from the number after the one where the audit began to the end
+  pub tile : Tile (start_number b.base + 1) audited (b.end.number + 1)
   -- the one more is the audit's
   pub rest : IsMore b.end.number (exposed b) b.stage more
 
@@ -107,8 +107,20 @@ AgreesAt v (Out c) learned =
     (a : Authenticator) → IsAmong a learned → number_of v a ≤ last_of c.segment
     → IsAmong (pair_of v a) (marks_of c.segment)
 
+-- Each number up to the one where an audit begins was shown at first, but what lies below the base.
+pub record IsStart (base : Option KnownBase) : Type 0 where
+  -- that number isn't below the base
+  pub own : is_below base (start_number base) ≡ false
+  -- each has a mark
+  pub marks : (number : ℕ) → is_below base number ≡ false → number ≤ start_number base
+      → (mark : List ℕ) × IsAmong (number, mark) (start_pairs base)
+
 -- The parts of a book fit together.
 pub record FitsTogether (b : Book) : Type 0 where
+  -- the end is where the audit began, or after it
+  pub begun : start_number b.base ≤ b.end.number
+  -- what was shown at first has a mark there
+  pub started : IsStart b.base
   -- what is kept lies above the end
   pub above : (a : Authenticator) → IsAmong a b.learned → b.end.number < number_of b.log_version a
   -- its numbers differ
@@ -126,16 +138,18 @@ pub record FitsTogether (b : Book) : Type 0 where
 
 -- ---- whose book it is
 
--- A book is of a member: of its node, whose log is of the member's version.
-pub record IsOfMember (m : Member) (b : Book) : Type 0 where
+-- A book is of a member: of its node, whose log is of the member's version, and from its base, if there is one.
+pub record IsOfMember (w : Watched) (b : Book) : Type 0 where
   -- the node's number
-  pub node : b.node ≡ m.node
+  pub node : b.node ≡ w.member.node
   -- the version of its log
-  pub version : b.log_version ≡ m.log_version
+  pub version : b.log_version ≡ w.member.log_version
+  -- the base from which its audit began
+  pub base : b.base ≡ w.base
 
 -- A book is that of a member after these own steps: it is of that member, and holds what the steps say.
 pub record IsBookOf (w : Watched) (past : Past) (b : Book) : Type 0 where
   -- it is the member's
-  pub of_member : IsOfMember w.member b
+  pub of_member : IsOfMember w b
   -- it holds what the steps say
   pub stands : StandsFor w past (parts_of b)

@@ -2,28 +2,28 @@
 use Rattle.std.specs.Prelude.{◌+◌, not, nat_lt, List, [], ◌∷◌, ◌++◌, filter, drop}
 use Rattle.std.specs.Prelude.{Option, Some, None, option_map, option_and_then}
 use Rattle.authenticator.specs.declared.authenticator.Authenticator.{Authenticator}
-use Rattle.authenticator.specs.declared.member.Member.{Member}
 use Rattle.authenticator.specs.declared.member.LogVersion.{LogVersion}
-use Rattle.secure_log.specs.LogEntries.Chain.{zeros}
 use Rattle.secure_log.specs.Versioned.{VersionedParts, ClosedParts}
 use Rattle.envelopes.specs.Acknowledgement.{acked_message}
 use Rattle.envelopes.specs.declared.envelope.Envelope.{Envelope}
 use Rattle.envelopes.specs.declared.acknowledgement.Ack.{Ack}
 use Rattle.replay_spec.specs.Replay.{Verdict, Sound, Fault}
 use Rattle.witness_laws.specs.evidence_spec.Showing.{ShowingParts, authenticator_showing, versioned_showing}
-use Rattle.witness_laws.specs.evidence_spec.Evidence.{Charge, Replay, EvidenceParts}
+use Rattle.witness_laws.specs.evidence_spec.Evidence.{Charge, EvidenceParts}
 use Rattle.witness_laws.specs.witness_spec.Events.{JobParts, DoneParts}
 use Rattle.witness_laws.specs.witness_spec.Replies.{Reply, Noted, Opened, Accepted, Closed, Asked, Job, Filed}
 use Rattle.witness_laws.specs.witness_spec.Replies.{Returned}
 use Rattle.witness_laws.specs.witness_spec.Replies.{Forwarded, AuditOf, SendOf}
+use Rattle.witness_laws.specs.witness_spec.Starting.{start_number, start_hash}
+use Rattle.witness_laws.specs.witness_spec.Watched.{Watched}
 use Rattle.witness_laws.specs.witness_spec.Steps.{Step, Learn, SendChallenge, Answer, AckIn, Audit, Begin}
 use Rattle.witness_laws.specs.witness_spec.Steps.{File, PutBack}
 use Rattle.witness_laws.specs.witness_spec.Steps.{Forward, Ask, Past}
 use Rattle.witness_laws.specs.witness_spec.Pairs.{Pair, pair_of, first_fork, number_of, last_of, marks_of}
 use Rattle.witness_laws.specs.witness_spec.Standing.{moved_by, sound_found, is_answered, is_send_of}
 use Rattle.witness_laws.specs.witness_spec.Standing.{NoAudit, Wanted, Given, Out}
-use Rattle.witness_laws.specs.witness_spec.Exposing.{fork_of}
-use Rattle.witness_book_laws.specs.Books.{Book, book_opening, book_shown, book_audited}
+use Rattle.witness_laws.specs.witness_spec.Exposing.{fork_of, replay_from}
+use Rattle.witness_book_laws.specs.Books.{Book, book_starting, book_shown, book_audited}
 
 -- ---- evidence
 
@@ -40,15 +40,15 @@ first_evidence (Some e) new = Some e
 abbrev pub fork_evidence : Book → (new : ShowingParts) → List Pair → Option EvidenceParts
 fork_evidence b new pairs =
     evidence_of b
-    (option_and_then (fork_of b.log_version b.learned b.segments new) (first_fork pairs (book_shown b)))
+    (option_and_then (fork_of b.base b.log_version b.learned b.segments new) (first_fork pairs (book_shown b)))
 
--- all audited entries and those of a segment, with its closing
+-- all audited entries and those of a segment, with its closing, from where the audit began
 abbrev pub audited_with : Book → VersionedParts → VersionedParts
 audited_with b s = record {
   log_version = b.log_version;
   node = b.node;
-  first = 1;
-  opening = zeros;
+  first = start_number b.base + 1;
+  opening = start_hash b.base;
   entries = book_audited b ++ s.entries;
   closing = s.closing;
 }
@@ -56,7 +56,7 @@ audited_with b s = record {
 -- the charge that a verdict on a segment brings
 abbrev pub verdict_charge : Book → VersionedParts → Verdict → Option Charge
 verdict_charge b s (Sound t found) = None
-verdict_charge b s (Fault fault number) = Some (Replay (audited_with b s))
+verdict_charge b s (Fault fault number) = Some (replay_from b.base (audited_with b s))
 
 -- the evidence after an authenticator that was noted
 abbrev pub evidence_noted : Book → Authenticator → Option EvidenceParts
@@ -165,6 +165,6 @@ book_after b Forward reply = after_forward b reply
 book_after b (Ask question) reply = b
 
 -- the book of a member after its own steps
-abbrev pub book_after_steps : Member → Past → Book
-book_after_steps m [] = book_opening m
-book_after_steps m (p ∷ past) = book_after (book_after_steps m past) p.0 p.1
+abbrev pub book_after_steps : Watched → Past → Book
+book_after_steps w [] = book_starting w.member w.base
+book_after_steps w (p ∷ past) = book_after (book_after_steps w past) p.0 p.1

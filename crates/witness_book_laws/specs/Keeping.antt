@@ -1,5 +1,6 @@
 -- How much a book keeps at most.
 use Rattle.std.specs.Prelude.{ℕ, ◌+◌, ◌-◌, ◌≤◌, length, count_by}
+use Rattle.witness_laws.specs.witness_spec.Starting.{start_number}
 use Rattle.witness_laws.specs.witness_spec.Limits.{MAX_LEARNED, MAX_CHALLENGES, MAX_AUDITED, MAX_OUTBOX}
 use Rattle.witness_laws.specs.witness_spec.Pairs.{last_of}
 use Rattle.witness_laws.specs.witness_spec.Standing.{Stage, NoAudit, Wanted, Given, Out}
@@ -19,9 +20,9 @@ pub record KeepsLimits (b : Book) : Type 0 where
   pub learned : length b.learned ≤ MAX_LEARNED
   -- open challenges with messages
   pub challenges : count_by is_send b.challenges ≤ MAX_CHALLENGES
-  -- audited numbers
-  pub end : b.end.number ≤ MAX_AUDITED
+  -- audited numbers, from where the audit began
+  pub end : b.end.number ≤ start_number b.base + MAX_AUDITED
   -- with those of the audit
-  pub last : audit_last b.end.number b.stage ≤ MAX_AUDITED
+  pub last : audit_last b.end.number b.stage ≤ start_number b.base + MAX_AUDITED
   -- the outbox, with one authenticator for each number of the audit
   pub outbox : length b.outbox + (audit_last b.end.number b.stage - b.end.number) ≤ MAX_OUTBOX

@@ -1,19 +1,19 @@
 -- What holds of books. Each is the contract of a function here.
 use Rattle.std.specs.Prelude.{◌≡◌, ◌↔◌, ℕ, false, List, ◌∷◌, map, Some, Ok}
 use Rattle.authenticator.specs.Roster.{IsRoster}
-use Rattle.authenticator.specs.declared.member.Member.{Member}
 use Rattle.secure_log.specs.Versioned.{VersionedParts}
 use Rattle.witness_laws.specs.witness_spec.Events.{Event, IsEvent}
 use Rattle.witness_laws.specs.witness_spec.Replies.{Reply}
-use Rattle.witness_laws.specs.witness_spec.Watched.{Watched, watched, IsInRoster}
+use Rattle.witness_laws.specs.witness_spec.Starting.{Beginning, IsBeginning, base_of}
+use Rattle.witness_laws.specs.witness_spec.Watched.{Watched, watched, IsInRoster, IsWatchedFrom}
 use Rattle.witness_laws.specs.witness_spec.Steps.{Step}
 use Rattle.witness_laws.specs.witness_spec.Whose.{whose}
 use Rattle.witness_laws.specs.witness_spec.Standing.{audited, is_exposed, indication, Wanted}
 use Rattle.witness_laws.specs.witness_spec.Owing.{Owes}
 use Rattle.witness_laws.specs.witness_spec.Histories.{History, IsHistory, Stands, own_of}
-use Rattle.witness_laws.specs.witness_spec.Contract.{StepsTo, BookStepsTo, opening_book}
+use Rattle.witness_laws.specs.witness_spec.Contract.{StepsTo, BookStepsTo, starting_book}
 use Rattle.witness_laws.specs.witness_spec.Pairs.{is_shown, is_fork, first_fork, first_of, marks_of}
-use Rattle.witness_book_laws.specs.Books.{Book, book_opening, exposed, book_shown, book_audited}
+use Rattle.witness_book_laws.specs.Books.{Book, book_starting, exposed, book_shown, book_audited}
 use Rattle.witness_book_laws.specs.Books.{book_indication, parts_of}
 use Rattle.witness_book_laws.specs.Replying.{BookOwes}
 use Rattle.witness_book_laws.specs.Going.{book_after, book_after_steps}
@@ -27,60 +27,61 @@ use Rattle.witness_book_laws.specs.Together.{book_at, with_book_at, AreKept}
 -- nothing else.
 abbrev pub BooksOweTheSame : Type 0
 BooksOweTheSame =
-    (w : Watched) (history : History) (step : Step) (reply : Reply)
-    → IsInRoster w → IsHistory w.roster history
+    (g : Beginning) (w : Watched) (history : History) (step : Step) (reply : Reply)
+    → IsInRoster w → IsWatchedFrom g w → IsHistory g history
     → Owes w (own_of w history) step reply
-    ↔ BookOwes (book_after_steps w.member (own_of w history)) step reply
+    ↔ BookOwes (book_after_steps w (own_of w history)) step reply
 
 -- It holds what the steps say.
 abbrev pub BooksAreOfTheirSteps : Type 0
 BooksAreOfTheirSteps =
-    (w : Watched) (history : History)
-    → IsInRoster w → IsHistory w.roster history
-    → IsBookOf w (own_of w history) (book_after_steps w.member (own_of w history))
+    (g : Beginning) (w : Watched) (history : History)
+    → IsInRoster w → IsWatchedFrom g w → IsHistory g history
+    → IsBookOf w (own_of w history) (book_after_steps w (own_of w history))
 
 -- Its parts fit together.
 abbrev pub BooksFitTogether : Type 0
 BooksFitTogether =
-    (w : Watched) (history : History)
-    → IsInRoster w → IsHistory w.roster history
-    → FitsTogether (book_after_steps w.member (own_of w history))
+    (g : Beginning) (w : Watched) (history : History)
+    → IsInRoster w → IsWatchedFrom g w → IsHistory g history
+    → FitsTogether (book_after_steps w (own_of w history))
 
 -- It has evidence exactly if the node is exposed.
 abbrev pub BooksHaveEvidenceIfExposed : Type 0
 BooksHaveEvidenceIfExposed =
-    (w : Watched) (history : History)
-    → IsInRoster w → IsHistory w.roster history
-    → exposed (book_after_steps w.member (own_of w history)) ≡ is_exposed w (own_of w history)
+    (g : Beginning) (w : Watched) (history : History)
+    → IsInRoster w → IsWatchedFrom g w → IsHistory g history
+    → exposed (book_after_steps w (own_of w history)) ≡ is_exposed w (own_of w history)
 
 -- It tells the indication that is told of the node.
 abbrev pub BooksTellTheIndication : Type 0
 BooksTellTheIndication =
-    (w : Watched) (history : History)
-    → IsInRoster w → IsHistory w.roster history
-    → book_indication (book_after_steps w.member (own_of w history)) ≡ indication w (own_of w history)
+    (g : Beginning) (w : Watched) (history : History)
+    → IsInRoster w → IsWatchedFrom g w → IsHistory g history
+    → book_indication (book_after_steps w (own_of w history)) ≡ indication w (own_of w history)
 
 -- The entries of its audited segments are those that were audited.
 abbrev pub BooksHaveTheAudited : Type 0
 BooksHaveTheAudited =
-    (w : Watched) (history : History)
-    → IsInRoster w → IsHistory w.roster history
-    → book_audited (book_after_steps w.member (own_of w history)) ≡ audited w (own_of w history)
+    (g : Beginning) (w : Watched) (history : History)
+    → IsInRoster w → IsWatchedFrom g w → IsHistory g history
+    → book_audited (book_after_steps w (own_of w history)) ≡ audited w (own_of w history)
 
 -- The books of all members stand for the history.
 abbrev pub BooksStand : Type 0
 BooksStand =
-    (ms : List Member) (history : History) → IsRoster ms → IsHistory ms history
-    → Stands ms (map (λ m. parts_of (book_after_steps m (own_of (watched ms m) history))) ms) history
+    (g : Beginning) (history : History) → IsRoster g.roster → IsBeginning g → IsHistory g history
+    → Stands g
+    (map (λ m. parts_of (book_after_steps (watched g m) (own_of (watched g m) history))) g.roster) history
 
 -- ---- any book
 
 -- A book goes on with a member's step: the event with its reply makes the history longer, and the book after
 -- it fits together and is that of the member's own steps of the longer history.
-pub record GoesOn (w : Watched) (history : History) (event : Event) (step : Step) (reply : Reply)
+pub record GoesOn (g : Beginning) (w : Watched) (history : History) (event : Event) (step : Step) (reply : Reply)
     (b : Book) : Type 0 where
   -- the history is longer
-  pub is : IsHistory w.roster ((event, reply) ∷ history)
+  pub is : IsHistory g ((event, reply) ∷ history)
   -- the parts fit together
   pub fits : FitsTogether (book_after b step reply)
   -- the book is of the steps
@@ -89,60 +90,65 @@ pub record GoesOn (w : Watched) (history : History) (event : Event) (step : Step
 -- Any book that fits together owes, after every history for which it stands as the member's, what is owed.
 abbrev pub AnyBookOwesTheSame : Type 0
 AnyBookOwesTheSame =
-    (w : Watched) (history : History) (b : Book) (step : Step) (reply : Reply)
-    → IsInRoster w → IsHistory w.roster history
+    (g : Beginning) (w : Watched) (history : History) (b : Book) (step : Step) (reply : Reply)
+    → IsInRoster w → IsWatchedFrom g w → IsHistory g history
     → FitsTogether b → IsBookOf w (own_of w history) b
     → Owes w (own_of w history) step reply ↔ BookOwes b step reply
 
 -- With an event that may be handed in and is the member's step, and the reply that the book owes, it goes on.
 abbrev pub AnyBookGoesOn : Type 0
 AnyBookGoesOn =
-    (w : Watched) (history : History) (b : Book) (event : Event) (step : Step) (reply : Reply)
-    → IsInRoster w → IsHistory w.roster history
+    (g : Beginning) (w : Watched) (history : History) (b : Book) (event : Event) (step : Step) (reply : Reply)
+    → IsInRoster w → IsWatchedFrom g w → IsHistory g history
     → FitsTogether b → IsBookOf w (own_of w history) b
     → IsEvent event → whose w.roster event ≡ Ok (record { member = w.member; step = step })
     → BookOwes b step reply
-    → GoesOn w history event step reply b
+    → GoesOn g w history event step reply b
 
 -- Such a step keeps the contract of a book, whatever the history for which the book stood.
 abbrev pub AnyBookKeepsItsContract : Type 0
 AnyBookKeepsItsContract =
     (w : Watched) (b : Book) (event : Event) (step : Step) (reply : Reply)
-    → IsInRoster w → FitsTogether b → IsOfMember w.member b
+    → IsInRoster w → FitsTogether b → IsOfMember w b
     → IsEvent event → whose w.roster event ≡ Ok (record { member = w.member; step = step })
     → BookOwes b step reply
     → BookStepsTo w (parts_of b) step reply (parts_of (book_after b step reply))
 
--- A book that goes on from a member's opening book stands, as the opening book of the contract does.
-abbrev pub OpeningsStand : Type 0
-OpeningsStand =
-    (m : Member) → (parts_of (book_opening m) ≡ opening_book m) × FitsTogether (book_opening m)
+-- A member's book at first is that of the contract, and fits together.
+abbrev pub StartsStand : Type 0
+StartsStand =
+    (w : Watched) → IsInRoster w
+    → (parts_of (book_starting w.member w.base) ≡ starting_book w.member w.base)
+    × FitsTogether (book_starting w.member w.base)
 
 -- ---- the books of all members
 
--- The opening books of a roster's members are kept.
-abbrev pub OpeningBooksAreKept : Type 0
-OpeningBooksAreKept = (ms : List Member) → AreKept ms (map book_opening ms)
+-- The books of a beginning's members are kept at first.
+abbrev pub StartingBooksAreKept : Type 0
+StartingBooksAreKept =
+    (g : Beginning) → IsRoster g.roster → IsBeginning g
+    → AreKept g (map (λ m. book_starting m (base_of g m.node)) g.roster)
 
 -- Where an event is a member's step, and the reply is the one that its book owes, the books with that one
 -- gone on keep the contract of all books, and are kept.
 abbrev pub KeptBooksStep : Type 0
 KeptBooksStep =
-    (w : Watched) (books : List Book) (b : Book) (event : Event) (step : Step) (reply : Reply)
-    → IsRoster w.roster → AreKept w.roster books
+    (g : Beginning) (w : Watched) (books : List Book) (b : Book) (event : Event) (step : Step) (reply : Reply)
+    → IsRoster w.roster → IsWatchedFrom g w → AreKept g books
     → IsEvent event → whose w.roster event ≡ Ok (record { member = w.member; step = step })
     → book_at w.roster books w.member.node ≡ Some b → BookOwes b step reply
-    → StepsTo w.roster (map parts_of books) event reply
+    → StepsTo g (map parts_of books) event reply
     (map parts_of (with_book_at w.roster w.member.node (book_after b step reply) books))
-    × AreKept w.roster (with_book_at w.roster w.member.node (book_after b step reply) books)
+    × AreKept g (with_book_at w.roster w.member.node (book_after b step reply) books)
 
 -- ---- what a book looks up
 
 -- A book that is kept, of a member whose node isn't exposed, shows one mark at each number.
 abbrev pub KeptBooksHaveOneMark : Type 0
 KeptBooksHaveOneMark =
-    (w : Watched) (books : List Book) (b : Book)
-    → AreKept w.roster books → IsInRoster w → book_at w.roster books w.member.node ≡ Some b → HasOneMark b
+    (g : Beginning) (w : Watched) (books : List Book) (b : Book)
+    → AreKept g books → IsInRoster w → IsWatchedFrom g w → book_at w.roster books w.member.node ≡ Some b
+    → HasOneMark b
 
 -- What such a book looks up at a number tells whether a pair was shown, and whether another mark is there.
 abbrev pub LookUpsTell : Type 0
@@ -165,15 +171,15 @@ AnAnswerLooksUp =
 -- A member's book after its own steps of a history keeps its limits.
 abbrev pub BooksKeepLimits : Type 0
 BooksKeepLimits =
-    (w : Watched) (history : History)
-    → IsInRoster w → IsHistory w.roster history
-    → KeepsLimits (book_after_steps w.member (own_of w history))
+    (g : Beginning) (w : Watched) (history : History)
+    → IsInRoster w → IsWatchedFrom g w → IsHistory g history
+    → KeepsLimits (book_after_steps w (own_of w history))
 
 -- So does any book that fits together, stands for them and keeps its limits, with each further step.
 abbrev pub AnyBookKeepsLimits : Type 0
 AnyBookKeepsLimits =
-    (w : Watched) (history : History) (b : Book) (event : Event) (step : Step) (reply : Reply)
-    → IsInRoster w → IsHistory w.roster history
+    (g : Beginning) (w : Watched) (history : History) (b : Book) (event : Event) (step : Step) (reply : Reply)
+    → IsInRoster w → IsWatchedFrom g w → IsHistory g history
     → FitsTogether b → IsBookOf w (own_of w history) b → KeepsLimits b
     → IsEvent event → whose w.roster event ≡ Ok (record { member = w.member; step = step })
     → BookOwes b step reply

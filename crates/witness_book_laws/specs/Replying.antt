@@ -6,7 +6,7 @@ use Rattle.secure_log.specs.Versioned.{ClosedParts}
 use Rattle.envelopes.specs.Acknowledgement.{acked_message}
 use Rattle.envelopes.specs.declared.envelope.Envelope.{Envelope}
 use Rattle.envelopes.specs.declared.acknowledgement.Ack.{Ack}
-use Rattle.witness_laws.specs.witness_spec.Refusals.{LearnedFull, NothingToAudit, Busy, NoJob, WrongJob}
+use Rattle.witness_laws.specs.witness_spec.Refusals.{LearnedFull, NothingToAudit, Busy, NoJob, WrongJob, BelowBase}
 use Rattle.witness_laws.specs.witness_spec.Events.{JobParts, DoneParts, Question, ItsIndication}
 use Rattle.witness_laws.specs.witness_spec.Events.{ItsChallenges}
 use Rattle.witness_laws.specs.witness_spec.Events.{ItsEvidence}
@@ -14,6 +14,7 @@ use Rattle.witness_laws.specs.witness_spec.Replies.{Reply, Noted, Already, Job, 
 use Rattle.witness_laws.specs.witness_spec.Replies.{OpenList}
 use Rattle.witness_laws.specs.witness_spec.Replies.{EvidenceIs}
 use Rattle.witness_laws.specs.witness_spec.Replies.{Refused, FileRefused, PutBackRefused}
+use Rattle.witness_laws.specs.witness_spec.Starting.{start_number, is_below}
 use Rattle.witness_laws.specs.witness_spec.Steps.{Step, Learn, SendChallenge, Answer, AckIn, Audit, Begin}
 use Rattle.witness_laws.specs.witness_spec.Steps.{File, PutBack}
 use Rattle.witness_laws.specs.witness_spec.Steps.{Forward, Ask}
@@ -37,6 +38,7 @@ has_no_room b a =
 abbrev pub reply_to_learn : Book → Authenticator → Reply
 reply_to_learn b a =
     if exposed b then Noted
+    else if is_below b.base (number_of b.log_version a) then Refused BelowBase
     else if is_shown (pair_of b.log_version a) (book_shown b) then Already
     else if has_no_room b a then Refused LearnedFull
     else Noted
@@ -55,7 +57,8 @@ reply_to_ack b a = ack_reply b.challenges (acked_message a)
 
 -- to an audit, by its stage
 abbrev pub reply_to_audit : Book → Stage → Reply
-reply_to_audit b NoAudit = ask_reply b.log_version (exposed b) b.end.number (length b.outbox) b.learned
+reply_to_audit b NoAudit =
+    ask_reply b.log_version (exposed b) (start_number b.base) b.end.number (length b.outbox) b.learned
 reply_to_audit b (Wanted first last) = Refused Busy
 reply_to_audit b (Given c) = Refused Busy
 reply_to_audit b (Out c) = Refused Busy

@@ -1,6 +1,8 @@
--- The books of all members of a roster.
+-- The books of all members of a beginning.
 use Rattle.std.specs.Prelude.{ℕ, ◌==◌, List, [], ◌∷◌, map, Option, Some, None, if◌then◌else◌}
 use Rattle.authenticator.specs.declared.member.Member.{Member}
+use Rattle.witness_laws.specs.witness_spec.Starting.{Beginning, IsBeginning}
+use Rattle.witness_laws.specs.witness_spec.Watched.{watched}
 use Rattle.witness_laws.specs.witness_spec.Contract.{AreBooks}
 use Rattle.witness_book_laws.specs.Books.{Book, parts_of}
 use Rattle.witness_book_laws.specs.Fitting.{FitsTogether, IsOfMember}
@@ -18,16 +20,19 @@ with_book_at (m ∷ ms) node new [] = []
 with_book_at (m ∷ ms) node new (b ∷ books) =
     if m.node == node then new ∷ books else b ∷ with_book_at ms node new books
 
--- Each member has a book of its own, whose parts fit together.
-abbrev pub FitEach : List Member → List Book → Type 0
-FitEach [] [] = Unit {0}
-FitEach [] (b ∷ books) = ⊥
-FitEach (m ∷ ms) [] = ⊥
-FitEach (m ∷ ms) (b ∷ books) = IsOfMember m b × FitsTogether b × FitEach ms books
+-- Each of these members of a beginning has a book of its own, whose parts fit together.
+abbrev pub FitEach : Beginning → List Member → List Book → Type 0
+FitEach g [] [] = Unit {0}
+FitEach g [] (b ∷ books) = ⊥
+FitEach g (m ∷ ms) [] = ⊥
+FitEach g (m ∷ ms) (b ∷ books) = IsOfMember (watched g m) b × FitsTogether b × FitEach g ms books
 
--- Books as a program keeps them: each fits together, and all of them stand for a history.
-pub record AreKept (ms : List Member) (books : List Book) : Type 0 where
+-- Books as a program keeps them: they begin with good bases, each fits together, and all of them stand for a
+-- history.
+pub record AreKept (g : Beginning) (books : List Book) : Type 0 where
+  -- its bases are good, and no two are of one node
+  pub begins : IsBeginning g
   -- each fits together
-  pub fit : FitEach ms books
+  pub fit : FitEach g g.roster books
   -- they stand for a history
-  pub are : AreBooks ms (map parts_of books)
+  pub are : AreBooks g (map parts_of books)

@@ -3,11 +3,11 @@
 ghost use Rattle.witness_book_laws.specs.Laws.{BooksOweTheSame, BooksAreOfTheirSteps, BooksFitTogether};
 ghost use Rattle.witness_book_laws.specs.Laws.{BooksTellTheIndication, BooksHaveTheAudited, BooksStand};
 ghost use Rattle.witness_book_laws.specs.Laws.{BooksHaveEvidenceIfExposed, AnyBookOwesTheSame, AnyBookGoesOn};
-ghost use Rattle.witness_book_laws.specs.Laws.{AnyBookKeepsItsContract, OpeningsStand, OpeningBooksAreKept};
+ghost use Rattle.witness_book_laws.specs.Laws.{AnyBookKeepsItsContract, StartsStand, StartingBooksAreKept};
 ghost use Rattle.witness_book_laws.specs.Laws.{KeptBooksStep, KeptBooksHaveOneMark, LookUpsTell};
 ghost use Rattle.witness_book_laws.specs.Laws.{AnAnswerLooksUp};
 ghost use Rattle.witness_book_laws.specs.Laws.{BooksKeepLimits, AnyBookKeepsLimits};
-ghost use Rattle.witness_book_laws.specs.ReadyLaws.{OpeningBooksAreReady, ReadyBooksStep, ReadyBooksAreReady};
+ghost use Rattle.witness_book_laws.specs.ReadyLaws.{StartingBooksAreReady, ReadyBooksStep, ReadyBooksAreReady};
 ghost use Rattle.witness_book_laws.specs.ReadyLaws.{StepsAreOfTheLog};
 
 /// A member's book after its own steps of a history replies to each further step what is owed to it after
@@ -26,8 +26,9 @@ pub fn books_stand()
 {}
 
 /// Its parts fit together: what is kept lies above the end, and its numbers differ; the accepted segments
-/// hold each number from 1 to the end, and one more segment at most was accepted; the messages in the end's
-/// state have numbers up to the end; and the audited entries are those of the segments up to the end.
+/// hold each number from where the audit began to the end, and one more segment at most was accepted; the
+/// messages in the end's state have numbers up to the end; and the audited entries are those of the segments
+/// up to the end.
 pub fn parts_fit_together()
     ensures fit { BooksFitTogether }
     ensures audited { BooksHaveTheAudited }
@@ -42,24 +43,24 @@ pub fn any_book_goes_on()
 {}
 
 /// So a step by these equations keeps the contract of a member's book, whatever the history was: it is a step
-/// of all books, as `witness_laws::books` has it. A member's opening book is that of the contract, and fits
+/// of all books, as `witness_laws::books` has it. A member's book at first is that of the contract, and fits
 /// together.
 pub fn equations_keep_the_contract()
     ensures step { AnyBookKeepsItsContract }
-    ensures opening { OpeningsStand }
+    ensures starting { StartsStand }
 {}
 
-/// The opening books of all members are kept; and where an event is a member's step, and the reply is the
+/// The books of all members are kept at first; and where an event is a member's step, and the reply is the
 /// one that this member's book owes, the books with that one gone on keep the contract of all books, and are
 /// kept.
 pub fn kept_books_step()
-    ensures opening { OpeningBooksAreKept }
+    ensures starting { StartingBooksAreKept }
     ensures step { KeptBooksStep }
 {}
 
 /// Where a node isn't exposed, its book shows one mark at each number, and what it looks up there tells
-/// whether a pair was shown and whether it makes a fork: zeros at 0, else the hash in the accepted segment
-/// that holds the number, else that of what is kept there.
+/// whether a pair was shown and whether it makes a fork: the base's mark, else zeros at 0, else the hash in the
+/// accepted segment that holds the number, else that of what is kept there.
 pub fn look_ups_tell()
     ensures one { KeptBooksHaveOneMark }
     ensures tell { LookUpsTell }
@@ -73,20 +74,22 @@ pub fn answers_look_up()
 {}
 
 /// A book keeps its limits over every history, and with each step: at most `MAX_LEARNED` authenticators,
-/// `MAX_CHALLENGES` open challenges with messages and `MAX_AUDITED` audited entries, those of the open audit
-/// among them; and the outbox, at most `MAX_OUTBOX`, has room for what the audit can find.
+/// `MAX_CHALLENGES` open challenges with messages and `MAX_AUDITED` audited entries from where the audit began
+/// on, those of the open audit among them; and the outbox, at most `MAX_OUTBOX`, has room for what the audit
+/// can find.
 pub fn limits_are_kept()
     ensures own { BooksKeepLimits }
     ensures any { AnyBookKeepsLimits }
 {}
 
-/// The opening books of all members can make their steps: each fits together, shows one mark at each number
+/// The books of all members can make their steps at first: each fits together, shows one mark at each number
 /// unless its node is exposed, keeps its limits, and has a state that knows no more messages of either kind
-/// than the end's number. Where an event is a member's step, and the reply is the one that this member's
-/// book owes, the books with that one gone on keep the contract of all books, and can make their steps again.
+/// than may be known where the audit began, and one for each number since. Where an event is a member's step,
+/// and the reply is the one that this member's book owes, the books with that one gone on keep the contract of
+/// all books, and can make their steps again.
 /// A step gives a member's book only segments of logs of the member's version.
 pub fn books_are_ready()
-    ensures opening { OpeningBooksAreReady }
+    ensures starting { StartingBooksAreReady }
     ensures step { ReadyBooksStep }
     ensures ready { ReadyBooksAreReady }
     ensures of_log { StepsAreOfTheLog }

@@ -2,7 +2,7 @@
 -- Serves: as_many_as_are_kept, after_as_many_as_are_kept.
 use Rattle.std.proofs.Common.{◌≡◌, ℕ, zero, suc, ◌<◌, ◌≤◌, ◌||◌, sym, Bool, true, false, cond, not, ◌==◌}
 use Rattle.std.proofs.Common.{◌&&◌, nat_lt}
-use Rattle.std.proofs.Common.{nat_le, List, [], ◌∷◌, ◌++◌, length, filter, Option, Some}
+use Rattle.std.proofs.Common.{nat_le, List, [], ◌∷◌, ◌++◌, length, filter, Option, Some, None}
 use Rattle.std.proofs.Common.{refl, ap, ap₂, ◌∙◌, arith, lt-ltb}
 use Rattle.std.specs.Prelude.{option_map, option_and_then}
 use Rattle.std.proofs.lemmas.Bool.{and_left, or_from, true≢false}
@@ -203,11 +203,11 @@ against o = option_map (λ g. record { node = 5; charge = g }) o
 evidence_after : (past : Past) (a : Authenticator) (k : List Authenticator) (s : List Pair)
     → is_exposed node_five past ≡ false → kept node_five past ≡ k → shown node_five past ≡ s
     → evidence node_five ((Learn a, Noted) ∷ past)
-    ≡ against (option_and_then (fork_of One k (all_accepted past) (authenticator_showing One a))
+    ≡ against (option_and_then (fork_of None One k (all_accepted past) (authenticator_showing One a))
     (first_fork (pair_of One a ∷ []) s))
 evidence_after past a k s hidden is there =
     ap (λ b. cond b (evidence node_five past) (against (new_charge node_five past (Learn a) Noted))) hidden
-    ∙ ap₂ (λ l ps. against (option_and_then (fork_of One l (all_accepted past) (authenticator_showing One a))
+    ∙ ap₂ (λ l ps. against (option_and_then (fork_of None One l (all_accepted past) (authenticator_showing One a))
     (first_fork (pair_of One a ∷ []) ps))) is there
 
 kept_is : kept node_five (learned_to 256) ≡ list_to 256
@@ -222,7 +222,7 @@ two_at_three =
 
 worked_out : (segments : List VersionedParts)
     → against (option_and_then
-    (fork_of One (list_to 256) segments (authenticator_showing One (learned 3 other_hash)))
+    (fork_of None One (list_to 256) segments (authenticator_showing One (learned 3 other_hash)))
     (first_fork (pair_of One (learned 3 other_hash) ∷ []) (pairs_to 256))) ≡ Some two_at_three
 unfolding pairs_to list_to
 worked_out segments = refl

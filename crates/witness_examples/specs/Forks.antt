@@ -17,8 +17,9 @@ use Rattle.witness_spec.specs.evidence_spec.Showing.{ShowingParts}
 use Rattle.witness_spec.specs.evidence_spec.Evidence.{Fork, EvidenceParts}
 use Rattle.witness_spec.specs.Events.{JobParts}
 use Rattle.witness_spec.specs.Replies.{Noted, Accepted, Asked, Job, Filed}
-use Rattle.witness_spec.specs.Watched.{Watched, watched}
+use Rattle.witness_spec.specs.Watched.{Watched}
 use Rattle.witness_spec.specs.Steps.{Learn, Answer, Audit, Begin, File, Past}
+use Rattle.witness_examples.specs.Reaching.{watched_in}
 use Rattle.witness_examples.specs.Worked.{five, learned, one_hash, other_hash, closed, filed_two, learned_to}
 use Rattle.witness_examples.specs.Worked.{state_read}
 
@@ -136,7 +137,7 @@ five_two = record five { log_version = Two }
 
 -- its node, under a roster that has it alone
 abbrev pub node_two : Watched
-node_two = watched (five_two ∷ []) five_two
+node_two = watched_in (five_two ∷ []) five_two
 
 -- its authenticator of a hash at number 3, just before which so many numbers are skipped
 abbrev pub skipping : (skipped : ℕ) (hash : List ℕ) → Authenticator

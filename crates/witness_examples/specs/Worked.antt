@@ -25,9 +25,10 @@ use Rattle.witness_spec.specs.Events.{PublicKey, JobParts, DoneParts, ItsIndicat
 use Rattle.witness_spec.specs.Events as events
 use Rattle.witness_spec.specs.Replies.{Noted, Opened, Accepted, Asked, Job, Filed, Returned}
 use Rattle.witness_spec.specs.Replies.{Told, Refused, Trusted}
-use Rattle.witness_spec.specs.Watched.{Watched, watched}
+use Rattle.witness_spec.specs.Watched.{Watched}
 use Rattle.witness_spec.specs.Histories.{History}
 use Rattle.witness_spec.specs.Steps.{Learn, SendChallenge, Answer, Audit, Begin, File, PutBack, Past}
+use Rattle.witness_examples.specs.Reaching.{watched_in}
 
 -- a client
 abbrev pub five : Member
@@ -35,7 +36,7 @@ five = record { node = 5; kind = Client; root = 5 ∷ []; height = 1; log_versio
 
 -- its node, under a roster of nobody
 abbrev pub node_five : Watched
-node_five = watched [] five
+node_five = watched_in [] five
 
 -- its key
 abbrev pub its_key : PublicKey

@@ -2,13 +2,13 @@
 //! histories stand in `limits`.
 
 ghost use Rattle.std.specs.Prelude.{◌≡◌, ◌<◌, ℕ, suc, List, [], ◌∷◌, Ok};
-ghost use Rattle.authenticator.specs.declared.member.Member.{Member};
 ghost use Rattle.witness_spec.specs.Refusals.{UnknownNode, BadSignature, LearnedFull, ChallengesFull};
 ghost use Rattle.witness_spec.specs.Refusals.{NothingToAudit, Busy, NotAsked, NoJob, WrongJob};
 ghost use Rattle.witness_spec.specs.Refusals.{NoMemory, refusal_number};
 ghost use Rattle.witness_spec.specs.Events.{ItsIndication, ItsChallenges, ItsEvidence, Event, IsEvent};
 ghost use Rattle.witness_spec.specs.Events as events;
 ghost use Rattle.witness_spec.specs.Replies.{Noted, Already, Refused, FileRefused, PutBackRefused, refused};
+ghost use Rattle.witness_spec.specs.Starting.{Beginning};
 ghost use Rattle.witness_spec.specs.Steps.{Learn, SendChallenge, Answer, AckIn, Audit, Begin, File, PutBack};
 ghost use Rattle.witness_spec.specs.Whose.{whose};
 ghost use Rattle.witness_spec.specs.Owing.{Owes};
@@ -146,7 +146,7 @@ pub fn jobs_refused()
 /// Out of memory: this may come in place of any reply but what is told of an indication, and but the reply to
 /// a job that is put back. A history may begin with it.
 pub fn memory_may_be_wanting()
-    ensures any { (ms : List Member) (event : Event) → IsEvent event → MayWant event →
-        IsHistory ms ((event, refused event NoMemory) ∷ []) }
+    ensures any { (g : Beginning) (event : Event) → IsEvent event → MayWant event →
+        IsHistory g ((event, refused event NoMemory) ∷ []) }
     ensures its_number { refusal_number NoMemory ≡ 14 }
 {}

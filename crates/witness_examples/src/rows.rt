@@ -8,6 +8,7 @@ ghost use Rattle.envelopes.specs.declared.acknowledgement.Ack.{Ack};
 ghost use Rattle.envelopes.specs.declared.envelope.Envelope.{Envelope};
 ghost use Rattle.witness_spec.specs.Refusals.{WrongJob, NothingToAudit};
 ghost use Rattle.witness_spec.specs.Events.{ItsIndication, ItsChallenges, ItsEvidence};
+ghost use Rattle.witness_spec.specs.Starting.{from_the_first};
 ghost use Rattle.witness_spec.specs.Replies.{Noted, Already, Opened, Accepted, Closed, Asked, Job, Filed};
 ghost use Rattle.witness_spec.specs.Replies.{Returned};
 ghost use Rattle.witness_spec.specs.Replies.{Forwarded, Empty, Told, OpenList, EvidenceIs, Refused};
@@ -118,5 +119,5 @@ pub fn faults_expose()
 
 /// Events of a roster with the replies that are owed to them are a history: what is nobody's step among them.
 pub fn histories_are_possible()
-    ensures { IsHistory (five ∷ []) (some_events) }
+    ensures { IsHistory (from_the_first (five ∷ [])) (some_events) }
 {}

@@ -30,13 +30,14 @@ use Rattle.witness_spec.specs.Refusals.{Refusal, BadSignature}
 use Rattle.witness_spec.specs.Events.{PublicKey, Event, IsSignedUnder, IsClosedUnder, IsEvent}
 use Rattle.witness_spec.specs.Events as events
 use Rattle.witness_spec.specs.Replies.{Reply, is_want_of_memory}
-use Rattle.witness_spec.specs.Watched.{Watched, watched, IsInRoster}
+use Rattle.witness_spec.specs.Starting.{Beginning}
+use Rattle.witness_spec.specs.Watched.{Watched, watched, IsInRoster, IsWatchedFrom}
 use Rattle.witness_spec.specs.Steps.{Step, Learn, SendChallenge, Answer, AckIn, Audit, Begin, File, PutBack}
 use Rattle.witness_spec.specs.Steps.{Forward, Ask, OwnStep, Past}
 use Rattle.witness_spec.specs.Whose.{step_of, is_key_of, same_member, same_roster, signed_step, sent_step}
 use Rattle.witness_spec.specs.Whose.{closed_step, delivered_step, judged_step, whose}
 use Rattle.witness_spec.specs.Histories.{History, own_step, IsHistory, own_of}
-use Rattle.witness_laws.proofs.OwnSteps.{same_member as member_same}
+use Rattle.witness_laws.proofs.OwnSteps.{same_watched, same_member as member_same}
 
 -- an authenticator of a node that it signed, with a text
 pub record IsLearned (w : Watched) (a : Authenticator) : Type 0 where
@@ -71,8 +72,8 @@ abbrev pub AreChecked : Watched → Past → Type 0
 AreChecked w [] = Unit {0}
 AreChecked w (p ∷ past) = IsCheckedStep w p.0 × AreChecked w past
 
-abbrev IsCheckedOwn : List Member → OwnStep → Type 0
-IsCheckedOwn ms o = IsCheckedStep (watched ms o.member) o.step
+abbrev IsCheckedOwn : Beginning → OwnStep → Type 0
+IsCheckedOwn g o = IsCheckedStep (watched g o.member) o.step
 
 -- ---- rosters and keys
 
@@ -142,45 +143,45 @@ own_same : (o : OwnStep) (m : Member) (step : Step)
     → record { member = m; step = step } ≡ o
 own_same o m step h = cc
 
-to_own : (ms : List Member) (o : OwnStep) (m : Member) (step : Step) → IsCheckedStep (watched ms m) step
-    → ◌≡◌ {A = Result OwnStep Refusal} (Ok (record { member = m; step = step })) (Ok o) → IsCheckedOwn ms o
-to_own ms o m step h e = subst (IsCheckedOwn ms) (own_same o m step e) h
+to_own : (g : Beginning) (o : OwnStep) (m : Member) (step : Step) → IsCheckedStep (watched g m) step
+    → ◌≡◌ {A = Result OwnStep Refusal} (Ok (record { member = m; step = step })) (Ok o) → IsCheckedOwn g o
+to_own g o m step h e = subst (IsCheckedOwn g) (own_same o m step e) h
 
-module _ (ms : List Member) (o : OwnStep) where
-  learn_at : (a : Authenticator) (key : PublicKey) (x : Option Member) → member_of ms a.node ≡ x
+module _ (g : Beginning) (o : OwnStep) where
+  learn_at : (a : Authenticator) (key : PublicKey) (x : Option Member) → member_of g.roster a.node ≡ x
       → signed_step x key (Learn a) ≡ Ok o → Fits authenticator_item (authenticator_value a)
-      → IsSignedUnder key a → IsCheckedOwn ms o
+      → IsSignedUnder key a → IsCheckedOwn g o
   learn_at a key None is h text signed = absurd (cc)
   learn_at a key (Some m) is h text signed = by (is_key_of m key) refl h
     where
       by : (b : Bool) → is_key_of m key ≡ b
           → ◌≡◌ {A = Result OwnStep Refusal}
           (cond b (Ok (record { member = m; step = Learn a })) (Err BadSignature)) (Ok o)
-          → IsCheckedOwn ms o
+          → IsCheckedOwn g o
       by true e h =
-          to_own ms o m (Learn a)
+          to_own g o m (Learn a)
           (record {
-            node = sym (member_node ms a.node m is);
+            node = sym (member_node g.roster a.node m is);
             text = text;
-            signed = in_roster (watched ms m) a is (signed_by m key a e signed);
+            signed = in_roster (watched g m) a is (signed_by m key a e signed);
           })
           h
       by false e h = absurd (cc)
 
-  answer_at : (c : ClosedParts) (x : Option Member) → member_of ms c.segment.closing.node ≡ x
-      → closed_step x (same_roster c.roster ms) (Answer c) ≡ Ok o → IsClosedUnder c → IsCheckedOwn ms o
+  answer_at : (c : ClosedParts) (x : Option Member) → member_of g.roster c.segment.closing.node ≡ x
+      → closed_step x (same_roster c.roster g.roster) (Answer c) ≡ Ok o → IsClosedUnder c → IsCheckedOwn g o
   answer_at c None is h closed = absurd (cc)
-  answer_at c (Some m) is h closed = by (same_roster c.roster ms) refl h
+  answer_at c (Some m) is h closed = by (same_roster c.roster g.roster) refl h
     where
-      by : (b : Bool) → same_roster c.roster ms ≡ b
+      by : (b : Bool) → same_roster c.roster g.roster ≡ b
           → ◌≡◌ {A = Result OwnStep Refusal}
           (cond b (Ok (record { member = m; step = Answer c })) (Err BadSignature)) (Ok o)
-          → IsCheckedOwn ms o
+          → IsCheckedOwn g o
       by true e h =
-          let roster : c.roster ≡ ms = roster_is c.roster ms e in
-          to_own ms o m (Answer c)
+          let roster : c.roster ≡ g.roster = roster_is c.roster g.roster e in
+          to_own g o m (Answer c)
           (record {
-            node = sym (member_node ms c.segment.closing.node m is);
+            node = sym (member_node g.roster c.segment.closing.node m is);
             roster = roster;
             fits = closed.fits;
             whole = closed.whole;
@@ -190,27 +191,27 @@ module _ (ms : List Member) (o : OwnStep) where
       by false e h = absurd (cc)
 
   -- steps that hold nothing of the kind
-  other_at : (x : Option Member) (step : Step) → ((m : Member) → IsCheckedStep (watched ms m) step)
-      → step_of x step ≡ Ok o → IsCheckedOwn ms o
+  other_at : (x : Option Member) (step : Step) → ((m : Member) → IsCheckedStep (watched g m) step)
+      → step_of x step ≡ Ok o → IsCheckedOwn g o
   other_at None step all h = absurd (cc)
-  other_at (Some m) step all h = to_own ms o m step (all m) h
+  other_at (Some m) step all h = to_own g o m step (all m) h
 
   key_at : (x : Option Member) (key : PublicKey) (step : Step)
-      → ((m : Member) → IsCheckedStep (watched ms m) step)
-      → signed_step x key step ≡ Ok o → IsCheckedOwn ms o
+      → ((m : Member) → IsCheckedStep (watched g m) step)
+      → signed_step x key step ≡ Ok o → IsCheckedOwn g o
   key_at None key step all h = absurd (cc)
   key_at (Some m) key step all h = by (is_key_of m key) h
     where
       by : (b : Bool)
           → ◌≡◌ {A = Result OwnStep Refusal}
           (cond b (Ok (record { member = m; step = step })) (Err BadSignature)) (Ok o)
-          → IsCheckedOwn ms o
-      by true h = to_own ms o m step (all m) h
+          → IsCheckedOwn g o
+      by true h = to_own g o m step (all m) h
       by false h = absurd (cc)
 
   sent_at : (x y : Option Member) (key : PublicKey) (step : Step)
-      → ((m : Member) → IsCheckedStep (watched ms m) step)
-      → sent_step x y key step ≡ Ok o → IsCheckedOwn ms o
+      → ((m : Member) → IsCheckedStep (watched g m) step)
+      → sent_step x y key step ≡ Ok o → IsCheckedOwn g o
   sent_at None y key step all h = absurd (cc)
   sent_at (Some m) None key step all h = absurd (cc)
   sent_at (Some m) (Some n) key step all h = by (is_key_of m key) h
@@ -218,33 +219,34 @@ module _ (ms : List Member) (o : OwnStep) where
       by : (b : Bool)
           → ◌≡◌ {A = Result OwnStep Refusal}
           (cond b (Ok (record { member = n; step = step })) (Err BadSignature)) (Ok o)
-          → IsCheckedOwn ms o
-      by true h = to_own ms o n step (all n) h
+          → IsCheckedOwn g o
+      by true h = to_own g o n step (all n) h
       by false h = absurd (cc)
 
   -- ---- bytes
 
-  learned_bytes : (bytes : List ℕ) (a : Authenticator) (x : Option Member) → member_of ms a.node ≡ x
-      → step_of x (Learn a) ≡ Ok o → IsTaken ms bytes (packets.Learn a) → IsCheckedOwn ms o
+  learned_bytes : (bytes : List ℕ) (a : Authenticator) (x : Option Member) → member_of g.roster a.node ≡ x
+      → step_of x (Learn a) ≡ Ok o → IsTaken g.roster bytes (packets.Learn a) → IsCheckedOwn g o
   learned_bytes bytes a None is h taken = absurd (cc)
   learned_bytes bytes a (Some m) is h taken =
-      to_own ms o m (Learn a)
+      to_own g o m (Learn a)
       (record {
-        node = sym (member_node ms a.node m is);
+        node = sym (member_node g.roster a.node m is);
         text = taken.of_members.well.says.is_content.0;
         signed = taken.signed;
       })
       h
 
-  answered_bytes : (bytes : List ℕ) (s : VersionedParts) (x : Option Member) → member_of ms s.closing.node ≡ x
-      → step_of x (Answer (record { segment = s; roster = ms })) ≡ Ok o → IsTaken ms bytes (packets.Answer s)
-      → IsCheckedOwn ms o
+  answered_bytes : (bytes : List ℕ) (s : VersionedParts) (x : Option Member) → member_of g.roster s.closing.node ≡ x
+      → step_of x (Answer (record { segment = s; roster = g.roster })) ≡ Ok o
+      → IsTaken g.roster bytes (packets.Answer s)
+      → IsCheckedOwn g o
   answered_bytes bytes s None is h taken = absurd (cc)
   answered_bytes bytes s (Some m) is h taken =
       let content = taken.of_members.well.says.is_content in
-      to_own ms o m (Answer (record { segment = s; roster = ms }))
+      to_own g o m (Answer (record { segment = s; roster = g.roster }))
       (record {
-        node = sym (member_node ms s.closing.node m is);
+        node = sym (member_node g.roster s.closing.node m is);
         roster = refl;
         fits = content.fits;
         whole = content.is.1;
@@ -256,40 +258,40 @@ module _ (ms : List Member) (o : OwnStep) where
       })
       h
 
-  delivered_at : (bytes : List ℕ) (d : Delivery) → delivered_step ms d ≡ Ok o → IsTaken ms bytes d
-      → IsCheckedOwn ms o
-  delivered_at bytes (packets.Learn a) h taken = learned_bytes bytes a (member_of ms a.node) refl h taken
+  delivered_at : (bytes : List ℕ) (d : Delivery) → delivered_step g.roster d ≡ Ok o → IsTaken g.roster bytes d
+      → IsCheckedOwn g o
+  delivered_at bytes (packets.Learn a) h taken = learned_bytes bytes a (member_of g.roster a.node) refl h taken
   delivered_at bytes (packets.SendChallenge e) h taken =
-      other_at (member_of ms e.to) (SendChallenge e) (λ m. tt) h
+      other_at (member_of g.roster e.to) (SendChallenge e) (λ m. tt) h
   delivered_at bytes (packets.Answer s) h taken =
-      answered_bytes bytes s (member_of ms s.closing.node) refl h taken
-  delivered_at bytes (packets.AckIn a) h taken = other_at (member_of ms a.by) (AckIn a) (λ m. tt) h
+      answered_bytes bytes s (member_of g.roster s.closing.node) refl h taken
+  delivered_at bytes (packets.AckIn a) h taken = other_at (member_of g.roster a.by) (AckIn a) (λ m. tt) h
 
-  judged_at : (bytes : List ℕ) (r : Result Delivery checks.Refusal) → IsBytes bytes → judged ms bytes ≡ r
-      → judged_step ms r ≡ Ok o → IsCheckedOwn ms o
-  judged_at bytes (Ok d) bound is h = delivered_at bytes d h ((as_meant ms bytes (Ok d) bound).0 is)
+  judged_at : (bytes : List ℕ) (r : Result Delivery checks.Refusal) → IsBytes bytes → judged g.roster bytes ≡ r
+      → judged_step g.roster r ≡ Ok o → IsCheckedOwn g o
+  judged_at bytes (Ok d) bound is h = delivered_at bytes d h ((as_meant g.roster bytes (Ok d) bound).0 is)
   judged_at bytes (Err refusal) bound is h = absurd (cc)
 
   -- ---- all events
 
   -- where an event that may be handed in is a step of somebody, what it holds was checked
-  pub checked_event : (e : Event) → whose ms e ≡ Ok o → IsEvent e → IsCheckedStep (watched ms o.member) o.step
-  checked_event (events.Deliver bytes) h is = judged_at bytes (judged ms bytes) is refl h
-  checked_event (events.Learn a key) h is = learn_at a key (member_of ms a.node) refl h is.0 is.1
+  pub checked_event : (e : Event) → whose g.roster e ≡ Ok o → IsEvent e → IsCheckedStep (watched g o.member) o.step
+  checked_event (events.Deliver bytes) h is = judged_at bytes (judged g.roster bytes) is refl h
+  checked_event (events.Learn a key) h is = learn_at a key (member_of g.roster a.node) refl h is.0 is.1
   checked_event (events.SendChallenge e key) h is =
-      sent_at (member_of ms e.from) (member_of ms e.to) key (SendChallenge e) (λ m. tt) h
-  checked_event (events.Answer c) h is = answer_at c (member_of ms c.segment.closing.node) refl h is
-  checked_event (events.AckIn a key) h is = key_at (member_of ms a.by) key (AckIn a) (λ m. tt) h
-  checked_event (events.Audit node) h is = other_at (member_of ms node) Audit (λ m. tt) h
-  checked_event (events.Begin node) h is = other_at (member_of ms node) Begin (λ m. tt) h
-  checked_event (events.File d) h is = other_at (member_of ms d.job.node) (File d) (λ m. tt) h
-  checked_event (events.PutBack j) h is = other_at (member_of ms j.node) (PutBack j) (λ m. tt) h
-  checked_event (events.Forward node) h is = other_at (member_of ms node) Forward (λ m. tt) h
-  checked_event (events.Ask node q) h is = other_at (member_of ms node) (Ask q) (λ m. tt) h
+      sent_at (member_of g.roster e.from) (member_of g.roster e.to) key (SendChallenge e) (λ m. tt) h
+  checked_event (events.Answer c) h is = answer_at c (member_of g.roster c.segment.closing.node) refl h is
+  checked_event (events.AckIn a key) h is = key_at (member_of g.roster a.by) key (AckIn a) (λ m. tt) h
+  checked_event (events.Audit node) h is = other_at (member_of g.roster node) Audit (λ m. tt) h
+  checked_event (events.Begin node) h is = other_at (member_of g.roster node) Begin (λ m. tt) h
+  checked_event (events.File d) h is = other_at (member_of g.roster d.job.node) (File d) (λ m. tt) h
+  checked_event (events.PutBack j) h is = other_at (member_of g.roster j.node) (PutBack j) (λ m. tt) h
+  checked_event (events.Forward node) h is = other_at (member_of g.roster node) Forward (λ m. tt) h
+  checked_event (events.Ask node q) h is = other_at (member_of g.roster node) (Ask q) (λ m. tt) h
 
 -- ---- own steps
 
-module _ (w : Watched) (is : IsInRoster w) where
+module _ (g : Beginning) (w : Watched) (is : IsInRoster w) (from : IsWatchedFrom g w) where
   one_checked : (e : Event) (r : Reply) (past : Past) (its : Result OwnStep Refusal) (want : Bool)
       → whose w.roster e ≡ its → IsEvent e → AreChecked w past
       → AreChecked w (cond want [] (own_step w.member.node its r) ++ past)
@@ -302,14 +304,15 @@ module _ (w : Watched) (is : IsInRoster w) where
       by true same =
           let member : o.member ≡ w.member =
           member_same w e o is is_w (eqb-true o.member.node w.member.node same) in (
-            subst (λ n. IsCheckedStep (watched w.roster n) o.step) member
-                (checked_event w.roster o e is_w event),
+            subst (λ x. IsCheckedStep x o.step) (same_watched g w from)
+                (subst (λ n. IsCheckedStep (watched g n) o.step) member
+                (checked_event g o e (ap (λ ms. whose ms e) from.roster ∙ is_w) event)),
             rest,
           )
       by false differs = rest
 
   -- all values among a node's own steps of a history were checked
-  pub own_checked : (history : History) → IsHistory w.roster history → AreChecked w (own_of w history)
+  pub own_checked : (history : History) → IsHistory g history → AreChecked w (own_of w history)
   own_checked [] h = tt
   own_checked (p ∷ history) h =
       one_checked p.0 p.1 (own_of w history) (whose w.roster p.0) (is_want_of_memory p.1) refl h.0

@@ -3,7 +3,7 @@
 -- (witness_node_laws).
 use Rattle.std.proofs.Common.{◌≡◌, ℕ, ◌+◌, ◌-◌, ◌≤◌, Bool, true, false, cond, ◌&&◌, ◌==◌, nat_lt, List}
 use Rattle.std.proofs.Common.{[], ◌∷◌, Option, Some, None, refl, sym, ap, subst, ◌∙◌, eqb-true, arith}
-use Rattle.std.proofs.lemmas.Bool.{and_parts, ltb-false}
+use Rattle.std.proofs.lemmas.Bool.{and_parts, ltb-false, true≢false}
 use Rattle.std.proofs.lemmas.Option.{same_Some}
 use Rattle.std.specs.Prelude.{◌<◌, Decides, length}
 use Rattle.std.specs.List.{AllByRecursion}
@@ -14,6 +14,7 @@ use Rattle.witness_spec.specs.Refusals as refusals
 use Rattle.witness_spec.specs.Events.{JobParts, DoneParts}
 use Rattle.witness_spec.specs.Replies.{Reply, Noted, Already, Accepted, Asked, Job, Filed, Returned, Refused}
 use Rattle.witness_spec.specs.Replies.{FileRefused, PutBackRefused}
+use Rattle.witness_spec.specs.Starting.{start_number, is_below}
 use Rattle.witness_spec.specs.Watched.{Watched}
 use Rattle.witness_spec.specs.Steps.{Step, Learn, SendChallenge, Answer, AckIn, Audit, Begin, File, PutBack}
 use Rattle.witness_spec.specs.Steps.{Forward, Ask, Past}
@@ -44,13 +45,16 @@ pub record Did (past : Past) (p : Step × Reply) (learned : Option Authenticator
 -- what a step with its reply did
 pub data Doing (w : Watched) (past : Past) (p : Step × Reply) : Type 0 where
   Nothing : Did past p None None None (stage_of past) → Doing w past p
-  Notes : (a : Authenticator) → p.0 ≡ Learn a → Did past p (Some a) None None (stage_of past)
+  Notes : (a : Authenticator) → p.0 ≡ Learn a
+      → (is_exposed w past ≡ false → is_below w.base (number_of w.member.log_version a) ≡ false)
+      → Did past p (Some a) None None (stage_of past)
       → Doing w past p
   Accepts : (c : ClosedParts) → p.0 ≡ Answer c
       → stage_of past ≡ Wanted c.segment.first (last_of c.segment)
       → Did past p None (Some c) None (Given c) → Doing w past p
   Asks : (first last : ℕ) → first ≡ (end_of w past).number + 1
-      → (last ≤ MAX_AUDITED) × IsInReach first last × IsNumberOf w.member.log_version (kept w past) last
+      → (last ≤ start_number w.base + MAX_AUDITED) × IsInReach first last
+      × IsNumberOf w.member.log_version (kept w past) last
       → Did past p None None None (Wanted first last) → Doing w past p
   Begins : (c : ClosedParts) → stage_of past ≡ Given c → Did past p None None None (Out c)
       → Doing w past p
@@ -60,13 +64,24 @@ pub data Doing (w : Watched) (past : Past) (p : Step × Reply) : Type 0 where
       → Doing w past p
 
 module _ (w : Watched) (past : Past) where
-  learns : (a : Authenticator) (x y z : Bool)
-      → Doing w past (Learn a, cond x Noted (cond y Already (cond z (Refused refusals.LearnedFull) Noted)))
-  learns a true y z = Notes a refl (record { notes = refl; accepts = refl; files = refl; stage = refl })
-  learns a false true z = Nothing (record { notes = refl; accepts = refl; files = refl; stage = refl })
-  learns a false false true = Nothing (record { notes = refl; accepts = refl; files = refl; stage = refl })
-  learns a false false false =
-      Notes a refl (record { notes = refl; accepts = refl; files = refl; stage = refl })
+  learns : (a : Authenticator) (v x y z : Bool)
+      → is_exposed w past ≡ v → is_below w.base (number_of w.member.log_version a) ≡ x
+      → Doing w past (
+        Learn a,
+        cond v Noted (cond x (Refused refusals.BelowBase)
+            (cond y Already (cond z (Refused refusals.LearnedFull) Noted))),
+      )
+  learns a true x y z exposed below =
+      Notes a refl (λ sound. absurd (true≢false (sym exposed ∙ sound)))
+      (record { notes = refl; accepts = refl; files = refl; stage = refl })
+  learns a false true y z exposed below =
+      Nothing (record { notes = refl; accepts = refl; files = refl; stage = refl })
+  learns a false false true z exposed below =
+      Nothing (record { notes = refl; accepts = refl; files = refl; stage = refl })
+  learns a false false false true exposed below =
+      Nothing (record { notes = refl; accepts = refl; files = refl; stage = refl })
+  learns a false false false false exposed below =
+      Notes a refl (λ sound. below) (record { notes = refl; accepts = refl; files = refl; stage = refl })
 
   answered : (c : ClosedParts) (first last : ℕ) (b : Bool) → stage_of past ≡ Wanted first last
       → ((c.segment.first == first) && (last_of c.segment == last)) ≡ b
@@ -91,7 +106,7 @@ module _ (w : Watched) (past : Past) where
 
   asked : (x y z : Bool) (first last : ℕ) → first ≡ (end_of w past).number + 1
       → (x ≡ false → IsInReach first last × IsNumberOf w.member.log_version (kept w past) last)
-      → nat_lt MAX_AUDITED last ≡ y
+      → nat_lt (start_number w.base + MAX_AUDITED) last ≡ y
       → Doing w past (
         Audit,
         cond x (Refused refusals.TooFar) (cond y (Refused refusals.BookFull)
@@ -104,13 +119,17 @@ module _ (w : Watched) (past : Past) where
   asked false false true first last is reach e =
       Nothing (record { notes = refl; accepts = refl; files = refl; stage = refl })
   asked false false false first last is reach e =
-      Asks first last is (omega (arith, ltb-false MAX_AUDITED last e), (reach refl).0, (reach refl).1)
+      Asks first last is
+      (omega (arith, ltb-false (start_number w.base + MAX_AUDITED) last e), (reach refl).0, (reach refl).1)
       (record { notes = refl; accepts = refl; files = refl; stage = refl })
 
   asks : (exposed : Bool) (waiting : ℕ) (learned : List Authenticator)
       → ((a : Authenticator) → IsAmong a learned → IsAmong a (kept w past))
       → AllByRecursion (λ a. (end_of w past).number < number_of w.member.log_version a) learned
-      → Doing w past (Audit, ask_reply w.member.log_version exposed (end_of w past).number waiting learned)
+      → Doing w past (
+        Audit,
+        ask_reply w.member.log_version exposed (start_number w.base) (end_of w past).number waiting learned,
+      )
   asks true waiting learned within all =
       Nothing (record { notes = refl; accepts = refl; files = refl; stage = refl })
   asks false waiting [] within all =
@@ -118,7 +137,7 @@ module _ (w : Watched) (past : Past) where
   asks false waiting (a ∷ learned) within all =
       let end = (end_of w past).number in
       let last = last_in_reach w.member.log_version end (a ∷ learned) in
-      asked (last == 0) (nat_lt MAX_AUDITED last) (nat_lt MAX_OUTBOX (waiting + (last - end)))
+      asked (last == 0) (nat_lt (start_number w.base + MAX_AUDITED) last) (nat_lt MAX_OUTBOX (waiting + (last - end)))
       (end + 1) last refl
       (in_reach w.member.log_version (kept w past) end (a ∷ learned) within all) refl
 
@@ -176,8 +195,8 @@ module _ (w : Watched) (past : Past) where
   told : (b : Bool) (step : Step) → Decides b (IsOut w past step)
       → Doing w past (step, reply_told b w past step)
   told b (Learn a) h =
-      learns a (is_exposed w past) (is_shown (pair_of w.member.log_version a) (shown w past))
-      (has_no_room w past a)
+      learns a (is_exposed w past) (is_below w.base (number_of w.member.log_version a))
+      (is_shown (pair_of w.member.log_version a) (shown w past)) (has_no_room w past a) refl refl
   told b (SendChallenge e) h = Nothing (record { notes = refl; accepts = refl; files = refl; stage = refl })
   told b (Answer c) h = answers c (stage_of past) refl
   told b (AckIn a) h = Nothing (record { notes = refl; accepts = refl; files = refl; stage = refl })

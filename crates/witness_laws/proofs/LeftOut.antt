@@ -1,9 +1,9 @@
 -- What is left out of every node's own steps changes nothing.
 -- Serves: left_out_changes_nothing.
-use Rattle.std.proofs.Common.{◌≡◌, ◌≢◌, ℕ, Bool, true, false, ◌==◌, ◌&&◌, nat_le, List, [], ◌∷◌, ◌++◌}
+use Rattle.std.proofs.Common.{◌≡◌, ◌≢◌, ℕ, Bool, true, false, not, ◌==◌, ◌&&◌, nat_le, List, [], ◌∷◌, ◌++◌}
 use Rattle.std.proofs.Common.{Option, Some, None, Result, Ok, Err, refl, sym, ap, subst, ◌∙◌}
 use Rattle.std.proofs.Common.{eqb-true, eq-eqb, leb-true, cond}
-use Rattle.std.proofs.lemmas.Bool.{and_parts}
+use Rattle.std.proofs.lemmas.Bool.{and_parts, true≢false}
 use Rattle.authenticator.specs.Roster.{member_of}
 use Rattle.authenticator.specs.declared.member.Member.{Member}
 use Rattle.authenticator.specs.declared.refusal.Refusal.TheVariants as checking
@@ -11,10 +11,11 @@ use Rattle.witness_spec.specs.packets.Packet.{Delivery, delivery_of, delivery_sh
 use Rattle.witness_spec.specs.packets.Packet as packets
 use Rattle.authenticator.specs.Signing.{is_signed_in}
 use Rattle.witness_spec.specs.packets.Judging.{may_be, is_of_members, judged_option, judged}
-use Rattle.witness_spec.specs.Refusals.{Refusal, refusal_number, BadSignature}
+use Rattle.witness_spec.specs.Refusals.{Refusal, refusal_number, BadSignature, NoMemory}
 use Rattle.witness_spec.specs.Events.{PublicKey, Event}
 use Rattle.witness_spec.specs.Events as events
-use Rattle.witness_spec.specs.Replies.{Reply, is_want_of_memory}
+use Rattle.witness_spec.specs.Replies.{Reply, is_want, is_want_of_memory}
+use Rattle.witness_spec.specs.Starting.{Beginning}
 use Rattle.witness_spec.specs.Watched.{watched}
 use Rattle.witness_spec.specs.Steps.{Step, OwnStep}
 use Rattle.witness_spec.specs.Whose.{step_of, is_key_of, same_roster, signed_step, sent_step, closed_step}
@@ -30,32 +31,32 @@ use Rattle.witness_laws.proofs.OwnSteps.{none_own, other_own, want_own, its_own}
 -- ---- books stay
 
 -- books that stood for one history stand for another with the same own steps
-stand_on : (ms : List Member) (one two : History) → ((node : ℕ) → own ms node two ≡ own ms node one)
-    → (members : List Member) (books : List BookParts) → StandEach ms one members books
-    → StandEach ms two members books
-stand_on ms one two same [] [] h = tt
-stand_on ms one two same [] (b ∷ books) h = h
-stand_on ms one two same (m ∷ members) [] h = h
-stand_on ms one two same (m ∷ members) (b ∷ books) h = (
-  subst (λ x. StandsFor (watched ms m) x b) (sym (same m.node)) h.0,
-  stand_on ms one two same members books h.1,
+stand_on : (g : Beginning) (one two : History) → ((node : ℕ) → own g.roster node two ≡ own g.roster node one)
+    → (members : List Member) (books : List BookParts) → StandEach g one members books
+    → StandEach g two members books
+stand_on g one two same [] [] h = tt
+stand_on g one two same [] (b ∷ books) h = h
+stand_on g one two same (m ∷ members) [] h = h
+stand_on g one two same (m ∷ members) (b ∷ books) h = (
+  subst (λ x. StandsFor (watched g m) x b) (sym (same m.node)) h.0,
+  stand_on g one two same members books h.1,
 )
 
-no_change : (ms : List Member) (history : History) (e : Event) (r : Reply)
-    → ((node : ℕ) → own_one ms node (e, r) ≡ []) → ChangesNothing ms history e r
-no_change ms history e r none =
-    let same : (node : ℕ) → own ms node ((e, r) ∷ history) ≡ own ms node history =
-    λ node. ap (λ x. x ++ own ms node history) (none node) in
+no_change : (g : Beginning) (history : History) (e : Event) (r : Reply)
+    → ((node : ℕ) → own_one g.roster node (e, r) ≡ []) → ChangesNothing g history e r
+no_change g history e r none =
+    let same : (node : ℕ) → own g.roster node ((e, r) ∷ history) ≡ own g.roster node history =
+    λ node. ap (λ x. x ++ own g.roster node history) (none node) in
     record {
       own_steps = same;
-      books = λ books h. stand_on ms history ((e, r) ∷ history) same ms books h;
+      books = λ books h. stand_on g history ((e, r) ∷ history) same g.roster books h;
     }
 
 -- an event that was answered as out of memory is in nobody's own steps, and books stand as before
-pub want_changes : (ms : List Member) (history : History) (e : Event) (r : Reply) → IsWanting e r
-    → ChangesNothing ms history e r
-want_changes ms history e r wanting =
-    no_change ms history e r (λ node. want_own ms node e r (ap is_want_of_memory wanting.is ∙ want_refused e))
+pub want_changes : (g : Beginning) (history : History) (e : Event) (r : Reply) → IsWanting e r
+    → ChangesNothing g history e r
+want_changes g history e r wanting =
+    no_change g history e r (λ node. want_own g.roster node e r (ap is_want_of_memory wanting.is ∙ want_refused e))
 
 -- ---- refusals 1 to 3
 
@@ -127,19 +128,19 @@ early ms (events.Forward node) = early_step (member_of ms node) _
 early ms (events.Ask node q) = early_step (member_of ms node) _
 
 -- an event that is nobody's step has one refusal after every history, numbered 1 to 3, and changes nothing
-pub left_out : (ms : List Member) (e : Event) (refusal : Refusal) → whose ms e ≡ Err refusal
-    → IsLeftOut ms e refusal
-left_out ms e refusal w =
-    let low : is_early refusal ≡ true = subst IsEarly w (early ms e) in
+pub left_out : (g : Beginning) (e : Event) (refusal : Refusal) → whose g.roster e ≡ Err refusal
+    → IsLeftOut g e refusal
+left_out g e refusal w =
+    let low : is_early refusal ≡ true = subst IsEarly w (early g.roster e) in
     let both = and_parts (nat_le 1 (refusal_number refusal)) (nat_le (refusal_number refusal) 3) low in
     record {
       reply = λ history reply. (
-        subst (OwesTo ms history e reply) w,
-        subst (OwesTo ms history e reply) (sym w),
+        subst (OwesTo g history e reply) w,
+        subst (OwesTo g history e reply) (sym w),
       );
       some = leb-true 1 (refusal_number refusal) both.0;
       few = leb-true (refusal_number refusal) 3 both.1;
-      changes = λ history reply. no_change ms history e reply (λ node. none_own ms node e reply refusal w);
+      changes = λ history reply. no_change g history e reply (λ node. none_own g.roster node e reply refusal w);
     }
 
 -- ---- all others
@@ -151,22 +152,25 @@ not_same a b h = by (a == b) refl
     by true e = absurd (h (sym (eqb-true a b e)))
     by false e = refl
 
--- every other event is a step of its node alone, and its refusals are numbered 4 to 13
-pub taken : (ms : List Member) (history : History) (e : Event) (r : Reply) (o : OwnStep) → whose ms e ≡ Ok o
-    → IsOwed ms history e r → IsTaken ms history e r o
-taken ms history e r o w owed =
-    let here : Owes (watched ms o.member) (own ms o.member.node history) o.step r =
-    subst (OwesTo ms history e r) w owed in
+not_want : (r : Refusal) → not (is_want r) ≡ true → r ≢ NoMemory
+not_want r h same = true≢false (sym h ∙ ap (λ x. not (is_want x)) same)
+
+-- every other event is a step of its node alone, and its refusals are numbered 4 or more and not NoMemory
+pub taken : (g : Beginning) (history : History) (e : Event) (r : Reply) (o : OwnStep) → whose g.roster e ≡ Ok o
+    → IsOwed g history e r → IsTaken g history e r o
+taken g history e r o w owed =
+    let here : Owes (watched g o.member) (own g.roster o.member.node history) o.step r =
+    subst (OwesTo g history e r) w owed in
     let good : is_good r ≡ true =
-    owed_good (watched ms o.member) (own ms o.member.node history) o.step r here in
+    owed_good (watched g o.member) (own g.roster o.member.node history) o.step r here in
     let same : (o.member.node == o.member.node) ≡ true = eq-eqb o.member.node o.member.node refl in
     record {
-      own_step = ap (λ x. x ++ own ms o.member.node history)
-          (its_own ms o.member.node e r o w same (good_want r good));
-      others = λ node other. ap (λ x. x ++ own ms node history)
-          (other_own ms node e r o w (not_same o.member.node node other));
+      own_step = ap (λ x. x ++ own g.roster o.member.node history)
+          (its_own g.roster o.member.node e r o w same (good_want r good));
+      others = λ node other. ap (λ x. x ++ own g.roster node history)
+          (other_own g.roster node e r o w (not_same o.member.node node other));
       refusals = λ refusal is.
           let low : in_table refusal ≡ true = sym (good_refused e refusal) ∙ (ap is_good (sym is) ∙ good) in
-          let both = and_parts (nat_le 4 (refusal_number refusal)) (nat_le (refusal_number refusal) 13) low in
-          (leb-true 4 (refusal_number refusal) both.0, leb-true (refusal_number refusal) 13 both.1);
+          let both = and_parts (nat_le 4 (refusal_number refusal)) (not (is_want refusal)) low in
+          (leb-true 4 (refusal_number refusal) both.0, not_want refusal both.1);
     }

@@ -1,6 +1,6 @@
 -- A history's own steps are owed by one another, and so are told by their steps alone.
 -- Serves: own_steps_alone.
-use Rattle.std.proofs.Common.{◌≡◌, ◌⊎◌, inl, inr, ℕ, Bool, true, false, cond, ◌==◌, List, [], ◌∷◌}
+use Rattle.std.proofs.Common.{◌≡◌, ◌⊎◌, ◌↔◌, inl, inr, ℕ, Bool, true, false, cond, ◌==◌, List, [], ◌∷◌}
 use Rattle.std.proofs.Common.{◌++◌, map, Option, Some, None, Result, Ok, Err, refl, sym, ap, ap₂, subst, ◌∙◌}
 use Rattle.std.proofs.Common.{eqb-true}
 use Rattle.std.proofs.lemmas.Option.{same_Some}
@@ -15,14 +15,15 @@ use Rattle.witness_spec.specs.Refusals.{Refusal}
 use Rattle.witness_spec.specs.Events.{PublicKey, Event}
 use Rattle.witness_spec.specs.Events as events
 use Rattle.witness_spec.specs.Replies.{Reply, is_want_of_memory}
-use Rattle.witness_spec.specs.Watched.{Watched, watched, IsInRoster}
+use Rattle.witness_spec.specs.Starting.{Beginning, KnownBase}
+use Rattle.witness_spec.specs.Watched.{Watched, watched, IsInRoster, IsWatchedFrom}
 use Rattle.witness_spec.specs.Steps.{Step, OwnStep, Past}
 use Rattle.witness_spec.specs.Whose.{step_of, is_key_of, same_roster, signed_step, sent_step, closed_step}
 use Rattle.witness_spec.specs.Whose.{delivered_step, judged_step, whose}
 use Rattle.witness_spec.specs.Standing.{indication, open_challenges}
 use Rattle.witness_spec.specs.Exposing.{evidence}
 use Rattle.witness_spec.specs.Owing.{Owes}
-use Rattle.witness_spec.specs.Histories.{History, own_step, own_one, own, OwesTo, IsOwed, IsWanting, own_of}
+use Rattle.witness_spec.specs.Histories.{History, own_step, own_one, OwesTo, IsOwed, IsWanting, own_of}
 use Rattle.witness_spec.specs.Histories.{IsHistory}
 use Rattle.witness_spec.specs.Histories.{AreOwed}
 use Rattle.witness_spec.specs.Laws.{SaysSame}
@@ -98,7 +99,28 @@ of_member ms (events.Ask node q) o h = at_member ms node o (of_step _ _ o h)
 pub same_member : (w : Watched) (e : Event) (o : OwnStep) → IsInRoster w
     → whose w.roster e ≡ Ok o → o.member.node ≡ w.member.node → o.member ≡ w.member
 same_member w e o is its same =
-    same_Some o.member w.member (sym (of_member w.roster e o its) ∙ (ap (member_of w.roster) same ∙ is))
+    same_Some o.member w.member (sym (of_member w.roster e o its) ∙ (ap (member_of w.roster) same ∙ is.is_member))
+
+-- ---- the member that is watched
+
+-- a node that is watched from a beginning is what the beginning gives of its member
+pub same_watched : (g : Beginning) (w : Watched) → IsWatchedFrom g w → watched g w.member ≡ w
+same_watched g w from =
+    ap₂ (λ (ms : List Member) (b : Option KnownBase). record w { roster = ms; base = b }) from.roster from.base
+
+-- the reply to an event that is a step of the node is owed exactly if it is to that step
+pub owed_own : (g : Beginning) (w : Watched) (history : History) (e : Event) (step : Step) (reply : Reply)
+    → IsWatchedFrom g w → whose w.roster e ≡ Ok (record { member = w.member; step = step })
+    → IsOwed g history e reply ↔ Owes w (own_of w history) step reply
+owed_own g w history e step reply from its =
+    let o : OwnStep = record { member = w.member; step = step } in
+    let told : whose g.roster e ≡ Ok o = ap (λ ms. whose ms e) from.roster ∙ its in
+    let same = same_watched g w from in (
+      λ h. subst (λ x. Owes x (own_of x history) step reply) same
+          (subst (OwesTo g history e reply) told h),
+      λ h. subst (OwesTo g history e reply) (sym told)
+          (subst (λ x. Owes x (own_of x history) step reply) (sym same) h),
+    )
 
 -- ---- own steps are owed
 
@@ -133,21 +155,22 @@ its_own ms node e r o w same want =
     ap (λ b. cond b [] (own_step node (whose ms e) r)) want
     ∙ (ap (λ x. own_step node x r) w ∙ ap (λ b. cond b ((o.step, r) ∷ []) []) same)
 
-module _ (w : Watched) (is : IsInRoster w) where
+module _ (g : Beginning) (w : Watched) (is : IsInRoster w) (from : IsWatchedFrom g w) where
   -- with one event more
   with_one : (p : Event × Reply) (history : History) (one : Past) → own_one w.roster w.member.node p ≡ one
       → AreOwed w (one ++ own_of w history) → AreOwed w (own_of w (p ∷ history))
   with_one p history one e h = subst (λ x. AreOwed w (x ++ own_of w history)) (sym e) h
 
   its_owed : (e : Event) (r : Reply) (history : History) (o : OwnStep) (b : Bool) → whose w.roster e ≡ Ok o
-      → (o.member.node == w.member.node) ≡ b → OwesTo w.roster history e r (Ok o)
+      → (o.member.node == w.member.node) ≡ b → OwesTo g history e r (Ok o)
       → AreOwed w (own_of w history)
       → AreOwed w (own_of w ((e, r) ∷ history))
   its_owed e r history o true told same owed rest =
       let member : o.member ≡ w.member =
       same_member w e o is told (eqb-true o.member.node w.member.node same) in
       let here : Owes w (own_of w history) o.step r =
-      subst (λ x. Owes (watched w.roster x) (own w.roster x.node history) o.step r) member owed in
+      subst (λ x. Owes x (own_of x history) o.step r) (same_watched g w from)
+      (subst (λ x. Owes (watched g x) (own_of (watched g x) history) o.step r) member owed) in
       with_one (e, r) history ((o.step, r) ∷ [])
       (its_own w.roster w.member.node e r o told same
       (good_want r (owed_good w (own_of w history) o.step r here)))
@@ -157,7 +180,7 @@ module _ (w : Watched) (is : IsInRoster w) where
 
   one_owed : (e : Event) (r : Reply) (history : History) (told : Result OwnStep Refusal)
       → whose w.roster e ≡ told
-      → OwesTo w.roster history e r told ⊎ IsWanting e r → AreOwed w (own_of w history)
+      → OwesTo g history e r told ⊎ IsWanting e r → AreOwed w (own_of w history)
       → AreOwed w (own_of w ((e, r) ∷ history))
   one_owed e r history told is_w (inr wanting) rest =
       with_one (e, r) history []
@@ -168,9 +191,12 @@ module _ (w : Watched) (is : IsInRoster w) where
       its_owed e r history o (o.member.node == w.member.node) is_w refl owed rest
 
   -- a node's own steps in a history have the replies that are owed by its earlier ones
-  pub own_owed : (history : History) → IsHistory w.roster history → AreOwed w (own_of w history)
+  pub own_owed : (history : History) → IsHistory g history → AreOwed w (own_of w history)
   own_owed [] h = tt
-  own_owed (p ∷ history) h = one_owed p.0 p.1 history (whose w.roster p.0) refl h.1 (own_owed history h.2)
+  own_owed (p ∷ history) h =
+      one_owed p.0 p.1 history (whose w.roster p.0) refl
+      (subst (λ ms. OwesTo g history p.0 p.1 (whose ms p.0) ⊎ IsWanting p.0 p.1) from.roster h.1)
+      (own_owed history h.2)
 
 -- ---- replies by steps
 
@@ -191,24 +217,25 @@ same_replies w (p ∷ ps) (q ∷ qs) g h e =
 
 -- ---- all that is said
 
-next_same : (w : Watched) (one two : History) → own_of w one ≡ own_of w two
+next_same : (g h : Beginning) (w : Watched) (one two : History) → IsWatchedFrom g w → IsWatchedFrom h w
+    → own_of w one ≡ own_of w two
     → (event : Event) (step : Step) (reply : Reply)
     → whose w.roster event ≡ Ok (record { member = w.member; step = step })
-    → IsOwed w.roster one event reply → IsOwed w.roster two event reply
-next_same w one two same event step reply its h =
-    subst (OwesTo w.roster two event reply) (sym its)
-    (subst (λ x. Owes w x step reply) same (subst (OwesTo w.roster one event reply) its h))
+    → IsOwed g one event reply → IsOwed h two event reply
+next_same g h w one two from other same event step reply its owed =
+    (owed_own h w two event step reply other its).1
+    (subst (λ x. Owes w x step reply) same ((owed_own g w one event step reply from its).0 owed))
 
 -- after histories with the same own steps of a node, all that is said of it is the same
-pub says_same : (w : Watched) (one two : History) → own_of w one ≡ own_of w two
-    → SaysSame w one two
-says_same w one two same = record {
+pub says_same : (g h : Beginning) (w : Watched) (one two : History) → IsWatchedFrom g w → IsWatchedFrom h w
+    → own_of w one ≡ own_of w two → SaysSame g h w one two
+says_same g h w one two from other same = record {
   replies = same;
   indications = ap (indication w) same;
   challenges = ap open_challenges same;
   evidences = ap (evidence w) same;
   next = λ event step reply its. (
-    next_same w one two same event step reply its,
-    next_same w two one (sym same) event step reply its,
+    next_same g h w one two from other same event step reply its,
+    next_same h g w two one other from (sym same) event step reply its,
   );
 }

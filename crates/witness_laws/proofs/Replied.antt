@@ -1,6 +1,6 @@
 -- A step's reply is one, and its refusals are those of the table.
 -- Serves: one_reply, own_steps_alone, left_out_changes_nothing.
-use Rattle.std.proofs.Common.{◌≡◌, ℕ, ◌+◌, ◌-◌, Bool, true, false, cond, ◌&&◌, ◌==◌, nat_le, nat_lt, count_by}
+use Rattle.std.proofs.Common.{◌≡◌, ℕ, ◌+◌, ◌-◌, Bool, true, false, cond, not, ◌&&◌, ◌==◌, nat_le, nat_lt, count_by}
 use Rattle.std.proofs.Common.{List, [], ◌∷◌, Option, Some, None}
 use Rattle.std.proofs.Common.{refl, sym, ap, ◌∙◌}
 use Rattle.std.specs.Bool.{one_answer}
@@ -25,7 +25,8 @@ use Rattle.witness_spec.specs.Owing.{back_reply, forward_reply, last_in_reach, h
 use Rattle.witness_spec.specs.Owing.{next_job, Owes}
 use Rattle.witness_spec.specs.Limits.{MAX_CHALLENGES, MAX_OUTBOX}
 use Rattle.witness_spec.specs.evidence_spec.Evidence.{MAX_AUDITED}
-use Rattle.witness_spec.specs.Pairs.{pair_of, is_shown, last_of}
+use Rattle.witness_spec.specs.Pairs.{pair_of, is_shown, last_of, number_of}
+use Rattle.witness_spec.specs.Starting.{is_below}
 use Rattle.envelopes.specs.Envelope.{envelope_message}
 use Rattle.envelopes.specs.Acknowledgement.{acked_message}
 
@@ -40,11 +41,11 @@ one_reply w past step one other g h =
 
 -- ---- refusals of steps
 
--- its number is from 4 to 13
+-- its number is 4 or more, and it isn't that memory ran out
 abbrev pub in_table : refusals.Refusal → Bool
-in_table r = nat_le 4 (refusals.refusal_number r) && nat_le (refusals.refusal_number r) 13
+in_table r = nat_le 4 (refusals.refusal_number r) && not (is_want r)
 
--- a reply is no refusal, or one with such a number
+-- a reply is no refusal, or such a one
 abbrev pub is_good : Reply → Bool
 is_good (Refused r) = in_table r
 is_good (FileRefused r d) = in_table r
@@ -71,20 +72,21 @@ good_tests false true c first last = refl
 good_tests false false true first last = refl
 good_tests false false false first last = refl
 
-good_up_to : (end waiting last : ℕ) → is_good (ask_up_to end waiting last) ≡ true
-good_up_to end waiting last =
-    good_tests (last == 0) (nat_lt MAX_AUDITED last) (nat_lt MAX_OUTBOX (waiting + (last - end)))
+good_up_to : (start end waiting last : ℕ) → is_good (ask_up_to start end waiting last) ≡ true
+good_up_to start end waiting last =
+    good_tests (last == 0) (nat_lt (start + MAX_AUDITED) last) (nat_lt MAX_OUTBOX (waiting + (last - end)))
     (end + 1) last
 
-good_ask : (v : LogVersion) (exposed : Bool) (end waiting : ℕ) (learned : List Authenticator)
-    → is_good (ask_reply v exposed end waiting learned) ≡ true
-good_ask v true end waiting learned = refl
-good_ask v false end waiting [] = refl
-good_ask v false end waiting (a ∷ learned) = good_up_to end waiting (last_in_reach v end (a ∷ learned))
+good_ask : (v : LogVersion) (exposed : Bool) (start end waiting : ℕ) (learned : List Authenticator)
+    → is_good (ask_reply v exposed start end waiting learned) ≡ true
+good_ask v true start end waiting learned = refl
+good_ask v false start end waiting [] = refl
+good_ask v false start end waiting (a ∷ learned) =
+    good_up_to start end waiting (last_in_reach v end (a ∷ learned))
 
 good_audit : (w : Watched) (past : Past) (stage : Stage)
     → is_good (audit_reply w past stage) ≡ true
-good_audit w past NoAudit = good_ask w.member.log_version (is_exposed w past) _ _ (kept w past)
+good_audit w past NoAudit = good_ask w.member.log_version (is_exposed w past) _ _ _ (kept w past)
 good_audit w past (Wanted first last) = refl
 good_audit w past (Given c) = refl
 good_audit w past (Out c) = refl
@@ -113,12 +115,14 @@ good_question w past ItsIndication = refl
 good_question w past ItsChallenges = refl
 good_question w past ItsEvidence = refl
 
-good_learn : (a b c : Bool)
-    → is_good (cond a Noted (cond b Already (cond c (Refused refusals.LearnedFull) Noted))) ≡ true
-good_learn true b c = refl
-good_learn false true c = refl
-good_learn false false true = refl
-good_learn false false false = refl
+good_learn : (a b c d : Bool)
+    → is_good (cond a Noted (cond b (Refused refusals.BelowBase)
+    (cond c Already (cond d (Refused refusals.LearnedFull) Noted)))) ≡ true
+good_learn true b c d = refl
+good_learn false true c d = refl
+good_learn false false true d = refl
+good_learn false false false true = refl
+good_learn false false false false = refl
 
 good_challenge : (a b : Bool)
     → is_good (cond a Already (cond b (Refused refusals.ChallengesFull) Opened)) ≡ true
@@ -126,12 +130,12 @@ good_challenge true b = refl
 good_challenge false true = refl
 good_challenge false false = refl
 
--- a reply that is told to a step is no refusal, or one with a number from 4 to 13
+-- a reply that is told to a step is no refusal, or one with a number from 4 that isn't NoMemory
 pub good_reply : (b : Bool) (w : Watched) (past : Past) (step : Step)
     → is_good (reply_told b w past step) ≡ true
 good_reply b w past (Learn a) =
-    good_learn (is_exposed w past) (is_shown (pair_of w.member.log_version a) (shown w past))
-    (has_no_room w past a)
+    good_learn (is_exposed w past) (is_below w.base (number_of w.member.log_version a))
+    (is_shown (pair_of w.member.log_version a) (shown w past)) (has_no_room w past a)
 good_reply b w past (SendChallenge e) =
     good_challenge (is_open (envelope_message e) (open_challenges past))
     (nat_le MAX_CHALLENGES (count_by is_send (open_challenges past)))
@@ -171,6 +175,7 @@ table_want refusals.NoJob h = refl
 table_want refusals.WrongJob h = refl
 table_want refusals.BookFull h = refl
 table_want refusals.NoMemory h = cc
+table_want refusals.BelowBase h = refl
 
 -- such a reply doesn't say that memory ran out
 pub good_want : (r : Reply) → is_good r ≡ true → is_want_of_memory r ≡ false
@@ -192,7 +197,7 @@ good_want (Told i) h = refl
 good_want (OpenList xs) h = refl
 good_want (EvidenceIs e) h = refl
 
--- the refusal of an event is such a reply exactly where its number is one of these
+-- the refusal of an event is such a reply exactly where it is one of these
 pub good_refused : (e : Event) (r : refusals.Refusal) → is_good (refused e r) ≡ in_table r
 good_refused (events.Deliver bytes) r = refl
 good_refused (events.Learn a key) r = refl

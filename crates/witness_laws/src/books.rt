@@ -1,19 +1,19 @@
 //! What holds of books that keep their contract: whatever history they stand for, each step's reply is the
 //! one that is owed, and the books after it stand for the longer history.
 
-ghost use Rattle.witness_spec.specs.ContractLaws.{OpeningBooksStand, HistoriesHaveBooks};
+ghost use Rattle.witness_spec.specs.ContractLaws.{StartingBooksStand, HistoriesHaveBooks};
 ghost use Rattle.witness_spec.specs.ContractLaws.{StepsKeepBooks, StepsAnswerWhatIsOwed, StepsAreARun};
 ghost use Rattle.witness_spec.specs.ContractLaws.{NothingIsARun, OneStepMore, RunsAreHistories};
 ghost use Rattle.witness_spec.specs.ContractLaws.{RunsThatAgree};
-ghost use Rattle.witness_spec.specs.ContractLaws.{JournalsExactlyIf, OpeningJournal, StepsAreNoted};
+ghost use Rattle.witness_spec.specs.ContractLaws.{JournalsExactlyIf, StartingJournal, StepsAreNoted};
 ghost use Rattle.witness_spec.specs.ContractLaws.{NotedStepsKeepJournals, LeftOutLeavesBooks};
 ghost use Rattle.witness_spec.specs.ContractLaws.{WantLeavesBooks, OutOfMemoryLeavesBooks, OneBookIsEnough};
 ghost use Rattle.witness_spec.specs.ContractLaws.{BookOfOwnStepsAlone, EachBookStands, BooksTell};
 ghost use Rattle.witness_spec.specs.ContractLaws.{BooksTellTheSame};
 
-/// The opening books stand for the history of nothing; and for every history there are books that stand.
+/// The books of a beginning stand for the history of nothing; and for every history there are books that stand.
 pub fn books_can_stand()
-    ensures opening { OpeningBooksStand }
+    ensures starting { StartingBooksStand }
     ensures any { HistoriesHaveBooks }
 {}
 
@@ -25,22 +25,22 @@ pub fn steps_keep_books()
 {}
 
 /// Steps in turn are a run: all replies together are owed, and the books after them stand for the history
-/// with all events. From the opening books on, that is a history of these events alone. Two runs answer
+/// with all events. From the books of a beginning on, that is a history of these events alone. Two runs answer
 /// alike where a member's steps agree in all that was handed in: the replies to these are the same, and the
 /// witness says the same of the member.
 pub fn runs_are_histories()
     ensures steps { StepsAreARun }
     ensures none { NothingIsARun }
     ensures more { OneStepMore }
-    ensures opening { RunsAreHistories }
+    ensures starting { RunsAreHistories }
     ensures agree { RunsThatAgree }
 {}
 
-/// A journal is a history in which nothing ran out of memory. The opening books begin one, and each step that
+/// A journal is a history in which nothing ran out of memory. The books of a beginning begin one, and each step that
 /// is noted keeps it: with one place more, or as it was where memory ran out.
 pub fn journals_are_histories()
     ensures exactly { JournalsExactlyIf }
-    ensures opening { OpeningJournal }
+    ensures starting { StartingJournal }
     ensures noted { StepsAreNoted }
     ensures kept { NotedStepsKeepJournals }
 {}

@@ -9,3 +9,4 @@ pub mod Closing
 pub mod Received
 pub mod Asked
 pub mod OwnAsked
+pub mod Based

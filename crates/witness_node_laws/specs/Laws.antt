@@ -3,7 +3,7 @@ use Rattle.std.specs.Prelude.{◌≡◌, ◌≢◌, ◌↔◌, ℕ, IsSome, IsTr
 use Rattle.std.specs.List.{AllByRecursion}
 use Rattle.xdr.specs.Item.{IsBytes, number_spelling}
 use Rattle.xdr.specs.Texts.Text.{IsText}
-use Rattle.authenticator.specs.Roster.{IsRoster}
+use Rattle.authenticator.specs.Roster.{IsRoster, member_of}
 use Rattle.authenticator.specs.Signed.{IsSignedBy}
 use Rattle.authenticator.specs.declared.member.Member.{Member}
 use Rattle.secure_log.specs.LogEntries.Chain.{NoCollision, IsAmong}
@@ -25,11 +25,14 @@ use Rattle.commitment.specs.declared.outcome.Received.{Received}
 use Rattle.nfs_items.specs.Timeval.{Timeval}
 use Rattle.node_logs.specs.Steps.Nodes.{NodeParts, log_of, sender_of}
 use Rattle.node_logs.specs.Nodes.{IsMemberOf}
+use Rattle.node_logs.specs.Bases.{GivesBase}
 use Rattle.node_logs.specs.Challenges.{AnswersChallenge, RefusesChallenge}
 use Rattle.node_logs.specs.Receiving.{Receives}
 use Rattle.node_logs.specs.Sending.{TakesReply}
 use Rattle.commitment.specs.declared.outcome.Received.TheVariants.{New, Repeat}
 use Rattle.node_logs.specs.declared.outcome.Receipt.{Receipt}
+use Rattle.state_spec.specs.State.{State}
+use Rattle.witness_laws.specs.evidence_spec.Base.{BaseParts, IsGoodBase, base_text, base_value}
 use Rattle.witness_laws.specs.evidence_spec.Proving.{texts_of}
 use Rattle.witness_laws.specs.witness_spec.Events.{PublicKey, Event, IsEvent}
 use Rattle.witness_laws.specs.witness_spec.Events as events
@@ -143,6 +146,23 @@ AcksOfNodesClose =
     → IsReceiptAt (log_of n) (envelope_message e) number
     → IsAmong (SendOf e) (open_challenges (own_of w history))
     → AckCloses w history n number
+
+-- ---- where a witness may begin
+
+-- The bytes are the text of a base at a number, which is good under a roster, of a member.
+pub record IsGoodBaseText (ms : List Member) (m : Member) (at : ℕ) (bytes : List ℕ) : Type 0 where
+  pub base : BaseParts
+  pub state : State
+  pub number : base.at ≡ at
+  pub text : IsText base_text (base_value base) bytes
+  pub good : IsGoodBase ms base m state
+
+-- What a node gives at a number is the text of a base that is good under each roster in which the node
+-- stands, whether it strayed or not.
+abbrev pub BasesOfNodesAreGood : NodeParts → Type 0
+BasesOfNodesAreGood n =
+    (ms : List Member) (m : Member) (at : ℕ) (bytes : List ℕ)
+    → member_of ms n.node ≡ Some m → IsListedAs n m → GivesBase n at bytes → IsGoodBaseText ms m at bytes
 
 -- ---- what is received
 

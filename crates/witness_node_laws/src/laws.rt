@@ -3,7 +3,7 @@
 ghost use Rattle.witness_node_laws.specs.Logs.{KeepsALog};
 ghost use Rattle.witness_node_laws.specs.Laws.{IsNeverExposed, OwnWordsNeverExpose, OwnWordsCanBeAnswered};
 ghost use Rattle.witness_node_laws.specs.Laws.{AskedCanBeAnswered, AnswersOfNodesAreAccepted};
-ghost use Rattle.witness_node_laws.specs.Laws.{AcksOfNodesClose};
+ghost use Rattle.witness_node_laws.specs.Laws.{AcksOfNodesClose, BasesOfNodesAreGood};
 ghost use Rattle.witness_node_laws.specs.Laws.{ReceivedCallsAreLogged, TakenRepliesAreLogged};
 ghost use Rattle.witness_node_laws.specs.Laws.{ReceivedCallsClose, TakenRepliesClose};
 
@@ -89,6 +89,15 @@ pub fn acknowledgements_of_nodes_close()
     acknowledgements_close();
     what_a_sender_shows_is_of_its_log();
     packets_are_taken_as_meant();
+}
+
+/// The base that a node gives is good under each roster in which the node stands, with its number, kind, key
+/// and the version of its log, whether it strayed or not: what it shows is closed, and its state is of the
+/// node and of its kind, and knows few messages.
+pub fn bases_of_nodes_are_good(node: &NodeLog)
+    ensures { BasesOfNodesAreGood node.now }
+{
+    node.is_honest();
 }
 
 /// The RECV of a message that a node received, now or before, stands in its log at the number that it gives.

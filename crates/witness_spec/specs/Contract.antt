@@ -3,14 +3,13 @@
 use Rattle.std.specs.Prelude.{◌≡◌, ℕ, true, false, ◌==◌, List, [], ◌∷◌, map, length}
 use Rattle.std.specs.Prelude.{Option, Some, None, is_some, if◌then◌else◌}
 use Rattle.authenticator.specs.declared.member.Member.{Member}
-use Rattle.evidence_spec.specs.replay_spec.Opening.{opening_of}
 use Rattle.witness_spec.specs.Refusals.{NoMemory}
 use Rattle.witness_spec.specs.Events.{Event, IsEvent, Question, ItsIndication, ItsChallenges, ItsEvidence}
 use Rattle.witness_spec.specs.Replies.{Reply, Told, OpenList, EvidenceIs, refused, is_want_of_memory}
 use Rattle.witness_spec.specs.Replies.{Indication, Exposed}
-use Rattle.witness_spec.specs.Watched.{Watched, watched}
+use Rattle.witness_spec.specs.Starting.{KnownBase, Beginning, base_of, start_number, start_state, start_pairs}
+use Rattle.witness_spec.specs.Watched.{Watched, watched, IsWatchedFrom}
 use Rattle.witness_spec.specs.Steps.{Step, Past}
-use Rattle.witness_spec.specs.Pairs.{first_pair}
 use Rattle.witness_spec.specs.Standing.{end_of, shown, kept, NoAudit, stage_of, begins, open_challenges}
 use Rattle.witness_spec.specs.Standing.{without_evidence, outbox, all_accepted}
 use Rattle.witness_spec.specs.Exposing.{evidence}
@@ -20,13 +19,13 @@ use Rattle.witness_spec.specs.Histories.{own_of}
 
 -- ---- books
 
--- what a member's book holds at first
-abbrev pub opening_book : Member → BookParts
-opening_book m = record {
-  end = record { number = 0; state = opening_of m };
+-- what a member's book holds at first, from its base if there is one
+abbrev pub starting_book : Member → Option KnownBase → BookParts
+starting_book m base = record {
+  end = record { number = start_number base; state = start_state m base };
   stage = NoAudit;
   begun = 0;
-  pairs = first_pair ∷ [];
+  pairs = start_pairs base;
   learned = [];
   challenges = [];
   outbox = [];
@@ -34,9 +33,9 @@ opening_book m = record {
   evidence = None;
 }
 
--- the books of a roster at first
-abbrev pub opening_books : List Member → List BookParts
-opening_books ms = map opening_book ms
+-- the books of a beginning at first
+abbrev pub starting_books : Beginning → List BookParts
+starting_books g = map (λ m. starting_book m (base_of g m.node)) g.roster
 
 -- what a member's own steps say, as a book, each list in their order
 abbrev pub book_of : Watched → Past → BookParts
@@ -53,8 +52,8 @@ book_of w past = record {
 }
 
 -- what a history says, as books
-abbrev pub books_of : List Member → History → List BookParts
-books_of ms history = map (λ m. book_of (watched ms m) (own_of (watched ms m) history)) ms
+abbrev pub books_of : Beginning → History → List BookParts
+books_of g history = map (λ m. book_of (watched g m) (own_of (watched g m) history)) g.roster
 
 -- the book of the member with a number
 abbrev pub book_in : List Member → List BookParts → (node : ℕ) → Option BookParts
@@ -70,26 +69,27 @@ with_book (m ∷ ms) node new (b ∷ books) =
     if m.node == node then new ∷ books else b ∷ with_book ms node new books
 
 -- Books as a program has them: they stand for a history.
-pub record AreBooks (ms : List Member) (books : List BookParts) : Type 0 where
+pub record AreBooks (g : Beginning) (books : List BookParts) : Type 0 where
   pub history : History
-  pub is : IsHistory ms history
-  pub stands : Stands ms books history
+  pub is : IsHistory g history
+  pub stands : Stands g books history
 
 -- ---- a step
 
 -- A step leads from old books to new ones, with a reply. After every history that the old books stand for,
 -- the event may be handed in, the reply is the one that is owed, or NoMemory where a step may answer that
 -- (IsWanting), and the new books stand for the history with this event.
-abbrev pub StepsTo : List Member → (old : List BookParts) → Event → Reply → (new : List BookParts) → Type 0
-StepsTo ms old event reply new =
-    (history : History) → IsHistory ms history → Stands ms old history
-    → IsHistory ms ((event, reply) ∷ history) × Stands ms new ((event, reply) ∷ history)
+abbrev pub StepsTo : Beginning → (old : List BookParts) → Event → Reply → (new : List BookParts) → Type 0
+StepsTo g old event reply new =
+    (history : History) → IsHistory g history → Stands g old history
+    → IsHistory g ((event, reply) ∷ history) × Stands g new ((event, reply) ∷ history)
 
 -- The same of the book of the member whose step it is: the reply is the one that is owed to that step. It is
 -- a step of all books, since another member's step changes nothing here.
 abbrev pub BookStepsTo : Watched → (old : BookParts) → Step → Reply → (new : BookParts) → Type 0
 BookStepsTo w old step reply new =
-    (history : History) → IsHistory w.roster history → StandsFor w (own_of w history) old
+    (g : Beginning) (history : History)
+    → IsWatchedFrom g w → IsHistory g history → StandsFor w (own_of w history) old
     → Owes w (own_of w history) step reply
     × StandsFor w ((step, reply) ∷ own_of w history) new
 
@@ -103,20 +103,20 @@ joined (e ∷ events) (r ∷ replies) history = joined events replies ((e, r) �
 
 -- A run leads from old books to new ones: each event has a reply, and all of them together keep what a step
 -- keeps.
-pub record RunsTo (ms : List Member) (old : List BookParts) (events : List Event) (replies : List Reply)
+pub record RunsTo (g : Beginning) (old : List BookParts) (events : List Event) (replies : List Reply)
     (new : List BookParts) : Type 0 where
   pub count : length replies ≡ length events
-  pub keeps : (history : History) → IsHistory ms history → Stands ms old history
-      → IsHistory ms (joined events replies history) × Stands ms new (joined events replies history)
+  pub keeps : (history : History) → IsHistory g history → Stands g old history
+      → IsHistory g (joined events replies history) × Stands g new (joined events replies history)
 
 -- Each event is a step of its own, from the books that the one before left.
-abbrev pub StepsInTurn : List Member → (old : List BookParts) → List Event → List Reply
+abbrev pub StepsInTurn : Beginning → (old : List BookParts) → List Event → List Reply
     → (new : List BookParts) → Type 0
-StepsInTurn ms old [] [] new = old ≡ new
-StepsInTurn ms old [] (r ∷ replies) new = ⊥
-StepsInTurn ms old (e ∷ events) [] new = ⊥
-StepsInTurn ms old (e ∷ events) (r ∷ replies) new =
-    (next : List BookParts) × (StepsTo ms old e r next × StepsInTurn ms next events replies new)
+StepsInTurn g old [] [] new = old ≡ new
+StepsInTurn g old [] (r ∷ replies) new = ⊥
+StepsInTurn g old (e ∷ events) [] new = ⊥
+StepsInTurn g old (e ∷ events) (r ∷ replies) new =
+    (next : List BookParts) × (StepsTo g old e r next × StepsInTurn g next events replies new)
 
 -- ---- where event and reply are copied
 
@@ -127,25 +127,25 @@ IsOutOfMemory event reply = reply ≡ refused event NoMemory
 
 -- A step that is copied: the reply is the one that is owed, and the new books stand for the history with this
 -- event; or it ran out of memory, and the books are as before.
-pub record IsNotedStep (ms : List Member) (old : List BookParts) (event : Event) (reply : Reply)
+pub record IsNotedStep (g : Beginning) (old : List BookParts) (event : Event) (reply : Reply)
     (new : List BookParts) : Type 0 where
   pub noted : (history : History) → is_want_of_memory reply ≡ false
-      → IsHistory ms history → Stands ms old history
-      → IsEvent event × IsOwed ms history event reply × Stands ms new ((event, reply) ∷ history)
+      → IsHistory g history → Stands g old history
+      → IsEvent event × IsOwed g history event reply × Stands g new ((event, reply) ∷ history)
   pub refused : is_want_of_memory reply ≡ true → IsOutOfMemory event reply × (new ≡ old)
 
 -- ---- journals
 
 -- A journal has events that may be handed in, each with the reply that is owed after the earlier ones, the
 -- newest first. None of them ran out of memory.
-abbrev pub IsJournal : List Member → History → Type 0
-IsJournal ms [] = Unit {0}
-IsJournal ms (p ∷ journal) = IsEvent p.0 × IsOwed ms journal p.0 p.1 × IsJournal ms journal
+abbrev pub IsJournal : Beginning → History → Type 0
+IsJournal g [] = Unit {0}
+IsJournal g (p ∷ journal) = IsEvent p.0 × IsOwed g journal p.0 p.1 × IsJournal g journal
 
 -- It is a journal, for which the books stand.
-pub record IsJournalOf (ms : List Member) (journal : History) (books : List BookParts) : Type 0 where
-  pub replies : IsJournal ms journal
-  pub stands : Stands ms books journal
+pub record IsJournalOf (g : Beginning) (journal : History) (books : List BookParts) : Type 0 where
+  pub replies : IsJournal g journal
+  pub stands : Stands g books journal
 
 -- a journal after a noted step: with one place more, or as it was, where the step ran out of memory
 abbrev pub recorded : Event → Reply → History → History

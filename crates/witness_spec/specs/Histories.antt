@@ -11,6 +11,7 @@ use Rattle.witness_spec.specs.Refusals.{Refusal, NoMemory}
 use Rattle.witness_spec.specs.Events.{Event, Question, ItsIndication, ItsChallenges, ItsEvidence, IsEvent}
 use Rattle.witness_spec.specs.Events as events
 use Rattle.witness_spec.specs.Replies.{Reply, refused, is_want_of_memory, Challenge}
+use Rattle.witness_spec.specs.Starting.{Beginning}
 use Rattle.witness_spec.specs.Watched.{Watched, watched}
 use Rattle.witness_spec.specs.Steps.{OwnStep, Past}
 use Rattle.witness_spec.specs.Whose.{whose}
@@ -47,14 +48,14 @@ own_of w history = own w.roster w.member.node history
 -- ---- histories
 
 -- the reply that is owed to an event: by event and roster alone where it is nobody's step
-abbrev pub OwesTo : List Member → History → Event → Reply → Result OwnStep Refusal → Type 0
-OwesTo ms history event reply (Err refusal) = reply ≡ refused event refusal
-OwesTo ms history event reply (Ok o) =
-    Owes (watched ms o.member) (own_of (watched ms o.member) history) o.step reply
+abbrev pub OwesTo : Beginning → History → Event → Reply → Result OwnStep Refusal → Type 0
+OwesTo g history event reply (Err refusal) = reply ≡ refused event refusal
+OwesTo g history event reply (Ok o) =
+    Owes (watched g o.member) (own_of (watched g o.member) history) o.step reply
 
 -- the reply is the one that is owed to the event, whose step it is told by the roster
-abbrev pub IsOwed : List Member → History → Event → Reply → Type 0
-IsOwed ms history event reply = OwesTo ms history event reply (whose ms event)
+abbrev pub IsOwed : Beginning → History → Event → Reply → Type 0
+IsOwed g history event reply = OwesTo g history event reply (whose g.roster event)
 
 -- It may run out of memory: neither an indication that is asked for does, nor a job that is put back.
 abbrev pub MayWant : Event → Type 0
@@ -69,10 +70,10 @@ pub record IsWanting (event : Event) (reply : Reply) : Type 0 where
 
 -- Each event is one that can be handed in, and each reply is the one that is owed after the earlier events,
 -- or the refusal of an event that ran out of memory.
-abbrev pub IsHistory : List Member → History → Type 0
-IsHistory ms [] = Unit {0}
-IsHistory ms (p ∷ history) =
-    IsEvent p.0 × (IsOwed ms history p.0 p.1 ⊎ IsWanting p.0 p.1) × IsHistory ms history
+abbrev pub IsHistory : Beginning → History → Type 0
+IsHistory g [] = Unit {0}
+IsHistory g (p ∷ history) =
+    IsEvent p.0 × (IsOwed g history p.0 p.1 ⊎ IsWanting p.0 p.1) × IsHistory g history
 
 -- the same of one node's own steps
 abbrev pub AreOwed : Watched → Past → Type 0
@@ -110,13 +111,13 @@ pub record StandsFor (w : Watched) (past : Past) (b : BookParts) : Type 0 where
   pub evidence : b.evidence ≡ evidence w past
 
 -- There is a book for each of these members, that holds what the member's own steps in a history say.
-abbrev pub StandEach : List Member → History → List Member → List BookParts → Type 0
-StandEach ms history [] [] = Unit {0}
-StandEach ms history [] (b ∷ books) = ⊥
-StandEach ms history (m ∷ members) [] = ⊥
-StandEach ms history (m ∷ members) (b ∷ books) =
-    StandsFor (watched ms m) (own_of (watched ms m) history) b × StandEach ms history members books
+abbrev pub StandEach : Beginning → History → List Member → List BookParts → Type 0
+StandEach g history [] [] = Unit {0}
+StandEach g history [] (b ∷ books) = ⊥
+StandEach g history (m ∷ members) [] = ⊥
+StandEach g history (m ∷ members) (b ∷ books) =
+    StandsFor (watched g m) (own_of (watched g m) history) b × StandEach g history members books
 
--- The books of a roster stand for a history.
-abbrev pub Stands : List Member → List BookParts → History → Type 0
-Stands ms books history = StandEach ms history ms books
+-- The books of a beginning's roster stand for a history.
+abbrev pub Stands : Beginning → List BookParts → History → Type 0
+Stands g books history = StandEach g history g.roster books

@@ -29,12 +29,13 @@ use Rattle.evidence_spec.specs.replay_spec.Replay.{Honest}
 use Rattle.evidence_spec.specs.replay_spec.HonestLogs.{IsHonestLog}
 use Rattle.evidence_spec.specs.Evidence.{EvidenceParts, evidence_item, evidence_value, Accepts}
 use Rattle.evidence_spec.specs.Proving.{IsLogOf, Proves}
-use Rattle.witness_spec.specs.Refusals.{Refusal, refusal_number}
+use Rattle.witness_spec.specs.Refusals.{Refusal, NoMemory, refusal_number}
 use Rattle.witness_spec.specs.Events.{PublicKey, JobParts, Event}
 use Rattle.witness_spec.specs.Events as events
 use Rattle.witness_spec.specs.Replies.{Reply, Accepted, Closed, refused}
 use Rattle.witness_spec.specs.Replies.{AuditOf, SendOf, Suspected, Exposed}
-use Rattle.witness_spec.specs.Watched.{Watched, IsInRoster}
+use Rattle.witness_spec.specs.Starting.{Beginning}
+use Rattle.witness_spec.specs.Watched.{Watched, IsInRoster, IsWatchedFrom}
 use Rattle.witness_spec.specs.Steps.{Step, Answer, AckIn, OwnStep, Past}
 use Rattle.witness_spec.specs.Whose.{is_key_of, whose}
 use Rattle.witness_spec.specs.Pairs.{Pair}
@@ -58,13 +59,13 @@ OneReply =
 -- The own steps of a history have the replies that are owed by the earlier ones of that node alone.
 abbrev pub OwnStepsAreOwed : Type 0
 OwnStepsAreOwed =
-    (w : Watched) (history : History)
-    → IsInRoster w → IsHistory w.roster history → AreOwed w (own_of w history)
+    (g : Beginning) (w : Watched) (history : History)
+    → IsInRoster w → IsWatchedFrom g w → IsHistory g history → AreOwed w (own_of w history)
 
 -- ---- own steps alone
 
--- What a witness says of a node after two histories is the same.
-pub record SaysSame (w : Watched) (one two : History) : Type 0 where
+-- What a witness says of a node after two histories, each from its own beginning, is the same.
+pub record SaysSame (g h : Beginning) (w : Watched) (one two : History) : Type 0 where
   -- the steps with their replies
   pub replies : own_of w one ≡ own_of w two
   -- what it tells
@@ -74,62 +75,63 @@ pub record SaysSame (w : Watched) (one two : History) : Type 0 where
   -- what it owes to the next
   pub next : (event : Event) (step : Step) (reply : Reply)
       → whose w.roster event ≡ Ok (record { member = w.member; step = step })
-      → IsOwed w.roster one event reply ↔ IsOwed w.roster two event reply
+      → IsOwed g one event reply ↔ IsOwed h two event reply
 
 -- Histories in which a node's own steps are the same and in the same order, whatever their replies and
--- whatever else they hold, have the same replies to these, and the witness says the same of the node.
+-- whatever else they hold, have the same replies to these, and the witness says the same of the node. They
+-- begin with one roster and with the same base of the node, if with one; bases of others may differ.
 abbrev pub OwnStepsAlone : Type 0
 OwnStepsAlone =
-    (w : Watched) (one two : History)
-    → IsInRoster w → IsHistory w.roster one → IsHistory w.roster two
+    (g h : Beginning) (w : Watched) (one two : History)
+    → IsInRoster w → IsWatchedFrom g w → IsWatchedFrom h w → IsHistory g one → IsHistory h two
     → map (λ p. p.0) (own_of w one) ≡ map (λ p. p.0) (own_of w two)
-    → SaysSame w one two
+    → SaysSame g h w one two
 
 -- ---- what is left out
 
 -- An event changes nothing: all books that stood for the history stand for it with the event.
-pub record ChangesNothing (ms : List Member) (history : History) (event : Event) (reply : Reply)
+pub record ChangesNothing (g : Beginning) (history : History) (event : Event) (reply : Reply)
     : Type 0 where
-  pub own_steps : (node : ℕ) → own ms node ((event, reply) ∷ history) ≡ own ms node history
-  pub books : (books : List BookParts) → Stands ms books history
-      → Stands ms books ((event, reply) ∷ history)
+  pub own_steps : (node : ℕ) → own g.roster node ((event, reply) ∷ history) ≡ own g.roster node history
+  pub books : (books : List BookParts) → Stands g books history
+      → Stands g books ((event, reply) ∷ history)
 
 -- An event that is nobody's step by event and roster changes nothing, and gets the same refusal after every
 -- history, numbered 1, 2 or 3.
-pub record IsLeftOut (ms : List Member) (event : Event) (refusal : Refusal) : Type 0 where
+pub record IsLeftOut (g : Beginning) (event : Event) (refusal : Refusal) : Type 0 where
   pub reply : (history : History) (reply : Reply)
-      → IsOwed ms history event reply ↔ (reply ≡ refused event refusal)
+      → IsOwed g history event reply ↔ (reply ≡ refused event refusal)
   pub some : 1 ≤ refusal_number refusal
   pub few : refusal_number refusal ≤ 3
-  pub changes : (history : History) (reply : Reply) → ChangesNothing ms history event reply
+  pub changes : (history : History) (reply : Reply) → ChangesNothing g history event reply
 
 -- An event that is nobody's step is left out, whatever the history.
 abbrev pub LeftOutChangesNothing : Type 0
 LeftOutChangesNothing =
-    (ms : List Member) (event : Event) (refusal : Refusal)
-    → whose ms event ≡ Err refusal → IsLeftOut ms event refusal
+    (g : Beginning) (event : Event) (refusal : Refusal)
+    → whose g.roster event ≡ Err refusal → IsLeftOut g event refusal
 
 -- An event that is refused because memory ran out changes nothing.
 abbrev pub WantChangesNothing : Type 0
 WantChangesNothing =
-    (ms : List Member) (history : History) (event : Event) (reply : Reply)
-    → IsWanting event reply → ChangesNothing ms history event reply
+    (g : Beginning) (history : History) (event : Event) (reply : Reply)
+    → IsWanting event reply → ChangesNothing g history event reply
 
 -- Every other event is a step of its node, and is refused neither by 1, 2 or 3 nor as out of memory.
-pub record IsTaken (ms : List Member) (history : History) (event : Event) (reply : Reply) (o : OwnStep)
+pub record IsTaken (g : Beginning) (history : History) (event : Event) (reply : Reply) (o : OwnStep)
     : Type 0 where
-  pub own_step : own ms o.member.node ((event, reply) ∷ history)
-      ≡ (o.step, reply) ∷ own ms o.member.node history
+  pub own_step : own g.roster o.member.node ((event, reply) ∷ history)
+      ≡ (o.step, reply) ∷ own g.roster o.member.node history
   pub others : (node : ℕ) → node ≢ o.member.node
-      → own ms node ((event, reply) ∷ history) ≡ own ms node history
+      → own g.roster node ((event, reply) ∷ history) ≡ own g.roster node history
   pub refusals : (refusal : Refusal) → reply ≡ refused event refusal
-      → (4 ≤ refusal_number refusal) × (refusal_number refusal ≤ 13)
+      → (4 ≤ refusal_number refusal) × (refusal ≢ NoMemory)
 
 -- An event that is a node's step is taken by that node, with any reply that is owed to it.
 abbrev pub OthersAreTaken : Type 0
 OthersAreTaken =
-    (ms : List Member) (history : History) (event : Event) (reply : Reply) (o : OwnStep)
-    → whose ms event ≡ Ok o → IsOwed ms history event reply → IsTaken ms history event reply o
+    (g : Beginning) (history : History) (event : Event) (reply : Reply) (o : OwnStep)
+    → whose g.roster event ≡ Ok o → IsOwed g history event reply → IsTaken g history event reply o
 
 -- ---- who is exposed
 
@@ -187,10 +189,11 @@ ExposedStays =
 -- never exposed, where its signatures aren't forged and no two texts have one digest.
 abbrev pub HonestIsNeverExposed : Type 0
 HonestIsNeverExposed =
-    (w : Watched) (history : History) (log : List Logged) (s : State)
-    → IsInRoster w → IsHistory w.roster history
-    → IsLogOf w.member.log_version log → IsHonestLog w.roster (opening_of w.member) log s
-    → Unforged w log (own_of w history) → NoCollisionWith log (own_of w history)
+    (g : Beginning) (w : Watched) (history : History) (log : List Logged) (s : State)
+    → IsInRoster w → IsWatchedFrom g w → IsHistory g history
+    → IsLogOf w.member.log_version log → (h : IsHonestLog w.roster (opening_of w.member) log s)
+    → Unforged w log (own_of w history)
+    → NoCollisionWith w log (opening_of w.member ∷ h.states) (own_of w history)
     → indication w (own_of w history) ≢ Exposed
 
 -- ---- evidence
@@ -198,8 +201,8 @@ HonestIsNeverExposed =
 -- Evidence is there exactly where the node is Exposed.
 abbrev pub EvidenceWhereExposed : Type 0
 EvidenceWhereExposed =
-    (w : Watched) (history : History)
-    → IsInRoster w → IsHistory w.roster history
+    (g : Beginning) (w : Watched) (history : History)
+    → IsInRoster w → IsWatchedFrom g w → IsHistory g history
     → IsSome (evidence w (own_of w history)) ↔ (indication w (own_of w history) ≡ Exposed)
 
 -- It is of the node, has a text, and is accepted; so it proves that the node has no honest log.
@@ -212,18 +215,18 @@ pub record IsProof (w : Watched) (e : EvidenceParts) : Type 0 where
 -- The evidence that a history gives against a member proves that it has no honest log.
 abbrev pub EvidenceProves : Type 0
 EvidenceProves =
-    (w : Watched) (history : History) (e : EvidenceParts)
-    → IsInRoster w → IsHistory w.roster history
+    (g : Beginning) (w : Watched) (history : History) (e : EvidenceParts)
+    → IsInRoster w → IsWatchedFrom g w → IsHistory g history
     → evidence w (own_of w history) ≡ Some e → IsProof w e
 
 -- ---- who answers
 
 -- A segment that was asked for is answered by that part of the node's log, closed by its signature there. The
 -- answer is the node's step, it is accepted, and after it no audit is open.
-pub record AnswersAudit (w : Watched) (history : History) (c : ClosedParts) : Type 0 where
+pub record AnswersAudit (g : Beginning) (w : Watched) (history : History) (c : ClosedParts) : Type 0 where
   pub closed : IsClosedIn w.roster c.segment
   pub its : whose w.roster (events.Answer c) ≡ Ok (record { member = w.member; step = Answer c })
-  pub reply : (reply : Reply) → IsOwed w.roster history (events.Answer c) reply ↔ (reply ≡ Accepted)
+  pub reply : (reply : Reply) → IsOwed g history (events.Answer c) reply ↔ (reply ≡ Accepted)
   pub closes : (first last : ℕ)
       → let after : History = (events.Answer c, Accepted) ∷ history in
       ¬ IsAmong (AuditOf first last) (open_challenges (own_of w after))
@@ -236,18 +239,18 @@ answer_of ms s closing = record { segment = with_closing s closing; roster = ms 
 -- signature at its last number, answers the audit, where it skips no more than a text may.
 abbrev pub AnswersAreAccepted : Type 0
 AnswersAreAccepted =
-    (w : Watched) (history : History) (log : LogParts) (first last : ℕ) (s : OpenSegment)
+    (g : Beginning) (w : Watched) (history : History) (log : LogParts) (first last : ℕ) (s : OpenSegment)
     (closing : Authenticator)
-    → IsRoster w.roster → IsInRoster w → log.node ≡ w.member.node → log.log_version ≡ w.member.log_version
+    → IsRoster w.roster → IsInRoster w → IsWatchedFrom g w → log.node ≡ w.member.node → log.log_version ≡ w.member.log_version
     → stage_of (own_of w history) ≡ Wanted first last → GivesPart log first last (Ok s)
     → AllByRecursion (MaySkip s.log_version) (open_links s) → IsOfPlace log last closing → IsSignedBy w.member closing
-    → AnswersAudit w history (answer_of w.roster s closing)
+    → AnswersAudit g w history (answer_of w.roster s closing)
 
 -- The acknowledgement by a node of a message that it is challenged with is the node's step, it closes the
 -- challenge, and after it none of that message is open.
-pub record ClosesChallenge (w : Watched) (history : History) (a : Ack) (key : PublicKey) : Type 0 where
+pub record ClosesChallenge (g : Beginning) (w : Watched) (history : History) (a : Ack) (key : PublicKey) : Type 0 where
   pub its : whose w.roster (events.AckIn a key) ≡ Ok (record { member = w.member; step = AckIn a })
-  pub reply : (reply : Reply) → IsOwed w.roster history (events.AckIn a key) reply ↔ (reply ≡ Closed)
+  pub reply : (reply : Reply) → IsOwed g history (events.AckIn a key) reply ↔ (reply ≡ Closed)
   pub closes : (e : Envelope) → envelope_message e ≡ acked_message a
       → let after : History = (events.AckIn a key, Closed) ∷ history in
       ¬ IsAmong (SendOf e) (open_challenges (own_of w after))
@@ -255,10 +258,10 @@ pub record ClosesChallenge (w : Watched) (history : History) (a : Ack) (key : Pu
 -- A node's acknowledgement of a message that it is challenged with closes the challenge.
 abbrev pub AcksClose : Type 0
 AcksClose =
-    (w : Watched) (history : History) (e : Envelope) (a : Ack) (key : PublicKey)
-    → IsInRoster w → IsTrue (is_key_of w.member key) → a.by ≡ w.member.node
+    (g : Beginning) (w : Watched) (history : History) (e : Envelope) (a : Ack) (key : PublicKey)
+    → IsInRoster w → IsWatchedFrom g w → IsTrue (is_key_of w.member key) → a.by ≡ w.member.node
     → IsAmong (SendOf e) (open_challenges (own_of w history)) → acked_message a ≡ envelope_message e
-    → ClosesChallenge w history a key
+    → ClosesChallenge g w history a key
 
 -- A segment has the RECV of a message in its node's log.
 pub record HasRecv (s : VersionedParts) (message : Message) : Type 0 where

@@ -5,11 +5,12 @@ pub use Rattle.evidence_spec.specs.replay_spec as replay_spec
 pub mod Refusals
 pub mod Events
 pub mod Replies
+pub mod Pairs
+pub mod Starting
 pub mod Watched
 pub mod Steps
 pub mod Whose
 pub mod Limits
-pub mod Pairs
 pub mod Done
 pub mod Standing
 pub mod Exposing

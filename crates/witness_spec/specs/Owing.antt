@@ -12,11 +12,12 @@ use Rattle.packets.specs.envelopes.Acknowledgement.{acked_message}
 use Rattle.packets.specs.envelopes.declared.message.Message.{Message}
 use Rattle.packets.specs.envelopes.declared.envelope.Envelope.{Envelope}
 use Rattle.witness_spec.specs.Refusals.{LearnedFull, ChallengesFull, OutboxFull, TooFar, NothingToAudit, Busy}
-use Rattle.witness_spec.specs.Refusals.{NotAsked, NoJob, WrongJob, BookFull}
+use Rattle.witness_spec.specs.Refusals.{NotAsked, NoJob, WrongJob, BookFull, BelowBase}
 use Rattle.witness_spec.specs.Events.{JobParts, Question, ItsIndication, ItsChallenges, ItsEvidence}
 use Rattle.witness_spec.specs.Replies.{Reply, Noted, Already, Opened, Accepted, Closed, Asked, Job, Filed}
 use Rattle.witness_spec.specs.Replies.{Returned, Forwarded, Empty, Told, OpenList, EvidenceIs}
 use Rattle.witness_spec.specs.Replies.{Refused, FileRefused, PutBackRefused, Challenge, AuditOf, SendOf}
+use Rattle.witness_spec.specs.Starting.{start_number, is_below}
 use Rattle.witness_spec.specs.Watched.{Watched}
 use Rattle.witness_spec.specs.Steps.{Step, Learn, SendChallenge, Answer, AckIn, Audit, Begin, File, PutBack}
 use Rattle.witness_spec.specs.Steps.{Forward, Ask, Past}
@@ -41,6 +42,7 @@ has_no_room w past a =
 abbrev pub learn_reply : Watched → Past → Authenticator → Reply
 learn_reply w past a =
     if is_exposed w past then Noted
+    else if is_below w.base (number_of w.member.log_version a) then Refused BelowBase
     else if is_shown (pair_of w.member.log_version a) (shown w past) then Already
     else if has_no_room w past a then Refused LearnedFull
     else Noted
@@ -80,25 +82,26 @@ abbrev pub last_in_reach : LogVersion → (end : ℕ) → List Authenticator →
 last_in_reach v end learned =
     fold max 0 (filter (λ n. nat_le n (end + MAX_ASKED)) (map (λ a. number_of v a) learned))
 
--- an audit up to a number
-abbrev pub ask_up_to : (end waiting last : ℕ) → Reply
-ask_up_to end waiting last =
+-- an audit up to a number, in a book that begins after `start`
+abbrev pub ask_up_to : (start end waiting last : ℕ) → Reply
+ask_up_to start end waiting last =
     if last == 0 then Refused TooFar
-    else if nat_lt MAX_AUDITED last then Refused BookFull
+    else if nat_lt (start + MAX_AUDITED) last then Refused BookFull
     else if nat_lt MAX_OUTBOX (waiting + (last - end)) then Refused OutboxFull
     else Asked (end + 1) last
 
 -- an audit of what was learned above the end
-abbrev pub ask_reply : LogVersion → (exposed : Bool) (end waiting : ℕ) → List Authenticator → Reply
-ask_reply v true end waiting learned = Refused NothingToAudit
-ask_reply v false end waiting [] = Refused NothingToAudit
-ask_reply v false end waiting (a ∷ learned) = ask_up_to end waiting (last_in_reach v end (a ∷ learned))
+abbrev pub ask_reply : LogVersion → (exposed : Bool) (start end waiting : ℕ) → List Authenticator → Reply
+ask_reply v true start end waiting learned = Refused NothingToAudit
+ask_reply v false start end waiting [] = Refused NothingToAudit
+ask_reply v false start end waiting (a ∷ learned) =
+    ask_up_to start end waiting (last_in_reach v end (a ∷ learned))
 
 -- the reply to an audit, by its stage
 abbrev pub audit_reply : Watched → Past → Stage → Reply
 audit_reply w past NoAudit =
-    ask_reply w.member.log_version (is_exposed w past) (end_of w past).number (length (outbox w past))
-    (kept w past)
+    ask_reply w.member.log_version (is_exposed w past) (start_number w.base) (end_of w past).number
+    (length (outbox w past)) (kept w past)
 audit_reply w past (Wanted first last) = Refused Busy
 audit_reply w past (Given c) = Refused Busy
 audit_reply w past (Out c) = Refused Busy

@@ -33,6 +33,8 @@ pub data Refusal : Type 0 where
   BookFull : Refusal
   -- out of memory
   NoMemory : Refusal
+  -- its number is below all that the base shows
+  BelowBase : Refusal
 
 -- the number of a refusal
 abbrev pub refusal_number : Refusal → ℕ
@@ -50,6 +52,7 @@ refusal_number NoJob = 11
 refusal_number WrongJob = 12
 refusal_number BookFull = 13
 refusal_number NoMemory = 14
+refusal_number BelowBase = 15
 
 -- what a check of bytes answers, as a witness says it
 abbrev pub refusal_of : checks.Refusal → Refusal

@@ -17,7 +17,6 @@ use Rattle.packets.specs.envelopes.Envelope.{envelope_message}
 use Rattle.packets.specs.envelopes.Acknowledgement.{acked_message}
 use Rattle.packets.specs.envelopes.declared.message.Message.{Message}
 use Rattle.state_spec.specs.State.{State}
-use Rattle.evidence_spec.specs.replay_spec.Opening.{opening_of}
 use Rattle.evidence_spec.specs.replay_spec.Placed.{places_in}
 use Rattle.authenticator.specs.Signing.{is_same}
 use Rattle.evidence_spec.specs.replay_spec.Replay.{Verdict, Sound, Fault, verdict_of}
@@ -25,10 +24,11 @@ use Rattle.witness_spec.specs.Events.{JobParts}
 use Rattle.witness_spec.specs.Replies.{Reply, Challenge, AuditOf, SendOf}
 use Rattle.witness_spec.specs.Replies.{Indication, Trusted, Suspected, Exposed}
 use Rattle.witness_spec.specs.Replies as replies
+use Rattle.witness_spec.specs.Starting.{start_number, start_state, start_pairs}
 use Rattle.witness_spec.specs.Watched.{Watched}
 use Rattle.witness_spec.specs.Steps.{Step, Past}
 use Rattle.witness_spec.specs.Steps as steps
-use Rattle.witness_spec.specs.Pairs.{Pair, pair_of, first_pair, has_fork, number_of, last_of, marks_of}
+use Rattle.witness_spec.specs.Pairs.{Pair, pair_of, has_fork, number_of, last_of, marks_of}
 use Rattle.witness_spec.specs.Done.{noted, accepted, begun, filed, forwarded}
 
 -- ---- what was audited
@@ -52,9 +52,9 @@ abbrev pub end_after : List Member → End → Option JobParts → End
 end_after ms end None = end
 end_after ms end (Some j) = moved_by end (last_of j.segment.segment) (verdict_on ms end.state j)
 
--- At first it is 0, with the state that the node begins with.
+-- At first it is where the audit begins, with the state there.
 abbrev pub end_of : Watched → Past → End
-end_of w [] = record { number = 0; state = opening_of w.member }
+end_of w [] = record { number = start_number w.base; state = start_state w.member w.base }
 end_of w (p ∷ past) = end_after w.roster (end_of w past) (filed p.0 p.1)
 
 -- A verdict is a fault: no list of states makes the segment honest.
@@ -101,10 +101,10 @@ abbrev pub pairs_accepted : Option ClosedParts → List Pair
 pairs_accepted None = []
 pairs_accepted (Some c) = marks_of c.segment
 
--- What was shown: the pair before the first entry, those of each segment that was accepted, and of each
+-- What was shown: the pairs where the audit begins, those of each segment that was accepted, and of each
 -- authenticator that was noted while the node wasn't yet exposed.
 abbrev pub shown : Watched → Past → List Pair
-shown w [] = first_pair ∷ []
+shown w [] = start_pairs w.base
 shown w (p ∷ past) =
     pairs_noted w.member.log_version (has_fork (shown w past) || has_fault w past) (noted p.0 p.1)
     ++ (pairs_accepted (accepted p.0 p.1) ++ shown w past)

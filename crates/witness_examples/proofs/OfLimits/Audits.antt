@@ -2,7 +2,7 @@
 -- Serves: sixteen_audits, the_last_number, findings_wait.
 use Rattle.std.proofs.Common.{◌≡◌, ℕ, suc, ◌<◌, ◌≤◌, ◌+◌, ◌-◌, Bool, true, false, cond, not, ◌==◌, ◌&&◌}
 use Rattle.std.proofs.Common.{fold, max, le-leb, nat_lt, nat_le, List, [], ◌∷◌, ◌++◌, length, filter, drop}
-use Rattle.std.proofs.Common.{Some}
+use Rattle.std.proofs.Common.{Some, None}
 use Rattle.std.proofs.Common.{refl, sym, ap, ap₂, subst, ◌∙◌, arith, lt-ltb, eqb-true, eq-eqb, append-nil}
 use Rattle.std.proofs.Common.{append_assoc}
 use Rattle.std.proofs.lemmas.Bool.{and_left, or_from}
@@ -103,9 +103,10 @@ none_above end (a ∷ xs) h =
 
 -- ---- after whole audits
 
--- a node under a roster that gives it a log of version 1
+-- a node under a roster that gives it a log of version 1, without a base
 abbrev pub of_one : Watched → Watched
-of_one node = record { roster = node.roster; member = record node.member { log_version = One } }
+of_one node =
+    record { roster = node.roster; member = record node.member { log_version = One }; base = None }
 
 -- Own steps with the replies owed to them: a node whose log has the hashes `h` was audited up to an end, with
 -- the state there; nothing is under way, and this was found and not yet forwarded.
@@ -216,13 +217,13 @@ module _ (node : Watched) (past : Past) (h : ℕ → List ℕ) (end begun : ℕ)
 
     -- what is then owed to an audit
     pub audit_told : audit_reply w then_learned (stage_of then_learned)
-        ≡ ask_up_to end (length found) (last_in_reach One end (a ∷ []))
+        ≡ ask_up_to 0 end (length found) (last_in_reach One end (a ∷ []))
     audit_told =
         let waits = outbox w then_learned in
         let keeps = kept w then_learned in
         ap (audit_reply w then_learned) q.free
-        ∙ (ap₂ (λ b (e : End). ask_reply One b e.number (length waits) keeps) still_hidden q.at_end
-        ∙ ap₂ (λ (o k : List Authenticator). ask_reply One false end (length o) k) waiting kept_is)
+        ∙ (ap₂ (λ b (e : End). ask_reply One b 0 e.number (length waits) keeps) still_hidden q.at_end
+        ∙ ap₂ (λ (o k : List Authenticator). ask_reply One false 0 end (length o) k) waiting kept_is)
 
   -- A segment after the end that an audit may ask for: it holds the hashes of the log `k`, and a replay of
   -- it from the state there is sound.
@@ -286,7 +287,7 @@ module _ (node : Watched) (past : Past) (h : ℕ → List ℕ) (end begun : ℕ)
           ap (λ b. fold max 0 (cond b (a.word ∷ []) [])) (le-leb a.word (end + 4_096) f.near) ∙ max_zero
           a.word
 
-      asked : ask_up_to end (length found) a.word ≡ Asked first a.word
+      asked : ask_up_to 0 end (length found) a.word ≡ Asked first a.word
       asked =
           let some : (a.word == 0) ≡ false = unlike a.word 0 (omega (arith, f.above)) in
           let few : nat_lt 65_536 a.word ≡ false = grind (arith, nat_tests, f.few) in
@@ -297,7 +298,7 @@ module _ (node : Watched) (past : Past) (h : ℕ → List ℕ) (end begun : ℕ)
       audits : Owes w known Audit (Asked first a.word)
       audits =
           told w known Audit (Asked first a.word) (λ x. x)
-          (audit_told a f.above ∙ (ap (ask_up_to end (length found)) reached ∙ asked))
+          (audit_told a f.above ∙ (ap (ask_up_to 0 end (length found)) reached ∙ asked))
 
       answers : Owes w wanted (Answer c) Accepted
       answers =
@@ -402,7 +403,7 @@ module _ (node : Watched) (past : Past) (h : ℕ → List ℕ) (end begun : ℕ)
 
   -- an audit after one more authenticator is told this, and the steps before it are owed
   pub then_asked : (a : Authenticator) → end < a.word → (r : Reply)
-      → ask_up_to end (length found) (last_in_reach One end (a ∷ [])) ≡ r
+      → ask_up_to 0 end (length found) (last_in_reach One end (a ∷ [])) ≡ r
       → Reaches w ((Learn a, Noted) ∷ past) Audit r
   then_asked a above r e = record {
     steps = (learned_new a above, q.owed);

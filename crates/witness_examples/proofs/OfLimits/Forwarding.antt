@@ -19,8 +19,8 @@ use Rattle.state_spec.specs.State.{State, ReceivedMessage, received_cmp, is_rece
 use Rattle.replay_spec.specs.Placed.{Placed, logged_place}
 use Rattle.replay_spec.specs.Replay.{Verdict, Sound, Fault, behind, verdict_of}
 use Rattle.replay_spec.specs.LogLaws.HonestServers.{next_logged}
-use Rattle.witness_spec.specs.Watched.{watched}
 use Rattle.witness_spec.specs.Standing.{verdict_on}
+use Rattle.witness_examples.specs.Reaching.{watched_in}
 use Rattle.witness_examples.specs.Worked.{five}
 use Rattle.witness_examples.specs.Limits.Audits.{its_secret, six, clients, sent_hash, sender, receipt}
 use Rattle.witness_examples.specs.Limits.Audits.{state_heard}
@@ -82,7 +82,7 @@ both_sound =
     ap (then_found (opening_client 5) receipt (second ∷ []) 1) (receipt_step 1 zeros)
     ∙ ap (behind (Some sender)) (ap (then_found state_heard other_receipt [] 2) (other_step 2 first_hash))
 
-at_first : Quiet (watched clients five) [] both_at 0 0 (opening_client 5) []
+at_first : Quiet (watched_in clients five) [] both_at 0 0 (opening_client 5) []
 at_first = record {
   owed = tt;
   at_end = refl;
@@ -98,9 +98,9 @@ abbrev all_found : List Authenticator
 all_found = sender ∷ other_sender ∷ []
 
 -- both messages were audited, and nothing was forwarded yet
-pub quiet_audited : Quiet (watched clients five) both_audited both_at 2 1 state_both all_found
+pub quiet_audited : Quiet (watched_in clients five) both_audited both_at 2 1 state_both all_found
 quiet_audited =
-    goes_on (watched clients five) [] both_at 0 0
+    goes_on (watched_in clients five) [] both_at 0 0
     (opening_client 5) [] at_first both_job both_at state_both all_found
     (record {
       job = refl;
@@ -117,10 +117,10 @@ quiet_audited =
     })
 
 -- one of them was
-pub quiet_one : Quiet (watched clients five) one_forwarded both_at 2 1 state_both (other_sender ∷ [])
-quiet_one = forwarded (watched clients five) both_audited both_at 2 1 state_both sender (other_sender ∷ [])
+pub quiet_one : Quiet (watched_in clients five) one_forwarded both_at 2 1 state_both (other_sender ∷ [])
+quiet_one = forwarded (watched_in clients five) both_audited both_at 2 1 state_both sender (other_sender ∷ [])
     quiet_audited
 
 -- both were
-pub quiet_both : Quiet (watched clients five) both_forwarded both_at 2 1 state_both []
-quiet_both = forwarded (watched clients five) one_forwarded both_at 2 1 state_both other_sender [] quiet_one
+pub quiet_both : Quiet (watched_in clients five) both_forwarded both_at 2 1 state_both []
+quiet_both = forwarded (watched_in clients five) one_forwarded both_at 2 1 state_both other_sender [] quiet_one

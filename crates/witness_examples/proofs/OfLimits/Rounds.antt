@@ -18,8 +18,8 @@ use Rattle.state_spec.specs.State.{State, ReceivedMessage, received_cmp, is_rece
 use Rattle.replay_spec.specs.LogLaws.HonestServers.{next_logged}
 use Rattle.replay_spec.specs.Placed.{logged_place, places_from}
 use Rattle.replay_spec.specs.Replay.{Sound, Fault, behind, verdict_of}
-use Rattle.witness_spec.specs.Watched.{watched}
 use Rattle.witness_spec.specs.Standing.{verdict_on}
+use Rattle.witness_examples.specs.Reaching.{watched_in}
 use Rattle.witness_examples.specs.Worked.{five}
 use Rattle.witness_examples.specs.Limits.Audits.{tick, ticks, hash_at, ticked, ticked_job, its_secret, six}
 use Rattle.witness_examples.specs.Limits.Audits.{clients}
@@ -71,7 +71,7 @@ ticked_sound number end size = ticks_sound size (end + 1) (hash_at end)
 
 -- after so many rounds the end is 4,096 for each, and nothing was found
 abbrev pub QuietRounds : ℕ → Type 0
-QuietRounds k = Quiet (watched clients five) (rounds k) hash_at (4_096 * k) k (opening_client 5) []
+QuietRounds k = Quiet (watched_in clients five) (rounds k) hash_at (4_096 * k) k (opening_client 5) []
 
 no_rounds : QuietRounds 0
 unfolding rounds hash_at
@@ -90,9 +90,9 @@ one_more : (k : ℕ) → k < 16 → QuietRounds k → QuietRounds (suc k)
 unfolding rounds
 one_more k few q =
     let end : ℕ = 4_096 * k in
-    let next : Quiet (watched clients five) (rounds (suc k)) hash_at (end + 4_096) (k + 1)
+    let next : Quiet (watched_in clients five) (rounds (suc k)) hash_at (end + 4_096) (k + 1)
     (opening_client 5) [] =
-    goes_on (watched clients five) (rounds k) hash_at end k (opening_client 5) [] q
+    goes_on (watched_in clients five) (rounds k) hash_at end k (opening_client 5) [] q
     (ticked_job (k + 1) end 4_096)
     hash_at
     (opening_client 5) [] (record {
@@ -111,10 +111,10 @@ one_more k few q =
     let last : end + 4_096 ≡ 4_096 * suc k = omega arith in
     let number : k + 1 ≡ suc k = omega arith in
     subst
-    (λ b. Quiet (watched clients five) (rounds (suc k)) hash_at (4_096 * suc k) b
+    (λ b. Quiet (watched_in clients five) (rounds (suc k)) hash_at (4_096 * suc k) b
     (opening_client 5) []) number
     (subst
-    (λ e. Quiet (watched clients five) (rounds (suc k)) hash_at e (k + 1) (opening_client 5) []) last next)
+    (λ e. Quiet (watched_in clients five) (rounds (suc k)) hash_at e (k + 1) (opening_client 5) []) last next)
 
 -- so many rounds, each of which is owed
 pub quiet_rounds : (k : ℕ) → k ≤ 16 → QuietRounds k
@@ -176,11 +176,11 @@ module _ (end : ℕ) where
 
 -- after so many rounds a message was received and audited
 pub quiet_heard : (k : ℕ) → k < 16
-    → Quiet (watched clients five) (heard k) (heard_at (4_096 * k)) (4_096 * k + 1) (k + 1) state_heard
+    → Quiet (watched_in clients five) (heard k) (heard_at (4_096 * k)) (4_096 * k + 1) (k + 1) state_heard
     (sender ∷ [])
 quiet_heard k few =
     let end : ℕ = 4_096 * k in
-    goes_on (watched clients five) (rounds k) hash_at end k (opening_client 5) []
+    goes_on (watched_in clients five) (rounds k) hash_at end k (opening_client 5) []
     (quiet_rounds k (omega arith))
     (heard_job (k + 1) end) (heard_at end) state_heard (sender ∷ []) (record {
       job = refl;

@@ -15,6 +15,7 @@ use Rattle.secure_log.specs.LogEntries.Words.{MaySkip}
 use Rattle.secure_log.specs.Part.{GivesPart, open_entries, open_links}
 use Rattle.secure_log.specs.declared.open.OpenSegment.{OpenSegment}
 use Rattle.replay_spec.specs.Opening.{opening_of}
+use Rattle.state_spec.specs.State.{State}
 use Rattle.state_spec.specs.State.{opening_client}
 use Rattle.replay_spec.specs.Stepping.{step}
 use Rattle.replay_spec.specs.Placed.{places_in}
@@ -26,13 +27,14 @@ use Rattle.authenticator.specs.Signing.{is_same}
 use Rattle.witness_spec.specs.Refusals.{BadSignature}
 use Rattle.witness_spec.specs.Events.{Event, ItsIndication, IsEvent, IsClosedUnder}
 use Rattle.witness_spec.specs.Events as events
+use Rattle.witness_spec.specs.Starting.{from_the_first}
 use Rattle.witness_spec.specs.Replies.{Reply, Noted, Asked, Accepted, Job, Filed, Told, Trusted}
-use Rattle.witness_spec.specs.Watched.{watched}
 use Rattle.witness_spec.specs.Steps.{Step, Learn, Audit, Answer, Begin, File, Ask, Past}
 use Rattle.witness_spec.specs.Whose.{is_key_of, same_roster, whose}
 use Rattle.witness_spec.specs.Owing.{Owes}
 use Rattle.witness_spec.specs.Histories.{History, OwesTo, IsOwed, own, own_step}
 use Rattle.witness_spec.specs.Premises.{NoCollisionWith, Unforged}
+use Rattle.witness_examples.specs.Reaching.{watched_in}
 use Rattle.witness_examples.specs.Signed.Audited.{readings, its_log, read_hash, state_read}
 use Rattle.witness_examples.specs.Signed.Audited.{client, client_key, alone, signed, signed_end}
 use Rattle.witness_examples.specs.Signed.Audited.{signed_segment}
@@ -170,10 +172,11 @@ module _ (secret : List ℕ) where
   pub owed : (history : History) (past : Past) (e : Event) (step : Step) (reply : Reply)
       → own (alone secret) 5 history ≡ past
       → whose (alone secret) e ≡ Ok (record { member = client secret; step = step })
-      → Owes (watched (alone secret) (client secret)) past step reply → IsOwed (alone secret) history e reply
+      → Owes (watched_in (alone secret) (client secret)) past step reply
+      → IsOwed (from_the_first (alone secret)) history e reply
   owed history past e step reply same its h =
-      subst (OwesTo (alone secret) history e reply) (sym its)
-      (subst (λ x. Owes (watched (alone secret) (client secret)) x step reply) (sym same) h)
+      subst (OwesTo (from_the_first (alone secret)) history e reply) (sym its)
+      (subst (λ x. Owes (watched_in (alone secret) (client secret)) x step reply) (sym same) h)
 
   -- ---- what the law on honest nodes supposes
 
@@ -187,7 +190,7 @@ module _ (secret : List ℕ) where
   }
 
   -- every signature among its steps is of the log's last place
-  pub unforged : Unforged (watched (alone secret) (client secret)) (without_gaps readings)
+  pub unforged : Unforged (watched_in (alone secret) (client secret)) (without_gaps readings)
       (audited_steps secret)
   unforged = ((λ of signed. inr (inl refl)), ((λ of signed. inr (inl refl)), tt))
 
@@ -206,8 +209,10 @@ in_both t texts i =
     ]
 
 -- no two texts of the log and of what was answered have one digest
-pub unlike : (secret : List ℕ) → NoCollisionWith (without_gaps readings) (audited_steps secret)
-unlike secret s t i j e =
+pub unlike : (secret : List ℕ) (states : List State)
+    → NoCollisionWith (watched_in (alone secret) (client secret)) (without_gaps readings) states
+    (audited_steps secret)
+unlike secret states s t i j e =
     let texts = texts_of (without_gaps readings) in
     reading_texts s t (in_both s texts i) (in_both t texts j) e
 

@@ -1,16 +1,18 @@
 -- Books that stand after histories of signed values.
 -- Serves: books_stand_after_histories.
+use Rattle.std.proofs.Common.{None}
 use Rattle.std.proofs.Common.{◌≡◌, inl, inr, ℕ, List, [], ◌∷◌, ◌++◌, refl, sym, ap, ap₂, subst}
 use Rattle.authenticator.specs.declared.member.Member.{Member}
 use Rattle.authenticator.proofs.Signed.{list_same}
 use Rattle.secure_log.specs.LogEntries.Chain.{zeros}
 use Rattle.replay_spec.specs.Stepping.{step}
 use Rattle.secure_log.specs.LogEntries.Chain.{IsAmong}
+use Rattle.witness_spec.specs.Starting.{from_the_first}
 use Rattle.witness_spec.specs.Replies.{Opened, Closed, SendOf}
-use Rattle.witness_spec.specs.Watched.{watched}
 use Rattle.witness_spec.specs.Steps.{Past}
 use Rattle.witness_spec.specs.Histories.{History, own, own_step, HoldSame, StandsFor, Stands}
-use Rattle.witness_spec.specs.Contract.{opening_book, opening_books}
+use Rattle.witness_spec.specs.Contract.{starting_book, starting_books}
+use Rattle.witness_examples.specs.Reaching.{watched_in}
 use Rattle.witness_examples.specs.Signed.Audited.{alone, client, read_hash, audited_events, audited_steps}
 use Rattle.witness_examples.specs.Signed.Shown.{both, sender, message, sent_hash, forked_events, forked_steps}
 use Rattle.witness_examples.specs.Signed.Shown.{challenged_event, challenged_step, acknowledged_events}
@@ -54,7 +56,7 @@ turned a b c x = (turned_one a b c x, turned_one c b a x)
 -- ---- the books
 
 module _ (secret : List ℕ) where
-  audited_stands : StandsFor (watched (alone secret) (client secret)) (audited_steps secret)
+  audited_stands : StandsFor (watched_in (alone secret) (client secret)) (audited_steps secret)
       (audited_book secret)
   unfolding step
   audited_stands = record {
@@ -70,15 +72,15 @@ module _ (secret : List ℕ) where
   }
 
   -- after the audit
-  pub audited_stand : Stands (alone secret) (audited_book secret ∷ []) (audited_events secret)
+  pub audited_stand : Stands (from_the_first (alone secret)) (audited_book secret ∷ []) (audited_events secret)
   audited_stand = (
-    subst (λ x. StandsFor (watched (alone secret) (client secret)) x (audited_book secret))
+    subst (λ x. StandsFor (watched_in (alone secret) (client secret)) x (audited_book secret))
         (sym (own_all secret))
         audited_stands,
     tt,
   )
 
-  forked_stands : StandsFor (watched (alone secret) (client secret)) (forked_steps secret)
+  forked_stands : StandsFor (watched_in (alone secret) (client secret)) (forked_steps secret)
       (forked_book secret)
   forked_stands = record {
     end = refl;
@@ -93,9 +95,9 @@ module _ (secret : List ℕ) where
   }
 
   -- after the fork
-  pub forked_stand : Stands (alone secret) (forked_book secret ∷ []) (forked_events secret)
+  pub forked_stand : Stands (from_the_first (alone secret)) (forked_book secret ∷ []) (forked_events secret)
   forked_stand = (
-    subst (λ x. StandsFor (watched (alone secret) (client secret)) x (forked_book secret))
+    subst (λ x. StandsFor (watched_in (alone secret) (client secret)) x (forked_book secret))
         (sym (own_forked secret))
         forked_stands,
     tt,
@@ -110,7 +112,7 @@ module _ (secret other : List ℕ) where
   none_acknowledged =
       ap₂ (λ w (x : Past). own_step 6 w Closed ++ x) (acknowledged_whose secret other) none_challenged
 
-  opening_stands : (m : Member) → StandsFor (watched (both secret other) m) [] (opening_book m)
+  opening_stands : (m : Member) → StandsFor (watched_in (both secret other) m) [] (starting_book m None)
   opening_stands m = record {
     end = refl;
     stage = refl;
@@ -125,18 +127,19 @@ module _ (secret other : List ℕ) where
 
   -- the sender's book, where it has no own steps
   senders : (history : History) → own (both secret other) 6 history ≡ []
-      → StandsFor (watched (both secret other) (sender other)) (own (both secret other) 6 history)
-      (opening_book (sender other))
+      → StandsFor (watched_in (both secret other) (sender other)) (own (both secret other) 6 history)
+      (starting_book (sender other) None)
   senders history none =
-      subst (λ x. StandsFor (watched (both secret other) (sender other)) x (opening_book (sender other)))
+      subst (λ x. StandsFor (watched_in (both secret other) (sender other)) x (starting_book (sender other) None))
       (sym none)
       (opening_stands (sender other))
 
   -- after the challenge
-  pub challenged_stand : Stands (both secret other) (challenged_books secret other) (challenged_event other)
+  pub challenged_stand : Stands (from_the_first (both secret other)) (challenged_books secret other)
+      (challenged_event other)
   challenged_stand =
-      let stands : StandsFor (watched (both secret other) (client secret)) (challenged_step other)
-      (record (opening_book (client secret)) { challenges = SendOf (message other) ∷ [] }) = record {
+      let stands : StandsFor (watched_in (both secret other) (client secret)) (challenged_step other)
+      (record (starting_book (client secret) None) { challenges = SendOf (message other) ∷ [] }) = record {
         end = refl;
         stage = refl;
         begun = refl;
@@ -147,15 +150,15 @@ module _ (secret other : List ℕ) where
         segments = same_held [];
         evidence = refl;
       } in (
-        subst (λ x. StandsFor (watched (both secret other) (client secret)) x
-            (record (opening_book (client secret)) { challenges = SendOf (message other) ∷ [] }))
+        subst (λ x. StandsFor (watched_in (both secret other) (client secret)) x
+            (record (starting_book (client secret) None) { challenges = SendOf (message other) ∷ [] }))
             (sym (own_challenged secret other)) stands,
         (senders (challenged_event other) none_challenged, tt),
       )
 
-  acknowledged_stands : StandsFor (watched (both secret other) (client secret))
+  acknowledged_stands : StandsFor (watched_in (both secret other) (client secret))
       (acknowledged_steps secret other)
-      (opening_book (client secret))
+      (starting_book (client secret) None)
   acknowledged_stands = record {
     end = refl;
     stage = refl;
@@ -169,10 +172,11 @@ module _ (secret other : List ℕ) where
   }
 
   -- after the acknowledgement
-  pub acknowledged_stand : Stands (both secret other) (opening_books (both secret other))
+  pub acknowledged_stand : Stands (from_the_first (both secret other))
+      (starting_books (from_the_first (both secret other)))
       (acknowledged_events secret other)
   acknowledged_stand = (
-    subst (λ x. StandsFor (watched (both secret other) (client secret)) x (opening_book (client secret)))
+    subst (λ x. StandsFor (watched_in (both secret other) (client secret)) x (starting_book (client secret) None))
         (sym (own_acknowledged secret other)) acknowledged_stands,
     (senders (acknowledged_events secret other) none_acknowledged, tt),
   )

@@ -16,13 +16,13 @@ use Rattle.witness_spec.specs.Events.{IsEvent, IsClosedUnder}
 use Rattle.witness_spec.specs.Events as events
 use Rattle.witness_spec.specs.Events.{ItsIndication}
 use Rattle.witness_spec.specs.Replies.{Noted, Asked, Accepted, Job, Filed, Told, Exposed, Trusted}
-use Rattle.witness_spec.specs.Watched.{watched}
 use Rattle.witness_spec.specs.Steps.{Audit, Answer, Begin, File, Ask, Past}
 use Rattle.witness_spec.specs.Whose.{whose}
 use Rattle.witness_spec.specs.Pairs.{has_fork}
 use Rattle.witness_spec.specs.Standing.{indication, shown}
 use Rattle.witness_spec.specs.Histories.{own, own_step}
 use Rattle.witness_spec.specs.Laws.{HasFaultyFile}
+use Rattle.witness_examples.specs.Reaching.{watched_in}
 use Rattle.witness_examples.specs.Signed.Audited.{client, client_key, alone}
 use Rattle.witness_examples.specs.Signed.Faulty.{back_hash, back_end, back_segment, back_closed, back_job}
 use Rattle.witness_examples.specs.Signed.Faulty.{back_done, back_learned, back_asked, back_answered}
@@ -141,12 +141,12 @@ module _ (secret : List ℕ) where
   own_all_back = ap (λ (x : Past). (Ask ItsIndication, Told Exposed) ∷ x) own_filed_back
 
   -- the File is of a segment that no list of states makes honest
-  pub is_faulty : HasFaultyFile (watched (alone secret) (client secret)) (back_steps secret)
+  pub is_faulty : HasFaultyFile (watched_in (alone secret) (client secret)) (back_steps secret)
   is_faulty = inr (inl (record { job = back_job secret; filed = refl; none = none_honest }))
 
   -- so it is Exposed
-  pub is_exposed : indication (watched (alone secret) (client secret)) (back_steps secret) ≡ Exposed
+  pub is_exposed : indication (watched_in (alone secret) (client secret)) (back_steps secret) ≡ Exposed
   unfolding step
   is_exposed =
       ap (λ b. cond b Exposed Trusted)
-      (or_right (has_fork (shown (watched (alone secret) (client secret)) (back_steps secret))) true refl)
+      (or_right (has_fork (shown (watched_in (alone secret) (client secret)) (back_steps secret))) true refl)

@@ -14,9 +14,12 @@ use Rattle.secure_log.specs.LogEntries.Entry.{content, send_content, recv_conten
 use Rattle.secure_log.specs.LogEntries.Chain.{IsAmong, Link, NoCollision, chain_text, hash_after, logged_link}
 use Rattle.secure_log.specs.LogEntries.Chain.{without_gaps, zeros}
 use Rattle.secure_log.specs.LogEntries.Signatures.{signature_digest}
+use Rattle.state_spec.specs.State.{State}
 use Rattle.witness_spec.specs.evidence_spec.Proving.{texts_of, signature_text}
 use Rattle.witness_spec.specs.Premises.{NoCollisionWith}
+use Rattle.witness_examples.specs.Reaching.{watched_in}
 use Rattle.witness_examples.specs.Signed.Served.{call, reply, call_signature, served, served_steps}
+use Rattle.witness_examples.specs.Signed.Served.{server, server_and_caller}
 use Rattle.witness_examples.proofs.OfSigned.Auditing.{in_both}
 use Rattle.witness_examples.proofs.OfSigned.ZeroBlocks.{signature_bytes, signature_worked}
 
@@ -202,7 +205,9 @@ texts_differ : NoCollision (texts_of (without_gaps served))
 texts_differ = no_two (texts_of (without_gaps served)) (ap all_differ first_bytes_are)
 
 -- no two texts of the log and of what was answered have one digest
-pub unlike : (secret : List ℕ) → NoCollisionWith (without_gaps served) (served_steps secret)
-unlike secret s t i j e =
+pub unlike : (secret : List ℕ) (states : List State)
+    → NoCollisionWith (watched_in (server_and_caller secret) (server secret)) (without_gaps served)
+    states (served_steps secret)
+unlike secret states s t i j e =
     let texts = texts_of (without_gaps served) in
     texts_differ s t (in_both s texts i) (in_both t texts j) e

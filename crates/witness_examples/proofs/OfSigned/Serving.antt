@@ -38,13 +38,14 @@ use Rattle.witness_spec.specs.Refusals.{BadSignature}
 use Rattle.witness_spec.specs.Events.{IsEvent, IsClosedUnder, ItsIndication}
 use Rattle.witness_spec.specs.Events as events
 use Rattle.witness_spec.specs.Replies.{Noted, Asked, Accepted, Job, Filed, Forwarded, Told, Trusted, Exposed}
-use Rattle.witness_spec.specs.Watched.{Watched, watched}
+use Rattle.witness_spec.specs.Watched.{Watched}
 use Rattle.witness_spec.specs.Steps.{Learn, Audit, Answer, Begin, File, Forward, Ask, Past}
 use Rattle.witness_spec.specs.Whose.{is_key_of, same_roster, whose}
 use Rattle.witness_spec.specs.Standing.{open_challenges, without_evidence}
 use Rattle.witness_spec.specs.Owing.{Owes}
 use Rattle.witness_spec.specs.Histories.{own, own_step}
 use Rattle.witness_spec.specs.Premises.{Unforged}
+use Rattle.witness_examples.specs.Reaching.{watched_in}
 use Rattle.witness_examples.specs.Signed.Served.{call, reply, call_time, world_before, zero_text}
 use Rattle.witness_examples.specs.Signed.Served.{call_signature, caller_root, caller, caller_shown, server}
 use Rattle.witness_examples.specs.Signed.Served.{server_key, server_and_caller, served, served_hash}
@@ -153,7 +154,7 @@ hash_at n =
 
 module _ (secret : List ℕ) where
   abbrev pub roster : Watched
-  roster = watched (server_and_caller secret) (server secret)
+  roster = watched_in (server_and_caller secret) (server secret)
 
   -- ---- the log is honest
 

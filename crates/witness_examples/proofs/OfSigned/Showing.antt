@@ -13,7 +13,8 @@ use Rattle.witness_spec.specs.Refusals.{BadSignature}
 use Rattle.witness_spec.specs.Events.{Event, IsEvent}
 use Rattle.witness_spec.specs.Events as events
 use Rattle.witness_spec.specs.Replies.{Reply, Noted, Opened, Closed}
-use Rattle.witness_spec.specs.Watched.{Watched}
+use Rattle.witness_spec.specs.Starting.{Beginning}
+use Rattle.witness_spec.specs.Watched.{watched}
 use Rattle.witness_spec.specs.Steps.{Step, SendChallenge, AckIn, Past}
 use Rattle.witness_spec.specs.Whose.{is_key_of, whose}
 use Rattle.witness_spec.specs.Owing.{Owes}
@@ -125,9 +126,9 @@ module _ (secret other : List ℕ) where
   own_acknowledged = ap₂ (λ w (x : Past). own_step 5 w Closed ++ x) acknowledged_whose own_challenged
 
 -- a reply that is owed after a member's own steps is owed after the history that has them
-pub owed_to : (w : Watched) (history : History) (past : Past) (e : Event) (step : Step)
+pub owed_to : (g : Beginning) (m : Member) (history : History) (past : Past) (e : Event) (step : Step)
     (reply : Reply)
-    → own_of w history ≡ past → whose w.roster e ≡ Ok (record { member = w.member; step = step })
-    → Owes w past step reply → IsOwed w.roster history e reply
-owed_to w history past e step reply same its h =
-    subst (OwesTo w.roster history e reply) (sym its) (subst (λ x. Owes w x step reply) (sym same) h)
+    → own_of (watched g m) history ≡ past → whose g.roster e ≡ Ok (record { member = m; step = step })
+    → Owes (watched g m) past step reply → IsOwed g history e reply
+owed_to g m history past e step reply same its h =
+    subst (OwesTo g history e reply) (sym its) (subst (λ x. Owes (watched g m) x step reply) (sym same) h)

@@ -7,7 +7,7 @@ use Rattle.witness_spec.specs.Replies.{SendOf}
 use Rattle.witness_spec.specs.Pairs.{first_pair}
 use Rattle.witness_spec.specs.Standing.{NoAudit}
 use Rattle.witness_spec.specs.Histories.{BookParts}
-use Rattle.witness_spec.specs.Contract.{opening_book}
+use Rattle.witness_spec.specs.Contract.{starting_book}
 use Rattle.witness_examples.specs.Signed.Audited.{client, read_hash, state_read, signed, signed_segment}
 use Rattle.witness_examples.specs.Signed.Shown.{ones, twos, message, sender}
 use Rattle.authenticator.specs.declared.member.LogVersion.TheVariants.{One}
@@ -51,5 +51,5 @@ forked_book secret = record {
 -- after a challenge, the client's and its sender's
 abbrev pub challenged_books : (secret other : List ℕ) → List BookParts
 challenged_books secret other =
-    record (opening_book (client secret)) { challenges = SendOf (message other) ∷ [] }
-    ∷ opening_book (sender other) ∷ []
+    record (starting_book (client secret) None) { challenges = SendOf (message other) ∷ [] }
+    ∷ starting_book (sender other) None ∷ []

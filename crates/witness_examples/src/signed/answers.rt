@@ -5,17 +5,20 @@ ghost use Rattle.std.specs.Prelude.{◌≡◌, ℕ, List, [], Some};
 ghost use Rattle.authenticator.specs.declared.member.LogVersion.TheVariants.{One};
 ghost use Rattle.authenticator.specs.Roster.{IsRoster, member_of};
 ghost use Rattle.secure_log.specs.LogEntries.Chain.{without_gaps};
+ghost use Rattle.state_spec.specs.State.{State};
 ghost use Rattle.state_spec.specs.server_spec.Replies.{reply_owed};
 ghost use Rattle.replay_spec.specs.Opening.{opening_of};
 ghost use Rattle.replay_spec.specs.HonestLogs.{IsHonestLog};
 ghost use Rattle.witness_spec.specs.evidence_spec.Proving.{IsLogOf};
 ghost use Rattle.witness_spec.specs.Events.{ItsIndication};
+ghost use Rattle.witness_spec.specs.Starting.{from_the_first};
 ghost use Rattle.witness_spec.specs.Replies.{Noted, Asked, Accepted, Job, Filed, Forwarded, Told, Trusted};
 ghost use Rattle.witness_spec.specs.Watched.{watched};
 ghost use Rattle.witness_spec.specs.Steps.{Learn, Audit, Answer, Begin, File, Forward, Ask};
 ghost use Rattle.witness_spec.specs.Owing.{Owes};
 ghost use Rattle.witness_spec.specs.Histories.{IsHistory, own};
 ghost use Rattle.witness_spec.specs.Premises.{NoCollisionWith, Unforged};
+ghost use Rattle.witness_examples.specs.Reaching.{watched_in};
 ghost use Rattle.witness_examples.specs.Signed.Served.{call, reply, call_time, world_before, caller_shown};
 ghost use Rattle.witness_examples.specs.Signed.Served.{server};
 ghost use Rattle.witness_examples.specs.Signed.Served.{server_and_caller, served, state_after, served_end};
@@ -37,23 +40,23 @@ pub fn the_call_is_owed_the_reply()
 /// is forwarded.
 pub fn a_server_that_answered_is_audited()
     ensures learned { (secret : List ℕ) →
-        Owes (watched (server_and_caller secret) (server secret)) [] (Learn (served_end secret)) Noted }
+        Owes (watched_in (server_and_caller secret) (server secret)) [] (Learn (served_end secret)) Noted }
     ensures asked { (secret : List ℕ) →
-        Owes (watched (server_and_caller secret) (server secret)) (learned_served secret) Audit (Asked 1 3) }
+        Owes (watched_in (server_and_caller secret) (server secret)) (learned_served secret) Audit (Asked 1 3) }
     ensures accepted { (secret : List ℕ) →
-        Owes (watched (server_and_caller secret) (server secret)) (asked_served secret)
+        Owes (watched_in (server_and_caller secret) (server secret)) (asked_served secret)
         (Answer (served_closed secret)) Accepted }
     ensures begun { (secret : List ℕ) →
-        Owes (watched (server_and_caller secret) (server secret)) (answered_served secret) Begin
+        Owes (watched_in (server_and_caller secret) (server secret)) (answered_served secret) Begin
         (Job (served_job secret)) }
     ensures filed { (secret : List ℕ) →
-        Owes (watched (server_and_caller secret) (server secret)) (begun_served secret)
+        Owes (watched_in (server_and_caller secret) (server secret)) (begun_served secret)
         (File (served_done secret)) Filed }
     ensures trusted { (secret : List ℕ) →
-        Owes (watched (server_and_caller secret) (server secret)) (filed_served secret) (Ask ItsIndication)
+        Owes (watched_in (server_and_caller secret) (server secret)) (filed_served secret) (Ask ItsIndication)
         (Told Trusted) }
     ensures forwarded { (secret : List ℕ) →
-        Owes (watched (server_and_caller secret) (server secret)) (filed_served secret) Forward
+        Owes (watched_in (server_and_caller secret) (server secret)) (filed_served secret) Forward
         (Forwarded caller_shown) }
 {
     the_call_is_owed_the_reply();
@@ -66,7 +69,8 @@ pub fn a_server_that_answered_is_audited()
 pub fn histories_of_answers_are_possible()
     ensures roster { (secret : List ℕ) → IsRoster (server_and_caller secret) }
     ensures member { (secret : List ℕ) → member_of (server_and_caller secret) 5 ≡ Some (server secret) }
-    ensures history { (secret : List ℕ) → IsHistory (server_and_caller secret) (served_events secret) }
+    ensures history { (secret : List ℕ) →
+        IsHistory (from_the_first (server_and_caller secret)) (served_events secret) }
     ensures own_steps { (secret : List ℕ) →
         own (server_and_caller secret) 5 (served_events secret) ≡ served_steps secret }
 {
@@ -84,10 +88,11 @@ pub fn premises_of_answers_are_possible()
         IsHonestLog (server_and_caller secret) (opening_of (server secret)) (without_gaps served)
         state_after }
     ensures unforged { (secret : List ℕ) →
-        Unforged (watched (server_and_caller secret) (server secret)) (without_gaps served)
+        Unforged (watched_in (server_and_caller secret) (server secret)) (without_gaps served)
         (own (server_and_caller secret) 5 (served_events secret)) }
-    ensures unlike { (secret : List ℕ) →
-        NoCollisionWith (without_gaps served) (own (server_and_caller secret) 5 (served_events secret)) }
+    ensures unlike { (secret : List ℕ) (states : List State) →
+        NoCollisionWith (watched_in (server_and_caller secret) (server secret)) (without_gaps served) states
+        (own (server_and_caller secret) 5 (served_events secret)) }
 {
     the_call_is_owed_the_reply();
     honest_servers_replay();

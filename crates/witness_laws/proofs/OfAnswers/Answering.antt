@@ -30,17 +30,18 @@ use Rattle.witness_spec.specs.Refusals.{NotAsked, BadSignature}
 use Rattle.witness_spec.specs.Events.{PublicKey, Event}
 use Rattle.witness_spec.specs.Events as events
 use Rattle.witness_spec.specs.Replies.{Reply, Accepted, Closed, Refused, Challenge, AuditOf, SendOf}
-use Rattle.witness_spec.specs.Watched.{Watched, IsInRoster}
+use Rattle.witness_spec.specs.Starting.{Beginning}
+use Rattle.witness_spec.specs.Watched.{Watched, IsInRoster, IsWatchedFrom}
 use Rattle.witness_spec.specs.Steps.{Step, Answer, AckIn}
 use Rattle.witness_spec.specs.Whose.{is_key_of, same_member, same_roster, signed_step, closed_step, whose}
 use Rattle.witness_spec.specs.Standing.{Stage, Wanted, stage_of, same_message, is_answered, is_send_of}
 use Rattle.witness_spec.specs.Standing.{open_challenges}
 use Rattle.witness_spec.specs.Owing.{reply_told, answer_reply, is_open, IsOut, Owes}
-use Rattle.witness_spec.specs.Histories.{History, OwesTo, IsOwed, own_of}
+use Rattle.witness_spec.specs.Histories.{History, IsOwed, own_of}
 use Rattle.witness_spec.specs.Laws.{AnswersAudit, answer_of, ClosesChallenge}
 use Rattle.witness_spec.specs.Pairs.{last_of}
 use Rattle.witness_laws.proofs.Replied.{one_reply}
-use Rattle.witness_laws.proofs.OwnSteps.{its_own}
+use Rattle.witness_laws.proofs.OwnSteps.{its_own, owed_own}
 
 -- ---- lists
 
@@ -95,21 +96,20 @@ roster_self (m ∷ ms) = and_from (same_member m m) (same_roster ms ms) (member_
 -- ---- the reply
 
 -- a step that brings no job back has this reply and no other
-pub only_reply : (w : Watched) (history : History) (e : Event) (step : Step) (good : Reply)
-    → whose w.roster e ≡ Ok (record { member = w.member; step = step })
+pub only_reply : (g : Beginning) (w : Watched) (history : History) (e : Event) (step : Step) (good : Reply)
+    → IsWatchedFrom g w → whose w.roster e ≡ Ok (record { member = w.member; step = step })
     → (IsOut w (own_of w history) step → ⊥)
     → good ≡ reply_told false w (own_of w history) step
-    → (reply : Reply) → IsOwed w.roster history e reply ↔ (reply ≡ good)
-only_reply w history e step good its none told reply =
+    → (reply : Reply) → IsOwed g history e reply ↔ (reply ≡ good)
+only_reply g w history e step good from its none told reply =
     let here : Owes w (own_of w history) step good = record {
       is_out = false;
       decides = (λ h. absurd (true≢false (sym h)), λ h. absurd (none h));
       told = told;
-    } in (
-      λ h. one_reply w (own_of w history) step reply good
-          (subst (OwesTo w.roster history e reply) its h) here,
-      λ same. subst (OwesTo w.roster history e reply) (sym its)
-          (subst (Owes w (own_of w history) step) (sym same) here),
+    } in
+    let own = owed_own g w history e step reply from its in (
+      λ h. one_reply w (own_of w history) step reply good (own.0 h) here,
+      λ same. own.1 (subst (Owes w (own_of w history) step) (sym same) here),
     )
 
 -- ---- answers
@@ -148,11 +148,11 @@ answer_told stage c first last is e f =
     (and_from (c.segment.first == first) (last_of c.segment == last)
     (eq-eqb c.segment.first first e) (eq-eqb (last_of c.segment) last f)))
 
-module _ (w : Watched) (history : History) (is : IsInRoster w) where
+module _ (g : Beginning) (w : Watched) (history : History) (is : IsInRoster w) (from : IsWatchedFrom g w) where
   answer_its : (c : ClosedParts) → c.roster ≡ w.roster → c.segment.closing.node ≡ w.member.node
       → whose w.roster (events.Answer c) ≡ Ok (record { member = w.member; step = Answer c })
   answer_its c roster node =
-      ap₂ (λ x b. closed_step x b (Answer c)) (ap (member_of w.roster) node ∙ is)
+      ap₂ (λ x b. closed_step x b (Answer c)) (ap (member_of w.roster) node ∙ is.is_member)
       (ap (λ r. same_roster r w.roster) roster ∙ roster_self w.roster)
 
   answer_closes : (c : ClosedParts)
@@ -174,7 +174,7 @@ module _ (w : Watched) (history : History) (is : IsInRoster w) where
       → log.node ≡ w.member.node → log.log_version ≡ w.member.log_version
       → stage_of (own_of w history) ≡ Wanted first last → GivesPart log first last (Ok s)
       → AllByRecursion (MaySkip s.log_version) (open_links s) → IsOfPlace log last closing
-      → IsSignedBy w.member closing → AnswersAudit w history (answer_of w.roster s closing)
+      → IsSignedBy w.member closing → AnswersAudit g w history (answer_of w.roster s closing)
   answers log first last s closing node version stage part may place signed =
       let c : ClosedParts = answer_of w.roster s closing in
       let p = part.2.part in
@@ -187,17 +187,17 @@ module _ (w : Watched) (history : History) (is : IsInRoster w) where
       let up_to : last_of c.segment ≡ last =
       omega (arith, number, last_number_is (s.first - 1) (open_entries s), part.2.number, p.place, p.count) in
       let closed : IsClosedIn w.roster c.segment = record {
-        version = ap (is_of_version s.log_version) (ap (member_of w.roster) (part.2.node ∙ node) ∙ is)
+        version = ap (is_of_version s.log_version) (ap (member_of w.roster) (part.2.node ∙ node) ∙ is.is_member)
             ∙ eq-eqb (log_number w.member.log_version) (log_number s.log_version)
             (ap log_number (sym (part.2.version ∙ version)));
         ends = ends;
         signed = subst (λ x. IsSomeAnd x (λ n. IsSignedBy n closing))
-            (sym (ap (member_of w.roster) here ∙ is)) signed;
+            (sym (ap (member_of w.roster) here ∙ is.is_member)) signed;
       } in
       record {
         closed = closed;
         its = its;
-        reply = only_reply w history (events.Answer c) (Answer c) Accepted its (λ h. h)
+        reply = only_reply g w history (events.Answer c) (Answer c) Accepted from its (λ h. h)
             (answer_told (stage_of (own_of w history)) c first last stage part.2.number up_to);
         closes = answer_closes c its;
       }
@@ -207,7 +207,7 @@ module _ (w : Watched) (history : History) (is : IsInRoster w) where
   ack_its : (a : Ack) (key : PublicKey) → a.by ≡ w.member.node → is_key_of w.member key ≡ true
       → whose w.roster (events.AckIn a key) ≡ Ok (record { member = w.member; step = AckIn a })
   ack_its a key by key_is =
-      ap (λ x. signed_step x key (AckIn a)) (ap (member_of w.roster) by ∙ is)
+      ap (λ x. signed_step x key (AckIn a)) (ap (member_of w.roster) by ∙ is.is_member)
       ∙ ap (λ b. cond b (Ok (record { member = w.member; step = AckIn a })) (Err BadSignature)) key_is
 
   ack_closes : (a : Ack) (key : PublicKey)
@@ -229,12 +229,12 @@ module _ (w : Watched) (history : History) (is : IsInRoster w) where
   pub acknowledges : (e : Envelope) (a : Ack) (key : PublicKey) → is_key_of w.member key ≡ true
       → a.by ≡ w.member.node
       → IsAmong (SendOf e) (open_challenges (own_of w history)) → acked_message a ≡ envelope_message e
-      → ClosesChallenge w history a key
+      → ClosesChallenge g w history a key
   acknowledges e a key key_is by there same =
       let its = ack_its a key by key_is in
       record {
         its = its;
-        reply = only_reply w history (events.AckIn a key) (AckIn a) Closed its (λ h. h)
+        reply = only_reply g w history (events.AckIn a key) (AckIn a) Closed from its (λ h. h)
             (sym (ap (λ b. cond b Closed (Refused NotAsked))
             (open_of (acked_message a) e (open_challenges (own_of w history)) there same)));
         closes = ack_closes a key its;

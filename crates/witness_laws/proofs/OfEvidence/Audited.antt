@@ -1,37 +1,41 @@
 -- While a node isn't exposed, all audited entries are an honest log up to the end; so a segment in which a
--- replay finds a fault is one after them, from the first entry on.
+-- replay finds a fault is one after them, from where the audit begins on.
 -- Serves: evidence_where_exposed, evidence_proves.
-use Rattle.std.proofs.Common.{◌≡◌, ℕ, ◌+◌, ◌-◌, ◌^◌, ◌<◌, Bool, true, false, not, ◌==◌, nat_lt, List}
-use Rattle.std.proofs.Common.{[], ◌∷◌, ◌++◌, length, Some, refl, sym, ap, subst, ◌∙◌, arith}
+use Rattle.std.proofs.Common.{◌≡◌, ℕ, ◌+◌, ◌-◌, ◌^◌, ◌<◌, ◌≤◌, Bool, true, false, not, ◌==◌, nat_lt, List}
+use Rattle.std.proofs.Common.{[], ◌∷◌, ◌++◌, length, Option, Some, None, refl, sym, ap, subst, ◌∙◌, arith}
 use Rattle.std.proofs.Common.{append_assoc, append-nil, eq-eqb}
+use Rattle.std.specs.Prelude.{IsTrue}
 use Rattle.std.specs.List.{AllByRecursion}
 use Rattle.std.proofs.lemmas.Bool.{and_parts, true≢false, ltb-true, ltb-false}
 use Rattle.xdr.specs.Item.{Fits}
 use Rattle.authenticator.specs.Numbers.{number_item}
+use Rattle.authenticator.specs.Roster.{keeps_version}
+use Rattle.authenticator.proofs.Members.{member_node}
 use Rattle.authenticator.specs.declared.authenticator.Authenticator.{Authenticator}
 use Rattle.authenticator.specs.declared.member.LogVersion.{LogVersion}
 use Rattle.authenticator.specs.declared.member.LogVersion.TheVariants.{One, Two}
 use Rattle.authenticator.specs.declared.member.Member.{Member}
-use Rattle.secure_log.specs.LogEntries.Chain.{Link, Logged, zeros, last_hash, logged_link}
+use Rattle.secure_log.specs.LogEntries.Chain.{Link, Logged, last_hash, logged_link}
 use Rattle.secure_log.specs.LogEntries.Chain.{logged_links, span, IsAmong}
 use Rattle.secure_log.specs.LogEntries.Words.{ClosesAt, MaySkip, last_word}
-use Rattle.secure_log.specs.Versioned.{VersionedParts, ClosedParts, logged_item, logged_values}
+use Rattle.secure_log.specs.Versioned.{VersionedParts, ClosedParts, IsClosedIn, logged_item, logged_values}
 use Rattle.secure_log.specs.Versioned.{segment_marks, start_number, versioned_links, versioned_value}
 use Rattle.secure_log.proofs.Gaps.{length-logged_links}
 use Rattle.secure_log.proofs.VersionedTexts.{length-values, whole_is}
 use Rattle.witness_spec.specs.state_spec.State.{State}
-use Rattle.witness_spec.specs.replay_spec.Opening.{opening_of}
 use Rattle.witness_spec.specs.replay_spec.Placed.{Placed, logged_places, places_from, places_in}
 use Rattle.witness_spec.specs.replay_spec.Stepping.{ReplayFault, step}
 use Rattle.witness_spec.specs.replay_spec.Replay.{Sound, Fault, Honest, last_state, verdict_of}
 use Rattle.witness_spec.proofs.replay_spec.Runs.{is_sound, first_fault, is_fault, joined, last_joined}
-use Rattle.witness_spec.specs.evidence_spec.Evidence.{AcceptsReplay, Replay, replay_item}
-use Rattle.witness_spec.proofs.evidence_spec.Chained.{zeros-length}
+use Rattle.witness_spec.specs.evidence_spec.Showing.{Shows}
+use Rattle.witness_spec.specs.evidence_spec.Evidence.{replay_item}
 use Rattle.witness_spec.proofs.evidence_spec.Reached.{places_logged}
 use Rattle.witness_spec.proofs.replay_spec.Places.{places_joined}
 use Rattle.secure_log.proofs.OfLogEntries.Pairs.{hash_joined, span-append}
 use Rattle.witness_spec.specs.Events.{JobParts}
 use Rattle.witness_spec.specs.Replies.{Reply}
+use Rattle.witness_spec.specs.Starting.{KnownBase, IsBaseAt}
+use Rattle.witness_spec.specs.Starting as starting
 use Rattle.witness_spec.specs.Watched.{Watched, IsInRoster}
 use Rattle.witness_spec.specs.Steps.{Step, Past}
 use Rattle.witness_spec.specs.Pairs.{Pair, last_of}
@@ -39,10 +43,11 @@ use Rattle.witness_spec.specs.Done.{noted, accepted, filed}
 use Rattle.witness_spec.specs.Standing.{End, end_of, end_after, moved_by, verdict_on, sound_entries}
 use Rattle.witness_spec.specs.Standing.{entries_filed}
 use Rattle.witness_spec.specs.Standing.{audited, pairs_noted, pairs_accepted, shown, is_exposed}
-use Rattle.witness_spec.specs.Exposing.{audited_with}
+use Rattle.witness_spec.specs.Exposing.{audited_with, replay_from}
 use Rattle.witness_laws.proofs.OfEvidence.Audits.{IsGoodSegment, its_log_version, last_is, IsNext}
 use Rattle.witness_laws.proofs.OfEvidence.Before.{on_right, one_shown, accepted_shown}
-use Rattle.witness_laws.proofs.OfEvidence.Charges.{IsGoodCharge, first_shown, its_version, replay_fits}
+use Rattle.witness_laws.proofs.OfEvidence.Charges.{IsGoodCharge, based_fits, its_version, lower_fits, replay_fits}
+use Rattle.witness_laws.proofs.OfEvidence.Starts.{base_hash, base_shown, begun_fits, start_there}
 use Rattle.witness_laws.proofs.OfEvidence.Marks.{few_spans, last_spans, last_there, opening_there}
 
 -- ---- entries in two parts
@@ -113,29 +118,43 @@ has_entry w s good =
 
 -- ---- what is audited
 
--- all audited entries are an honest log up to the end, and its last pair was shown
+-- the number where the audit of a node begins, with the hash and the state there
+abbrev first_number : Watched → ℕ
+first_number w = starting.start_number w.base
+
+abbrev first_hash : Watched → List ℕ
+first_hash w = starting.start_hash w.base
+
+abbrev first_state : Watched → State
+first_state w = starting.start_state w.member w.base
+
+-- all audited entries are an honest log from where the audit began up to the end, and its last pair was shown
 pub record IsAudited (w : Watched) (past : Past) : Type 0 where
-  -- they take up as many numbers as the end says
-  pub count : span (audited w past) ≡ (end_of w past).number
+  -- they take up the numbers from where the audit began up to the end
+  pub count : first_number w + span (audited w past) ≡ (end_of w past).number
   -- the pair after the last of them was shown
-  pub there : IsAmong ((end_of w past).number, last_hash zeros (logged_links 0 (audited w past)))
+  pub there : IsAmong
+      ((end_of w past).number, last_hash (first_hash w) (logged_links (first_number w) (audited w past)))
       (shown w past)
+  -- where there are any, the hash where the audit began has 32 bytes
+  pub opened : 0 < length (audited w past) → length (first_hash w) ≡ 32
   -- each has a text
-  pub each : EachFits w.member.log_version 0 (audited w past)
+  pub each : EachFits w.member.log_version (first_number w) (audited w past)
   -- each may be skipped to
-  pub skips : EachMaySkip w.member.log_version 0 (audited w past)
+  pub skips : EachMaySkip w.member.log_version (first_number w) (audited w past)
   -- the state after each entry
   pub states : List State
   -- the entries are honest from the state that the member begins with
-  pub honest : Honest w.roster (opening_of w.member) (logged_places 0 zeros (audited w past)) states
+  pub honest : Honest w.roster (first_state w) (logged_places (first_number w) (first_hash w) (audited w past)) states
   -- the last state is that of the end
-  pub last : last_state (opening_of w.member) states ≡ (end_of w past).state
+  pub last : last_state (first_state w) states ≡ (end_of w past).state
 
--- before any step nothing is audited, and the end is at 0, with the state that the node begins with
-pub none_audited : (w : Watched) → IsAudited w []
-none_audited w = record {
-  count = refl;
-  there = first_shown w [];
+-- before any step nothing is audited, and the end is where the audit begins, with the state there
+pub none_audited : (w : Watched) → IsInRoster w → IsAudited w []
+none_audited w is = record {
+  count = omega arith;
+  there = start_there w.roster w.member w.base is.base;
+  opened = λ some. absurd (omega (arith, some));
   each = tt;
   skips = tt;
   states = [];
@@ -143,15 +162,24 @@ none_audited w = record {
   last = refl;
 }
 
+-- the hash before entries has 32 bytes, where it has with some, or is that of a segment that follows
+opened_by : (hash : List ℕ) (n : ℕ) (front : List Logged) (opening : List ℕ)
+    → (0 < length front → length hash ≡ 32) → last_hash hash (logged_links n front) ≡ opening
+    → length opening ≡ 32 → length hash ≡ 32
+opened_by hash n [] opening some same long = ap length same ∙ long
+opened_by hash n (l ∷ ls) opening some same long = some (omega arith)
+
 -- a segment after the audited entries, with them
 record IsJoined (w : Watched) (past : Past) (s : VersionedParts) : Type 0 where
-  count : span (audited w past ++ s.entries) ≡ last_of s
-  hash : last_hash zeros (logged_links 0 (audited w past ++ s.entries)) ≡ s.closing.hash
-  each : EachFits w.member.log_version 0 (audited w past ++ s.entries)
-  skips : EachMaySkip w.member.log_version 0 (audited w past ++ s.entries)
-  closes : ClosesAt w.member.log_version 0 (logged_links 0 (audited w past ++ s.entries)) s.closing.word
-  places : logged_places 0 zeros (audited w past ++ s.entries)
-      ≡ logged_places 0 zeros (audited w past) ++ places_in s
+  count : first_number w + span (audited w past ++ s.entries) ≡ last_of s
+  long : length (first_hash w) ≡ 32
+  hash : last_hash (first_hash w) (logged_links (first_number w) (audited w past ++ s.entries)) ≡ s.closing.hash
+  each : EachFits w.member.log_version (first_number w) (audited w past ++ s.entries)
+  skips : EachMaySkip w.member.log_version (first_number w) (audited w past ++ s.entries)
+  closes : ClosesAt w.member.log_version (first_number w)
+      (logged_links (first_number w) (audited w past ++ s.entries)) s.closing.word
+  places : logged_places (first_number w) (first_hash w) (audited w past ++ s.entries)
+      ≡ logged_places (first_number w) (first_hash w) (audited w past) ++ places_in s
 
 is_joined : (w : Watched) (past : Past) (c : ClosedParts) → IsInRoster w → is_exposed w past ≡ false
     → IsAudited w past → IsNext w past c → IsGoodSegment w c.segment → IsJoined w past c.segment
@@ -163,7 +191,9 @@ is_joined w past c member e a next good =
     let ends = good.closed.ends in
     let front = audited w past in
     let end = (end_of w past).number in
-    let hash = last_hash zeros (logged_links 0 front) in
+    let n0 = first_number w in
+    let h0 = first_hash w in
+    let hash = last_hash h0 (logged_links n0 front) in
     let version : s.log_version ≡ v = its_log_version w s member good in
     let before : s.first - 1 ≡ end = omega (arith, next.first) in
     let opened : IsAmong (end, s.opening) (shown w past) =
@@ -171,33 +201,34 @@ is_joined w past c member e a next good =
     (accepted_shown w past s (s.first - 1, s.opening) next.among
     (opening_there (s.first - 1) s.opening (versioned_links s))) in
     let opening : hash ≡ s.opening = one_shown w past e end hash s.opening a.there opened in
-    let place : 0 + span front ≡ s.first - 1 = omega (arith, a.count, before) in
+    let place : n0 + span front ≡ s.first - 1 = omega (arith, a.count, before) in
     let spans : last_of s ≡ s.first - 1 + span es = last_is w s good ∙ last_spans (s.first - 1) es in
     let back : s.first ≡ s.first - 1 + 1 = omega (arith, ends.first) in
     let own : places_in s ≡ logged_places (s.first - 1) s.opening es =
     ap (λ n. places_from n s.opening es) back ∙ places_logged (s.first - 1) s.opening es in
-    let last : ClosesAt v (s.first - 1) (logged_links (0 + span front) es) word =
+    let last : ClosesAt v (s.first - 1) (logged_links (n0 + span front) es) word =
     subst (λ n. ClosesAt v (s.first - 1) (logged_links n es) word) (sym place)
     (subst (λ u. ClosesAt u (s.first - 1) (versioned_links s) word) version ends.last) in
     record {
       count = omega (arith, span-append front es, a.count, before, spans);
-      hash = hash_joined 0 zeros front es
+      long = opened_by h0 n0 front s.opening a.opened opening good.fits.text.1.1.0;
+      hash = hash_joined n0 h0 front es
           ∙ ap (λ n. last_hash hash (logged_links n es)) place
           ∙ ap (λ h. last_hash h (versioned_links s)) opening
           ∙ sym ends.hash;
-      each = each_joined v 0 front es a.each
+      each = each_joined v n0 front es a.each
           (subst (λ n. EachFits v n es) (sym place)
           (subst (λ u. EachFits u (s.first - 1) es) version good.fits.text.1.1.1.0.2));
-      skips = skips_joined v 0 front es a.skips
+      skips = skips_joined v n0 front es a.skips
           (subst (λ n. EachMaySkip v n es) (sym place)
           (subst (λ u. EachMaySkip u (s.first - 1) es) version ends.skips));
-      closes = subst (λ ls. ClosesAt v 0 ls word) (sym (links_joined 0 front es))
-          (closes_after v 0 (s.first - 1) (logged_links 0 front) (logged_links (0 + span front) es) word
-          (omega (arith, length-logged_links (0 + span front) es, has_entry w s good)) last);
-      places = places_joined 0 zeros front es
-          ∙ ap (λ n. logged_places 0 zeros front ++ logged_places n hash es) place
-          ∙ ap (λ h. logged_places 0 zeros front ++ logged_places (s.first - 1) h es) opening
-          ∙ ap (λ ps. logged_places 0 zeros front ++ ps) (sym own);
+      closes = subst (λ ls. ClosesAt v n0 ls word) (sym (links_joined n0 front es))
+          (closes_after v n0 (s.first - 1) (logged_links n0 front) (logged_links (n0 + span front) es) word
+          (omega (arith, length-logged_links (n0 + span front) es, has_entry w s good)) last);
+      places = places_joined n0 h0 front es
+          ∙ ap (λ n. logged_places (first_number w) (first_hash w) front ++ logged_places n hash es) place
+          ∙ ap (λ h. logged_places (first_number w) (first_hash w) front ++ logged_places (s.first - 1) h es) opening
+          ∙ ap (λ ps. logged_places (first_number w) (first_hash w) front ++ ps) (sym own);
     }
 
 -- its last pair was shown
@@ -221,13 +252,14 @@ module _ (w : Watched) (past : Past) (p : Step × Reply) where
 
   -- the invariant in words that a step changes
   record Are (number : ℕ) (state : State) (es : List Logged) : Type 0 where
-    count : span es ≡ number
-    there : IsAmong (number, last_hash zeros (logged_links 0 es)) (shown w (p ∷ past))
-    each : EachFits w.member.log_version 0 es
-    skips : EachMaySkip w.member.log_version 0 es
+    count : first_number w + span es ≡ number
+    there : IsAmong (number, last_hash (first_hash w) (logged_links (first_number w) es)) (shown w (p ∷ past))
+    opened : 0 < length es → length (first_hash w) ≡ 32
+    each : EachFits w.member.log_version (first_number w) es
+    skips : EachMaySkip w.member.log_version (first_number w) es
     states : List State
-    honest : Honest w.roster (opening_of w.member) (logged_places 0 zeros es) states
-    last : last_state (opening_of w.member) states ≡ state
+    honest : Honest w.roster (first_state w) (logged_places (first_number w) (first_hash w) es) states
+    last : last_state (first_state w) states ≡ state
 
   from_are : (end : End) (es : List Logged) → end_of w (p ∷ past) ≡ end → audited w (p ∷ past) ≡ es
       → Are end.number end.state es → IsAudited w (p ∷ past)
@@ -238,6 +270,7 @@ module _ (w : Watched) (past : Past) (p : Step × Reply) where
       record {
         count = b.count;
         there = b.there;
+        opened = b.opened;
         each = b.each;
         skips = b.skips;
         states = b.states;
@@ -255,8 +288,9 @@ module _ (w : Watched) (past : Past) (p : Step × Reply) where
         count = a.count;
         there = shown_stays (
           (end_of w past).number,
-          last_hash zeros (logged_links 0 (audited w past)),
+          last_hash (first_hash w) (logged_links (first_number w) (audited w past)),
         ) a.there;
+        opened = a.opened;
         each = a.each;
         skips = a.skips;
         states = a.states;
@@ -283,20 +317,21 @@ module _ (w : Watched) (past : Past) (p : Step × Reply) where
         count = k.count;
         there = shown_stays (
           last_of s,
-          last_hash zeros
-              (logged_links 0 (audited w past ++ s.entries)),
+          last_hash (first_hash w)
+              (logged_links (first_number w) (audited w past ++ s.entries)),
         )
             (subst (λ h. IsAmong (last_of s, h) (shown w past)) (sym k.hash)
             (last_shown w past j.segment next good));
+        opened = λ some. k.long;
         each = k.each;
         skips = k.skips;
         states = a.states ++ run.states;
         honest =
-            subst (λ ps. Honest w.roster (opening_of w.member) ps (a.states ++ run.states)) (sym k.places)
-            (joined w.roster (opening_of w.member) (logged_places 0 zeros (audited w past))
+            subst (λ ps. Honest w.roster (first_state w) ps (a.states ++ run.states)) (sym k.places)
+            (joined w.roster (first_state w) (logged_places (first_number w) (first_hash w) (audited w past))
             (places_in s) a.states run.states a.honest
             (subst (λ x. Honest w.roster x (places_in s) run.states) (sym a.last) run.honest));
-        last = last_joined (opening_of w.member) a.states run.states
+        last = last_joined (first_state w) a.states run.states
             ∙ (ap (λ x. last_state x run.states) a.last ∙ run.last);
       })
 
@@ -321,70 +356,129 @@ fault_behind ms o s ps qs ts fault number honest last v =
       there = f.there;
     })
 
-start_fits : (v : LogVersion) → Fits number_item (start_number v 1)
-start_fits One = (omega arith, refl)
-start_fits Two = (omega arith, refl)
+start_fits : (v : LogVersion) (first later : ℕ) → first ≤ later → Fits number_item (start_number v later)
+    → Fits number_item (start_number v first)
+start_fits One first later h fits = lower_fits first later h fits
+start_fits Two first later h fits = lower_fits (first - 1) (later - 1) (omega (arith, h)) fits
 
--- A segment in which a replay finds a fault after the end, with all that was audited, is a charge.
-pub replay_charge : (w : Watched) (past : Past) (j : JobParts) (fault : ReplayFault)
-    (number : ℕ)
-    → IsInRoster w → is_exposed w past ≡ false → IsAudited w past
-    → IsNext w past j.segment → IsGoodSegment w j.segment.segment
-    → verdict_on w.roster (end_of w past).state j ≡ Fault fault number
-    → IsGoodCharge w (Replay (audited_with w past j.segment.segment))
-replay_charge w past j fault number is e a next good verdict =
-    let s = j.segment.segment in
-    let v = w.member.log_version in
-    let all = audited_with w past s in
-    let k = is_joined w past j.segment is e a next good in
-    let values = length-values v 0 all.entries in
-    let few = few_spans all.entries in
-    let node : w.member.node < 2 ^ 32 = omega (arith, good.fits.text.0, good.closed.ends.node, good.node) in
-    let accepts : AcceptsReplay w.roster w.member.node all = record {
-      of_node = refl;
-      first = refl;
-      opening = refl;
-      closed = record {
-        version = its_version w is;
-        ends = record {
-          first = omega arith;
-          skips = k.skips;
-          node = good.node;
-          last = k.closes;
-          hash = sym k.hash;
-        };
-        signed = good.closed.signed;
-      };
-      member = w.member;
-      is_member = is;
-      fault = fault;
-      number = number;
-      found = ap (verdict_of w.roster (opening_of w.member)) (places_logged 0 zeros all.entries ∙ k.places)
-          ∙ fault_behind w.roster (opening_of w.member) (end_of w past).state
-          (logged_places 0 zeros (audited w past))
-          (places_in s)
-          a.states fault number a.honest a.last verdict;
-    } in
-    let fits : Fits (replay_item v) (versioned_value v all) = (
-      node,
-      (
-        start_fits v,
+module _ (w : Watched) (past : Past) (j : JobParts) (fault : ReplayFault) (number : ℕ) (is : IsInRoster w)
+    (e : is_exposed w past ≡ false) (a : IsAudited w past) (next : IsNext w past j.segment)
+    (good : IsGoodSegment w j.segment.segment)
+    (verdict : verdict_on w.roster (end_of w past).state j ≡ Fault fault number) where
+  abbrev s : VersionedParts
+  s = j.segment.segment
+
+  abbrev v : LogVersion
+  v = w.member.log_version
+
+  abbrev all : VersionedParts
+  all = audited_with w past s
+
+  k : IsJoined w past s
+  k = is_joined w past j.segment is e a next good
+
+  place : first_number w ≡ first_number w + 1 - 1
+  place = omega arith
+
+  node : w.member.node < 2 ^ 32
+  node = omega (arith, good.fits.text.0, good.closed.ends.node, good.node)
+
+  closed : IsClosedIn w.roster all
+  closed = record {
+    version = its_version w is;
+    ends = record {
+      first = omega arith;
+      skips = subst (λ n. EachMaySkip v n all.entries) place k.skips;
+      node = good.node;
+      last = subst (λ n. ClosesAt v n (logged_links n all.entries) all.closing.word) place k.closes;
+      hash = subst (λ n. all.closing.hash ≡ last_hash (first_hash w) (logged_links n all.entries)) place
+          (sym k.hash);
+    };
+    signed = good.closed.signed;
+  }
+
+  found : verdict_of w.roster (first_state w) (places_in all) ≡ Fault fault number
+  found =
+      ap (verdict_of w.roster (first_state w))
+      (places_logged (first_number w) (first_hash w) all.entries ∙ k.places)
+      ∙ fault_behind w.roster (first_state w) (end_of w past).state
+      (logged_places (first_number w) (first_hash w) (audited w past)) (places_in s)
+      a.states fault number a.honest a.last verdict
+
+  starts : Fits number_item (start_number v (first_number w + 1))
+  starts =
+      start_fits v (first_number w + 1) s.first (omega (arith, next.first, a.count))
+      (subst (λ u. Fits number_item (start_number u s.first)) (its_log_version w s is good)
+      good.fits.text.1.0)
+
+  fits : Fits (replay_item v) (versioned_value v all)
+  fits =
+      let values = length-values v (first_number w + 1 - 1) all.entries in
+      let few = few_spans all.entries in (
+        node,
         (
-          zeros-length,
+          starts,
           (
+            k.long,
             (
-              omega (arith, values, few, k.count, next.last),
-              omega (arith, values, few, k.count, next.last),
-              k.each,
+              (
+                omega (arith, values, few, k.count, next.last),
+                omega (arith, values, few, k.count, next.last),
+                subst (λ n. EachFits v n all.entries) place k.each,
+              ),
+              good.fits.text.1.1.1.1,
             ),
-            good.fits.text.1.1.1.1,
           ),
         ),
-      ),
-    ) in
-    record {
-      small = node;
-      version = its_version w is;
-      accepted = accepts;
-      text = replay_fits v all fits;
-    }
+      )
+
+  charge_from : (base : Option KnownBase) → w.base ≡ base → IsBaseAt w.roster w.member base
+      → IsGoodCharge w (replay_from base all)
+  charge_from None same known = record {
+    small = node;
+    version = its_version w is;
+    accepted = record {
+      of_node = refl;
+      first = omega (arith, ap starting.start_number same);
+      opening = ap starting.start_hash same;
+      closed = closed;
+      member = w.member;
+      is_member = is.is_member;
+      fault = fault;
+      number = number;
+      found = subst (λ o. verdict_of w.roster (starting.start_state w.member o) (places_in all)
+          ≡ Fault fault number) same found;
+    };
+    text = replay_fits v all fits;
+  }
+  charge_from (Some b) same known =
+      let version : b.parts.log_version ≡ v = known.good.of_member.log_version in
+      record {
+        small = node;
+        version = subst (λ u. IsTrue (keeps_version w.roster w.member.node u)) (sym version)
+            (its_version w is);
+        accepted = record {
+          member = w.member;
+          state = b.state;
+          good = known.good;
+          base_node = sym (member_node w.roster b.parts.showing.node w.member known.good.is_member);
+          of_node = refl;
+          version = sym version;
+          first = ap (λ o. starting.start_number o + 1) same;
+          opening = subst (λ h. Shows b.parts.showing b.parts.at h) (sym (ap starting.start_hash same))
+              (base_shown w.roster w.member b known (b.parts.at, starting.start_hash (Some b))
+              (base_hash w.roster w.member b known));
+          closed = closed;
+          fault = fault;
+          number = number;
+          found = subst (λ o. verdict_of w.roster (starting.start_state w.member o) (places_in all)
+              ≡ Fault fault number) same found;
+        };
+        text = based_fits b.parts.log_version b.parts all
+            (begun_fits b.parts.log_version b.parts known.text)
+            (subst (λ u. Fits (replay_item u) (versioned_value u all)) (sym version) fits);
+      }
+
+  -- A segment in which a replay finds a fault after the end, with all that was audited, is a charge.
+  pub replay_charge : IsGoodCharge w (replay_from w.base (audited_with w past j.segment.segment))
+  replay_charge = charge_from w.base refl is.base

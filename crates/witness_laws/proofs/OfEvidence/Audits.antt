@@ -1,7 +1,7 @@
 -- What stands after own steps that were checked and owed: where the audit is, and that the accepted segments
 -- hold all numbers up to the end.
 -- Serves: evidence_where_exposed, evidence_proves.
-use Rattle.std.proofs.Common.{◌≡◌, ◌⊎◌, inl, inr, ℕ, ◌+◌, ◌≤◌, Bool, true, false, nat_lt, [], ◌∷◌, ◌++◌}
+use Rattle.std.proofs.Common.{◌≡◌, ◌⊎◌, inl, inr, ℕ, ◌+◌, ◌<◌, ◌≤◌, Bool, true, false, nat_lt, [], ◌∷◌, ◌++◌}
 use Rattle.std.proofs.Common.{Option, Some, None, refl, sym, ap, subst, ◌∙◌, arith, eqb-true}
 use Rattle.std.specs.Prelude.{◌-◌, IsTrue}
 use Rattle.std.proofs.lemmas.Bool.{ltb-true, ltb-false}
@@ -16,6 +16,7 @@ use Rattle.witness_spec.specs.Pairs.{last_of}
 use Rattle.witness_spec.specs.replay_spec.Replay.{Verdict, Sound, Fault}
 use Rattle.witness_spec.specs.Events.{JobParts}
 use Rattle.witness_spec.specs.Replies.{Reply}
+use Rattle.witness_spec.specs.Starting.{start_number}
 use Rattle.witness_spec.specs.Watched.{Watched, IsInRoster}
 use Rattle.witness_spec.specs.Steps.{Step, Past}
 use Rattle.witness_spec.specs.evidence_spec.Evidence.{MAX_AUDITED}
@@ -53,7 +54,7 @@ pub its_log_version : (w : Watched) (s : VersionedParts) → IsInRoster w → Is
 its_log_version w s is good =
     let node : s.node ≡ w.member.node = sym good.closed.ends.node ∙ good.node in
     let told : is_of_version s.log_version (Some w.member) ≡ true =
-    sym (ap (is_of_version s.log_version) (ap (member_of w.roster) node ∙ is)) ∙ good.closed.version in
+    sym (ap (is_of_version s.log_version) (ap (member_of w.roster) node ∙ is.is_member)) ∙ good.closed.version in
     sym (version_same w.member.log_version s.log_version
     (eqb-true (log_number w.member.log_version) (log_number s.log_version) told))
 
@@ -96,12 +97,13 @@ pub record IsNext (w : Watched) (past : Past) (c : ClosedParts) : Type 0 where
   -- its first number is the one after the end
   pub first : c.segment.first ≡ (end_of w past).number + 1
   -- its last number is one that may be audited
-  pub last : last_of c.segment ≤ MAX_AUDITED
+  pub last : last_of c.segment ≤ start_number w.base + MAX_AUDITED
 
 -- an audit is of the part that follows the end
 abbrev pub IsAt : Watched → Past → Stage → Type 0
 IsAt w past NoAudit = Unit {0}
-IsAt w past (Wanted first last) = (first ≡ (end_of w past).number + 1) × (last ≤ MAX_AUDITED)
+IsAt w past (Wanted first last) =
+    (first ≡ (end_of w past).number + 1) × (last ≤ start_number w.base + MAX_AUDITED)
 IsAt w past (Given c) = IsNext w past c
 IsAt w past (Out c) = IsNext w past c
 
@@ -112,14 +114,17 @@ pub record IsAfter (w : Watched) (past : Past) (s : VersionedParts) : Type 0 whe
   -- it begins at the place after the end at most
   pub first : s.first ≤ (end_of w past).number + 1
 
--- What stands after own steps: where the audit is, and that the accepted segments hold all up to the end.
+-- What stands after own steps: where the audit is, and that the accepted segments hold all from where it
+-- began up to the end.
 pub record Stand (w : Watched) (past : Past) : Type 0 where
   -- the audit is where its stage says
   pub stage : IsAt w past (stage_of past)
   -- each accepted segment is good, and leaves no gap
   pub segments : (s : VersionedParts) → IsAmong s (all_accepted past) → IsAfter w past s
-  -- each number up to the end lies in one
-  pub held : (n : ℕ) → 1 ≤ n → n ≤ (end_of w past).number → IsHeld past n
+  -- the end is where the audit began, or after it
+  pub begun : start_number w.base ≤ (end_of w past).number
+  -- each number from there up to the end lies in one
+  pub held : (n : ℕ) → start_number w.base < n → n ≤ (end_of w past).number → IsHeld past n
 
 -- ---- a step that files nothing
 
@@ -165,8 +170,13 @@ module _ (w : Watched) (past : Past) (p : Step × Reply) where
       → IsAmong s (all_accepted past)
   same_accepted s h i = subst (λ o. IsAmong s (segment_of o ++ all_accepted past)) h i
 
-  numbers_stay : filed p.0 p.1 ≡ None → ((n : ℕ) → 1 ≤ n → n ≤ (end_of w past).number → IsHeld past n)
-      → (n : ℕ) → 1 ≤ n → n ≤ (end_of w (p ∷ past)).number → IsHeld (p ∷ past) n
+  begun_stays : filed p.0 p.1 ≡ None → start_number w.base ≤ (end_of w past).number
+      → start_number w.base ≤ (end_of w (p ∷ past)).number
+  begun_stays h k = subst (λ (e : End). start_number w.base ≤ e.number) (sym (end_stays h)) k
+
+  numbers_stay : filed p.0 p.1 ≡ None
+      → ((n : ℕ) → start_number w.base < n → n ≤ (end_of w past).number → IsHeld past n)
+      → (n : ℕ) → start_number w.base < n → n ≤ (end_of w (p ∷ past)).number → IsHeld (p ∷ past) n
   numbers_stay h k n low high =
       held_stays n (k n low (subst (λ (e : End). n ≤ e.number) (end_stays h) high))
 
@@ -176,6 +186,7 @@ module _ (w : Watched) (past : Past) (p : Step × Reply) where
   quiet to stage none unfiled at k = record {
     stage = subst (IsAt w (p ∷ past)) (sym stage) (at_stays to unfiled at);
     segments = λ s i. after_stays s unfiled (k.segments s (same_accepted s none i));
+    begun = begun_stays unfiled k.begun;
     held = numbers_stay unfiled k.held;
   }
 
@@ -197,6 +208,7 @@ module _ (w : Watched) (past : Past) (p : Step × Reply) where
         segments = λ s i.
             by s (subst (λ o. IsAmong s (segment_of o ++ all_accepted past)) did.accepts i)
             (omega (arith, next.first));
+        begun = begun_stays did.files k.begun;
         held = numbers_stay did.files k.held;
       }
     where
@@ -224,6 +236,7 @@ module _ (w : Watched) (past : Past) (p : Step × Reply) where
         segments = λ s i.
             let b = k.segments s (same_accepted s did.accepts i) in
             record { good = b.good; first = subst (λ (e : End). s.first ≤ e.number + 1) (sym same) b.first };
+        begun = subst (λ (e : End). start_number w.base ≤ e.number) (sym same) k.begun;
         held = λ n low high. held_stays n (k.held n low (subst (λ (e : End). n ≤ e.number) same high));
       }
   moves j next did k (Sound t found) is =
@@ -237,12 +250,13 @@ module _ (w : Watched) (past : Past) (p : Step × Reply) where
         segments = λ s i.
             let b = k.segments s (same_accepted s did.accepts i) in
             record { good = b.good; first = omega (arith, b.first, more, same) };
+        begun = omega (arith, k.begun, more, same);
         held = λ n low high.
             by n (nat_lt (end_of w past).number n) refl low (omega (arith, high, same))
             (omega (arith, next.first));
       }
     where
-      by : (n : ℕ) (b : Bool) → nat_lt (end_of w past).number n ≡ b → 1 ≤ n
+      by : (n : ℕ) (b : Bool) → nat_lt (end_of w past).number n ≡ b → start_number w.base < n
           → n ≤ last_of j.segment.segment
           → j.segment.segment.first ≡ (end_of w past).number + 1 → IsHeld (p ∷ past) n
       by n true e low high first = record {
@@ -258,7 +272,7 @@ module _ (w : Watched) (past : Past) (p : Step × Reply) where
 
   stands_on : Doing w past p → IsCheckedStep w p.0 → Stand w past → Stand w (p ∷ past)
   stands_on (Nothing did) checked k = quiet (stage_of past) did.stage did.accepts did.files k.stage k
-  stands_on (Notes a is did) checked k = quiet (stage_of past) did.stage did.accepts did.files k.stage k
+  stands_on (Notes a is above did) checked k = quiet (stage_of past) did.stage did.accepts did.files k.stage k
   stands_on (Accepts c is wanted did) checked k =
       gives c (good_given w c (subst (IsCheckedStep w) is checked)) wanted did k
   stands_on (Asks first last is few did) checked k =
@@ -274,6 +288,7 @@ at_first : (w : Watched) → Stand w []
 at_first w = record {
   stage = tt;
   segments = λ s i. absurd i;
+  begun = omega arith;
   held = λ n low high. absurd (omega (arith, low, high));
 }
 

@@ -1,31 +1,35 @@
--- While a node isn't exposed, each pair that it showed, but that at 0, is one of a learned authenticator that
--- is kept, or of an accepted segment.
+-- While a node isn't exposed, each pair that it showed, but that at 0 where there is no base, is one of the base,
+-- of a learned authenticator that is kept, or of an accepted segment.
 -- Serves: evidence_where_exposed, evidence_proves.
-use Rattle.std.proofs.Common.{◌≡◌, ◌⊎◌, inl, inr, ℕ, ◌+◌, ◌-◌, ◌≤◌, Bool, true, false, cond, ◌==◌}
+use Rattle.std.proofs.Common.{◌≡◌, ◌⊎◌, inl, inr, ℕ, ◌+◌, ◌-◌, ◌<◌, ◌≤◌, Bool, true, false, cond, ◌==◌}
 use Rattle.std.proofs.Common.{nat_lt, nat_le, List, [], ◌∷◌, ◌++◌, filter, Option, Some, None, refl}
 use Rattle.std.proofs.Common.{sym, ap}
 use Rattle.std.proofs.Common.{subst, ◌∙◌, arith, eqb-true, eq-eqb}
-use Rattle.std.specs.Prelude.{find, ◌&&◌}
-use Rattle.std.proofs.lemmas.Bool.{and_parts, and_from, true≢false, ltb-true, ltb-false, leb-true, le-leb}
+use Rattle.std.specs.Prelude.{find, is_some, not, ◌&&◌}
+use Rattle.std.proofs.lemmas.Bool.{and_parts, and_from, true≢false, ltb-true, ltb-false, leb-true}
+use Rattle.std.proofs.lemmas.Bool.{leb-false, le-leb}
 use Rattle.std.proofs.lemmas.Option.{same_Some}
 use Rattle.authenticator.specs.declared.authenticator.Authenticator.{Authenticator}
+use Rattle.authenticator.proofs.Members.{member_node}
 use Rattle.secure_log.specs.LogEntries.Chain.{IsAmong}
 use Rattle.secure_log.specs.Versioned.{VersionedParts, ClosedParts, segment_marks, versioned_links}
 use Rattle.authenticator.specs.Signing.{is_same}
 use Rattle.authenticator.proofs.Signed.{same_list, list_same, is_false}
-use Rattle.witness_spec.specs.evidence_spec.Showing.{ShowingParts}
+use Rattle.witness_spec.specs.evidence_spec.Showing.{ShowingParts, showing_marks}
 use Rattle.witness_spec.specs.evidence_spec.Showing.{authenticator_showing, versioned_showing}
 use Rattle.witness_spec.specs.evidence_spec.Laws.{ShowsMarks}
 use Rattle.witness_spec.proofs.evidence_spec.Closed.{one_pair, own_marks}
 use Rattle.witness_spec.specs.Replies.{Reply}
+use Rattle.witness_spec.specs.Starting.{KnownBase, IsKnownBase, IsBaseAt, start_number, start_pairs, is_below}
+use Rattle.witness_spec.specs.Starting.{start_showing}
 use Rattle.witness_spec.specs.Watched.{Watched, IsInRoster}
 use Rattle.witness_spec.specs.Steps.{Step, Learn, Past}
-use Rattle.witness_spec.specs.Pairs.{Pair, number_of, pair_of, first_pair, last_of}
+use Rattle.witness_spec.specs.Pairs.{Pair, number_of, pair_of, last_of}
 use Rattle.witness_spec.specs.Done.{noted, accepted}
 use Rattle.witness_spec.specs.Standing.{end_of, pairs_noted, pairs_accepted, shown, is_exposed}
 use Rattle.witness_spec.specs.Standing.{unless_exposed}
 use Rattle.witness_spec.specs.Standing.{noted_before, kept, segment_of, all_accepted}
-use Rattle.witness_spec.specs.Exposing.{segment_holding, or_segment, showing_before}
+use Rattle.witness_spec.specs.Exposing.{segment_holding, or_segment, kept_before, showing_before}
 use Rattle.witness_spec.specs.Histories.{AreOwed}
 use Rattle.witness_spec.specs.Laws.{HasTwoHashes}
 use Rattle.witness_laws.proofs.Exposing.{exposed_is, why_exposed, exposed_further}
@@ -34,6 +38,7 @@ use Rattle.witness_laws.proofs.Checked.{IsLearned, IsCheckedStep, AreChecked}
 use Rattle.witness_laws.proofs.OfEvidence.Audits.{IsGoodSegment, its_log_version, are_numbered, last_is}
 use Rattle.witness_laws.proofs.OfEvidence.Audits.{IsHeld, Stand}
 use Rattle.witness_laws.proofs.OfEvidence.Marks.{has_mark, mark_within}
+use Rattle.witness_laws.proofs.OfEvidence.Starts.{base_mark, base_shown, begun_fits, start_low, start_shown}
 
 -- ---- lists
 
@@ -150,7 +155,7 @@ module _ (w : Watched) where
   noted_step : (past : Past) (p : Step × Reply) (a : Authenticator) → Doing w past p
       → noted p.0 p.1 ≡ Some a → p.0 ≡ Learn a
   noted_step past p a (Nothing did) h = let no : None ≡ Some a = sym did.notes ∙ h in absurd (cc)
-  noted_step past p a (Notes b is did) h = is ∙ ap (λ x. Learn x) (same_Some _ _ (sym did.notes ∙ h))
+  noted_step past p a (Notes b is above did) h = is ∙ ap (λ x. Learn x) (same_Some _ _ (sym did.notes ∙ h))
   noted_step past p a (Accepts c is wanted did) h = let no : None ≡ Some a = sym did.notes ∙ h in absurd (cc)
   noted_step past p a (Asks first last is few did) h = let no : None ≡ Some a = sym did.notes ∙ h in
       absurd (cc)
@@ -206,9 +211,9 @@ module _ (w : Watched) where
 
   -- ---- where it is shown
 
-  -- a pair that was shown is the first pair, of an authenticator that was noted, or of an accepted segment
+  -- a pair that was shown is one of those at first, of an authenticator that was noted, or of an accepted segment
   pub data Source (past : Past) (n : ℕ) (x : List ℕ) : Type 0 where
-    AtFirst : ◌≡◌ {A = Pair} (n, x) first_pair → Source past n x
+    AtFirst : IsAmong (n, x) (start_pairs w.base) → Source past n x
     OfNoted : (a : Authenticator) → IsAmong a (noted_before w past)
         → ◌≡◌ {A = Pair} (n, x) (own_pair a) → Source past n x
     OfAccepted : (s : VersionedParts) → IsAmong s (all_accepted past) → IsAmong (n, x) (segment_marks s)
@@ -217,8 +222,7 @@ module _ (w : Watched) where
   sourced : (past : Past) (n : ℕ) (x : List ℕ) → is_exposed w past ≡ false
       → IsAmong (n, x) (shown w past)
       → Source past n x
-  sourced [] n x e (inl same) = AtFirst same
-  sourced [] n x e (inr i) = absurd i
+  sourced [] n x e i = AtFirst i
   sourced (p ∷ past) n x e i =
       let new = pairs_noted w.member.log_version (is_exposed w past) (noted p.0 p.1) in
       let given = pairs_accepted (accepted p.0 p.1) in
@@ -226,7 +230,7 @@ module _ (w : Watched) where
       (λ k. older (sourced past n x (was_not p past e) k))
     where
       older : Source past n x → Source (p ∷ past) n x
-      older (AtFirst same) = AtFirst same
+      older (AtFirst i) = AtFirst i
       older (OfNoted a i same) =
           OfNoted a (on_right a (unless_exposed (is_exposed w (p ∷ past)) (noted p.0 p.1))
           (noted_before w past) i)
@@ -287,12 +291,28 @@ good_segment w s is good = record {
       (its_log_version w s is good) (own_marks w.roster s good.fits good.closed);
 }
 
--- what is kept shows a hash at a number
-pub record IsShownBefore (w : Watched) (past : Past) (n : ℕ) (x : List ℕ) : Type 0 where
+-- a good base of the node shows its marks
+good_base : (w : Watched) (b : KnownBase) → IsKnownBase w.roster w.member b
+    → IsGoodShowing w b.parts.showing (showing_marks b.parts.showing)
+good_base w b known =
+    let good = known.good in
+    record {
+      node = sym (member_node w.roster b.parts.showing.node w.member good.is_member);
+      shows = subst (λ v. ShowsMarks v w.roster b.parts.showing (showing_marks b.parts.showing))
+          good.of_member.log_version
+          (record {
+            closed = good.closed;
+            text = (begun_fits b.parts.log_version b.parts known.text).0;
+            is = refl;
+          });
+    }
+
+-- a showing that was looked up shows a hash at a number
+pub record IsShownBefore (w : Watched) (looked : Option ShowingParts) (n : ℕ) (x : List ℕ) : Type 0 where
   -- the showing
   pub showing : ShowingParts
-  -- it is the one that is looked up for the number
-  pub is : showing_before w.member.log_version (kept w past) (all_accepted past) n ≡ Some showing
+  -- it is the one that was looked up
+  pub is : looked ≡ Some showing
   -- the pairs that it shows
   pub ps : List Pair
   -- it is closed and has a text
@@ -308,13 +328,17 @@ module _ (w : Watched) (past : Past) (n : ℕ) (x : List ℕ) where
   abbrev at_number : Authenticator → Bool
   at_number a = own_number a == n
 
+  -- what is looked up for the number among what is kept
+  abbrev looked : Option ShowingParts
+  looked = kept_before w.member.log_version (kept w past) (all_accepted past) n
+
   abbrev holds : VersionedParts → Bool
   holds s = nat_le s.first n && nat_le n (last_of s)
 
   -- a kept one has this hash
   by_kept : (a : Authenticator) → AreOwed w past → AreChecked w past → is_exposed w past ≡ false
       → IsAmong (n, x) (shown w past) → find at_number (kept w past) ≡ Some a
-      → IsShownBefore w past n x
+      → IsShownBefore w looked n x
   by_kept a owed checked e i is =
       let f = found at_number (kept w past) a is in
       let before = filtered (λ (b : Authenticator). nat_lt (end_of w past).number (own_number b))
@@ -334,7 +358,7 @@ module _ (w : Watched) (past : Past) (n : ℕ) (x : List ℕ) where
   -- a segment that holds the number shows this hash
   by_segment : (s : VersionedParts) → IsInRoster w → Stand w past → is_exposed w past ≡ false
       → IsAmong (n, x) (shown w past) → find at_number (kept w past) ≡ None
-      → find holds (all_accepted past) ≡ Some s → IsShownBefore w past n x
+      → find holds (all_accepted past) ≡ Some s → IsShownBefore w looked n x
   by_segment s member stand e i none is =
       let f = found holds (all_accepted past) s is in
       let good = (stand.segments s f.0).good in
@@ -355,11 +379,11 @@ module _ (w : Watched) (past : Past) (n : ℕ) (x : List ℕ) where
       }
 
   -- where none is kept at the number, a segment holds it
-  held : Stand w past → 1 ≤ n → find at_number (kept w past) ≡ None → Source w past n x
-      → IsHeld past n
-  held stand some none (AtFirst same) =
-      let zero_is : n ≡ 0 = ap (λ (q : Pair). q.0) same in absurd (omega (arith, some, zero_is))
-  held stand some none (OfNoted a i same) = by (nat_lt (end_of w past).number (own_number a)) refl
+  held : IsInRoster w → Stand w past → start_number w.base < n → find at_number (kept w past) ≡ None
+      → Source w past n x → IsHeld past n
+  held member stand some none (AtFirst i) =
+      absurd (omega (arith, some, start_low w.roster w.member w.base member.base n x i))
+  held member stand some none (OfNoted a i same) = by (nat_lt (end_of w past).number (own_number a)) refl
     where
       number : n ≡ own_number a
       number = ap (λ (q : Pair). q.0) same
@@ -372,7 +396,7 @@ module _ (w : Watched) (past : Past) (n : ℕ) (x : List ℕ) where
           ∙ not_found at_number (kept w past) a none
           (passing (λ (b : Authenticator). nat_lt (end_of w past).number (own_number b))
           (noted_before w past) a i e)))
-  held stand some none (OfAccepted s i j) = by (nat_lt n s.first) refl
+  held member stand some none (OfAccepted s i j) = by (nat_lt n s.first) refl
     where
       by : (b : Bool) → nat_lt n s.first ≡ b → IsHeld past n
       by b e =
@@ -390,7 +414,7 @@ module _ (w : Watched) (past : Past) (n : ℕ) (x : List ℕ) where
 
   by_held : (o : Option VersionedParts) → IsInRoster w → Stand w past → is_exposed w past ≡ false
       → IsAmong (n, x) (shown w past) → find at_number (kept w past) ≡ None
-      → IsHeld past n → find holds (all_accepted past) ≡ o → IsShownBefore w past n x
+      → IsHeld past n → find holds (all_accepted past) ≡ o → IsShownBefore w looked n x
   by_held (Some s) member stand e i none h is = by_segment s member stand e i none is
   by_held None member stand e i none h is =
       absurd (true≢false (sym (and_from (nat_le h.segment.first n) (nat_le n (last_of h.segment))
@@ -398,15 +422,64 @@ module _ (w : Watched) (past : Past) (n : ℕ) (x : List ℕ) where
       ∙ not_found holds (all_accepted past) h.segment is h.among))
 
   by_number : (o : Option Authenticator) → IsInRoster w → AreOwed w past → AreChecked w past
-      → Stand w past → is_exposed w past ≡ false → 1 ≤ n → IsAmong (n, x) (shown w past)
-      → find at_number (kept w past) ≡ o → IsShownBefore w past n x
+      → Stand w past → is_exposed w past ≡ false → start_number w.base < n → IsAmong (n, x) (shown w past)
+      → find at_number (kept w past) ≡ o → IsShownBefore w looked n x
   by_number (Some a) member owed checked stand e some i is = by_kept a owed checked e i is
   by_number None member owed checked stand e some i is =
       by_held (find holds (all_accepted past)) member stand e i is
-      (held stand some is (sourced w past n x e i)) refl
+      (held member stand some is (sourced w past n x e i)) refl
 
-  -- Each pair that was shown, but that at 0, is shown by what is kept.
+  -- what is looked up where there is a base, by whether the number is past the base's
+  at_base : (b : KnownBase) (t : Bool) → w.base ≡ Some b → IsKnownBase w.roster w.member b
+      → is_below (Some b) n ≡ false → nat_le n b.parts.at ≡ t
+      → (start_number w.base < n → IsShownBefore w looked n x) → is_exposed w past ≡ false
+      → IsAmong (n, x) (shown w past)
+      → IsShownBefore w
+      (cond (is_some (cond t (Some b.parts.showing) None)) (cond t (Some b.parts.showing) None) looked) n x
+  at_base b true same known above low rest e i =
+      let high : n ≤ b.parts.at = leb-true n b.parts.at low in
+      let has = base_mark w.roster w.member b known n (ltb-false n (b.parts.showing.first - 1) above) high in
+      let there : IsAmong (n, has.mark) (shown w past) =
+      start_shown w past (n, has.mark)
+      (subst (λ base. IsAmong (n, has.mark) (start_pairs base)) (sym same) (inr has.there)) in
+      let mark : has.mark ≡ x = one_shown w past e n has.mark x there i in
+      record {
+        showing = b.parts.showing;
+        is = refl;
+        ps = showing_marks b.parts.showing;
+        good = good_base w b known;
+        there = subst (λ y. IsAmong (n, y) (showing_marks b.parts.showing)) mark
+            (base_shown w.roster w.member b known (n, has.mark) has.there);
+      }
+  at_base b false same known above low rest e i =
+      rest (omega (arith, leb-false n b.parts.at low, ap start_number same))
+
+  -- Each pair that was shown, but that at 0 where there is no base, is shown by the base or by what is kept.
   pub shown_before : IsInRoster w → AreOwed w past → AreChecked w past → Stand w past
-      → is_exposed w past ≡ false → 1 ≤ n → IsAmong (n, x) (shown w past) → IsShownBefore w past n x
-  shown_before member owed checked stand e some i =
-      by_number (find at_number (kept w past)) member owed checked stand e some i refl
+      → is_exposed w past ≡ false → is_below w.base n ≡ false
+      → ((n == 0) && not (is_some (start_showing w.base 0))) ≡ false → IsAmong (n, x) (shown w past)
+      → IsShownBefore w
+      (showing_before w.base w.member.log_version (kept w past) (all_accepted past) n) n x
+  shown_before member owed checked stand e above late i = by w.base refl member.base above late
+    where
+      rest : start_number w.base < n → IsShownBefore w looked n x
+      rest some = by_number (find at_number (kept w past)) member owed checked stand e some i refl
+
+      positive : (t : Bool) → (n == 0) ≡ t → (t && true) ≡ false → 0 < n
+      positive true z late = absurd (true≢false late)
+      positive false z late = by_zero (nat_lt 0 n) refl
+        where
+          by_zero : (c : Bool) → nat_lt 0 n ≡ c → 0 < n
+          by_zero true f = ltb-true 0 n f
+          by_zero false f =
+              let none : n ≡ 0 = omega (arith, ltb-false 0 n f) in
+              absurd (true≢false (sym (eq-eqb n 0 none) ∙ z))
+
+      by : (base : Option KnownBase) → w.base ≡ base → IsBaseAt w.roster w.member base
+          → is_below base n ≡ false → ((n == 0) && not (is_some (start_showing base 0))) ≡ false
+          → IsShownBefore w
+          (showing_before base w.member.log_version (kept w past) (all_accepted past) n) n x
+      by None same known above late =
+          rest (omega (arith, positive (n == 0) refl late, ap start_number same))
+      by (Some b) same known above late =
+          at_base b (nat_le n b.parts.at) same known above refl rest e i

@@ -3,8 +3,8 @@
 use Rattle.std.proofs.Common.{◌≡◌, ◌≢◌, ◌⊎◌, inl, inr, ℕ, ◌-◌, ◌^◌, ◌<◌, ◌≤◌, Bool, true, false, cond}
 use Rattle.std.proofs.Common.{◌||◌, ◌==◌}
 use Rattle.std.proofs.Common.{List, [], ◌∷◌, ◌++◌, Option, Some, None, refl, sym, ap, ap₂, subst, ◌∙◌}
-use Rattle.std.proofs.Common.{arith, eqb-true, eq-eqb, not, zero, suc}
-use Rattle.std.specs.Prelude.{option_map, option_and_then, IsTrue, ◌%◌}
+use Rattle.std.proofs.Common.{arith, eqb-true, eq-eqb, not}
+use Rattle.std.specs.Prelude.{is_some, option_map, option_and_then, IsTrue, ◌&&◌, ◌%◌}
 use Rattle.std.proofs.lemmas.Bool.{and_parts, or_cases, or_right, true≢false, ltb-true, lt-ltb}
 use Rattle.std.proofs.lemmas.Option.{same_Some}
 use Rattle.xdr.specs.Item.{Fits, choice}
@@ -23,12 +23,14 @@ use Rattle.witness_spec.specs.replay_spec.Stepping.{ReplayFault}
 use Rattle.authenticator.proofs.Signed.{is_false, list_same}
 use Rattle.witness_spec.specs.evidence_spec.Showing.{ShowingParts, authenticator_showing}
 use Rattle.witness_spec.specs.evidence_spec.Showing.{versioned_showing}
-use Rattle.witness_spec.specs.evidence_spec.Evidence.{Charge, Fork, Replay, AcceptsCharge, is_charge}
+use Rattle.witness_spec.specs.evidence_spec.Base.{BaseParts, begun_item, begun_value}
+use Rattle.witness_spec.specs.evidence_spec.Evidence.{Charge, Fork, AcceptsCharge, is_charge}
 use Rattle.witness_spec.specs.evidence_spec.Evidence.{ForkParts, fork_item, fork_value, fork_charge}
 use Rattle.witness_spec.specs.evidence_spec.Evidence.{charge_item, charge_value, charge_version}
-use Rattle.witness_spec.specs.evidence_spec.Evidence.{replay_charge, replay_item}
+use Rattle.witness_spec.specs.evidence_spec.Evidence.{replay_charge, replay_item, based_value}
 use Rattle.witness_spec.specs.Events.{JobParts}
 use Rattle.witness_spec.specs.Replies.{Reply}
+use Rattle.witness_spec.specs.Starting.{start_number, is_below, start_showing}
 use Rattle.witness_spec.specs.Watched.{Watched, IsInRoster}
 use Rattle.witness_spec.specs.Steps.{Step, Past}
 use Rattle.witness_spec.specs.Pairs.{Pair, pair_of, first_pair, last_of, differ, is_fork, has_fork}
@@ -40,15 +42,16 @@ use Rattle.witness_spec.specs.Standing.{is_exposed, is_fault, kept, all_accepted
 use Rattle.witness_spec.specs.Standing.{Given, Out}
 use Rattle.witness_spec.specs.Standing.{stage_of}
 use Rattle.witness_spec.specs.Exposing.{showing_before, fork_of, new_fork, audited_with, replay_of, charge_of}
-use Rattle.witness_spec.specs.Exposing.{new_charge}
+use Rattle.witness_spec.specs.Exposing.{new_charge, replay_from}
 use Rattle.witness_spec.specs.Histories.{AreOwed}
 use Rattle.witness_spec.specs.Laws.{HasTwoHashes, HasFaultyFile}
 use Rattle.witness_laws.proofs.Exposing.{fork_at, of_file, exposed_is, is_exposed_told, exposed_why}
 use Rattle.witness_laws.proofs.Exposing.{why_exposed}
 use Rattle.witness_laws.proofs.Doing.{Did, Doing, Nothing, Notes, Accepts, Asks, Begins, Files, PutsBack}
 use Rattle.witness_laws.proofs.Checked.{IsLearned, IsCheckedStep, AreChecked}
-use Rattle.witness_laws.proofs.OfEvidence.Audits.{IsGoodSegment, good_given, are_numbered, last_is, Stand}
+use Rattle.witness_laws.proofs.OfEvidence.Audits.{IsGoodSegment, good_given, are_numbered, last_is, IsAt, Stand}
 use Rattle.witness_laws.proofs.OfEvidence.Marks.{mark_within}
+use Rattle.witness_laws.proofs.OfEvidence.Starts.{first_at_start, not_below, start_shown}
 use Rattle.witness_laws.proofs.OfEvidence.Before.{split, on_left, on_right, one_shown, IsGoodShowing}
 use Rattle.witness_laws.proofs.OfEvidence.Before.{good_authenticator}
 use Rattle.witness_laws.proofs.OfEvidence.Before.{good_segment, shown_before}
@@ -130,14 +133,11 @@ none_first (p ∷ new) old q h i = by (is_fork p old) refl h i (λ k j. none_fir
 zero_fits : Fits number_item 0
 zero_fits = (omega arith, refl)
 
-lower_fits : (n k : ℕ) → n ≤ k → Fits number_item k → Fits number_item n
+-- a number below one that fits does
+pub lower_fits : (n k : ℕ) → n ≤ k → Fits number_item k → Fits number_item n
 lower_fits n k h fits =
     let small : k < 2 ^ 64 - 1 = ltb-true k (2 ^ 64 - 1) fits.1 in
     (omega (arith, h, fits.0), lt-ltb n (2 ^ 64 - 1) (omega (arith, h, small)))
-
-positive : (n : ℕ) → (n == 0) ≡ false → 1 ≤ n
-positive zero h = absurd (true≢false h)
-positive (suc n) h = omega arith
 
 number_fits : (v : LogVersion) (word : ℕ) → Fits number_item word → Fits number_item (number_in v word)
 number_fits One word h = h
@@ -156,6 +156,13 @@ pub replay_fits : (v : LogVersion) (s : VersionedParts) → Fits (replay_item v)
     → Fits (choice is_charge charge_item) (replay_charge v s)
 replay_fits One s h = (omega arith, refl, h)
 replay_fits Two s h = (omega arith, refl, h)
+
+-- and a replay from a base, where both have one
+pub based_fits : (v : LogVersion) (b : BaseParts) (s : VersionedParts) → Fits (begun_item v) (begun_value v b)
+    → Fits (replay_item v) (versioned_value v s)
+    → Fits (choice is_charge charge_item) (5, based_value v b s)
+based_fits One b s g h = (omega arith, refl, (omega arith, refl, (g, h)))
+based_fits Two b s g h = (omega arith, refl, (omega arith, refl, (g, h)))
 
 -- it is accepted against the node, and has a text with it
 pub record IsGoodCharge (w : Watched) (g : Charge) : Type 0 where
@@ -179,13 +186,19 @@ record IsNew (w : Watched) (new : ShowingParts) (ps : List Pair) : Type 0 where
   good : IsGoodShowing w new ps
   one : (n : ℕ) (x y : List ℕ) → IsAmong (n, x) ps → IsAmong (n, y) ps → x ≡ y
   few : (n : ℕ) (x : List ℕ) → IsAmong (n, x) ps → Fits number_item n
+  above : (n : ℕ) (x : List ℕ) → IsAmong (n, x) ps → is_below w.base n ≡ false
 
 new_authenticator : (w : Watched) (a : Authenticator) → IsLearned w a
+    → is_below w.base (number_in w.member.log_version a.word) ≡ false
     → IsNew w (authenticator_showing w.member.log_version a) (pair_of w.member.log_version a ∷ [])
-new_authenticator w a good = record {
+new_authenticator w a good above = record {
   good = good_authenticator w a good;
   one = λ n x y i j. its x n i ∙ sym (its y n j);
   few = λ n x i. number n x i;
+  above = λ n x i. elim i [
+    | inl e ↦ ap (is_below w.base) (ap (λ (q : Pair). q.0) e) ∙ above
+    | inr j ↦ absurd j
+  ];
 }
   where
     its : (x : List ℕ) (n : ℕ) → IsAmong (n, x) (pair_of w.member.log_version a ∷ []) → x ≡ a.hash
@@ -200,8 +213,8 @@ new_authenticator w a good = record {
     number n x (inr i) = absurd i
 
 new_segment : (w : Watched) (s : VersionedParts) → IsInRoster w → IsGoodSegment w s
-    → IsNew w (versioned_showing s) (segment_marks s)
-new_segment w s is good =
+    → start_number w.base ≤ s.first - 1 → IsNew w (versioned_showing s) (segment_marks s)
+new_segment w s is good low =
     let links = versioned_links s in
     record {
       good = good_segment w s is good;
@@ -213,21 +226,20 @@ new_segment w s is good =
             (mark_within (s.first - 1) s.opening links n x (are_numbered s) i).1,
             last_is w s good,
           )) (number_fits s.log_version s.closing.word good.fits.text.1.1.1.1.1.0);
+      above = λ n x i.
+          not_below w.roster w.member w.base is.base n
+          (omega (arith, low, (mark_within (s.first - 1) s.opening links n x (are_numbered s) i).0));
     }
 
 -- the pair before the first entry is always among those that were shown
 pub first_shown : (w : Watched) (past : Past) → IsAmong first_pair (shown w past)
-first_shown w [] = inl refl
-first_shown w (p ∷ past) =
-    on_right first_pair (pairs_noted w.member.log_version (is_exposed w past) (noted p.0 p.1))
-    (pairs_accepted (accepted p.0 p.1) ++ shown w past)
-    (on_right first_pair (pairs_accepted (accepted p.0 p.1)) (shown w past) (first_shown w past))
+first_shown w past = start_shown w past first_pair (first_at_start w.base)
 
 -- a member's log is of the version that the roster gives it
 pub its_version : (w : Watched) → IsInRoster w
     → IsTrue (keeps_version w.roster w.member.node w.member.log_version)
 its_version w is =
-    ap (is_of_version w.member.log_version) is
+    ap (is_of_version w.member.log_version) is.is_member
     ∙ eq-eqb (log_number w.member.log_version) (log_number w.member.log_version) refl
 
 module _ (w : Watched) (past : Past) (p : Step × Reply) (member : IsInRoster w) (owed : AreOwed w past)
@@ -333,25 +345,31 @@ module _ (w : Watched) (past : Past) (p : Step × Reply) (member : IsInRoster w)
 
   -- the fork of a new showing at a number, with what is kept
   abbrev fork_with : ShowingParts → (number : ℕ) → Option Charge
-  fork_with new = fork_of w.member.log_version (kept w past) (all_accepted past) new
+  fork_with new = fork_of w.base w.member.log_version (kept w past) (all_accepted past) new
 
   charged_at : (new : ShowingParts) (ps : List Pair) (n : ℕ) (b : Bool) → ShowsNew new ps
-      → first_fork ps (shown w past) ≡ Some n → (n == 0) ≡ b → Charging w past p
+      → first_fork ps (shown w past) ≡ Some n → ((n == 0) && not (is_some (start_showing w.base 0))) ≡ b
+      → Charging w past p
   charged_at new ps n true s is z =
       let f = first_is ps (shown w past) n is in
-      let zero_is : n ≡ 0 = eqb-true n 0 z in
-      Charged (Fork (record { log_version = w.member.log_version; at = 0; a = new; b = None }))
-      (s.charge_is ∙ (ap (option_and_then (fork_with new)) is ∙ ap (fork_with new) zero_is))
+      let v = w.member.log_version in
+      let zero_is : n ≡ 0 = eqb-true n 0 (and_parts (n == 0) (not (is_some (start_showing w.base 0))) z).0 in
+      Charged (Fork (record { log_version = v; at = 0; a = new; b = None }))
+      (s.charge_is ∙ (ap (option_and_then (fork_with new)) is
+      ∙ ap (λ b. cond b (Some (Fork (record { log_version = v; at = 0; a = new; b = None })))
+      (option_map (λ x. Fork (record { log_version = v; at = n; a = x; b = Some new }))
+      (showing_before w.base v (kept w past) (all_accepted past) n))) z))
       (fork_exposes new ps n s f) (at_zero new ps s.is (subst (Forks ps (shown w past)) zero_is f))
   charged_at new ps n false s is z =
       let f = first_is ps (shown w past) n is in
-      let old = shown_before w past n f.other member owed checked stand e (positive n z) f.other_old in
+      let old = shown_before w past n f.other member owed checked stand e (s.is.above n f.one f.one_new) z
+      f.other_old in
       let v = w.member.log_version in
       Charged (Fork (record { log_version = v; at = n; a = old.showing; b = Some new }))
       (s.charge_is ∙ (ap (option_and_then (fork_with new)) is
       ∙ (ap (λ b. cond b (Some (Fork (record { log_version = v; at = 0; a = new; b = None })))
       (option_map (λ x. Fork (record { log_version = v; at = n; a = x; b = Some new }))
-      (showing_before v (kept w past) (all_accepted past) n))) z
+      (showing_before w.base v (kept w past) (all_accepted past) n))) z
       ∙ ap (option_map (λ x. Fork (record { log_version = v; at = n; a = x; b = Some new }))) old.is)))
       (fork_exposes new ps n s f) (at_number n new old.showing ps old.ps s.is old.good f old.there)
 
@@ -360,7 +378,8 @@ module _ (w : Watched) (past : Past) (p : Step × Reply) (member : IsInRoster w)
   shows_new new ps None s is =
       Uncharged (s.charge_is ∙ ap (option_and_then (fork_with new)) is)
       (is_false (is_exposed w (p ∷ past)) (none_exposes new ps s is))
-  shows_new new ps (Some n) s is = charged_at new ps n (n == 0) s is refl
+  shows_new new ps (Some n) s is =
+      charged_at new ps n ((n == 0) && not (is_some (start_showing w.base 0))) s is refl
 
   -- ---- what a step does
 
@@ -396,7 +415,7 @@ module _ (w : Watched) (past : Past) (p : Step × Reply) (member : IsInRoster w)
   files : (j : JobParts) (v : Verdict) → Did past p None None (Some j) NoAudit
       → verdict_on w.roster (end_of w past).state j ≡ v
       → ((fault : ReplayFault) (number : ℕ) → v ≡ Fault fault number
-      → IsGoodCharge w (Replay (audited_with w past j.segment.segment))) → Charging w past p
+      → IsGoodCharge w (replay_from w.base (audited_with w past j.segment.segment))) → Charging w past p
   files j (Sound t found) did is good =
       Uncharged
       (charge_by None None (Some j) did.notes did.accepts did.files
@@ -404,7 +423,7 @@ module _ (w : Watched) (past : Past) (p : Step × Reply) (member : IsInRoster w)
       (ap₂ (λ ps b. has_fork ps || b) (shown_by None None did.notes did.accepts)
       (fault_by (Some j) did.files ∙ ap (λ v. is_fault v || has_fault w past) is) ∙ e)
   files j (Fault fault number) did is good =
-      Charged (Replay (audited_with w past j.segment.segment))
+      Charged (replay_from w.base (audited_with w past j.segment.segment))
       (charge_by None None (Some j) did.notes did.accepts did.files
       ∙ ap (replay_of w past j.segment.segment) is)
       (or_right (has_fork (shown w (p ∷ past))) (has_fault w (p ∷ past))
@@ -415,13 +434,13 @@ module _ (w : Watched) (past : Past) (p : Step × Reply) (member : IsInRoster w)
   pub charging : Doing w past p → IsCheckedStep w p.0
       → ((j : JobParts) (fault : ReplayFault) (number : ℕ) → stage_of past ≡ Out j.segment
       → verdict_on w.roster (end_of w past).state j ≡ Fault fault number
-      → IsGoodCharge w (Replay (audited_with w past j.segment.segment))) → Charging w past p
+      → IsGoodCharge w (replay_from w.base (audited_with w past j.segment.segment))) → Charging w past p
   charging (Nothing did) c faulty = shows_nothing (stage_of past) did
-  charging (Notes a is did) c faulty =
+  charging (Notes a is above did) c faulty =
       shows_new (authenticator_showing w.member.log_version a) (pair_of w.member.log_version a ∷ [])
       (first_fork (pair_of w.member.log_version a ∷ []) (shown w past))
       (record {
-        is = new_authenticator w a (subst (IsCheckedStep w) is c);
+        is = new_authenticator w a (subst (IsCheckedStep w) is c) (above e);
         shown_is = shown_by (Some a) None did.notes did.accepts;
         fault_is = fault_by None did.files;
         charge_is = charge_by (Some a) None None did.notes did.accepts did.files;
@@ -430,7 +449,8 @@ module _ (w : Watched) (past : Past) (p : Step × Reply) (member : IsInRoster w)
       shows_new (versioned_showing d.segment) (segment_marks d.segment)
       (first_fork (segment_marks d.segment) (shown w past))
       (record {
-        is = new_segment w d.segment member (good_given w d (subst (IsCheckedStep w) is c));
+        is = new_segment w d.segment member (good_given w d (subst (IsCheckedStep w) is c))
+            (omega (arith, (subst (IsAt w past) wanted stand.stage).0, stand.begun));
         shown_is = shown_by None (Some d) did.notes did.accepts;
         fault_is = fault_by None did.files;
         charge_is = charge_by None (Some d) None did.notes did.accepts did.files;

@@ -9,7 +9,8 @@ use Rattle.secure_log.specs.LogEntries.Chain.{last_number, logged_links, marks, 
 use Rattle.secure_log.proofs.OfLogEntries.FewerTexts.{left, right, either}
 use Rattle.witness_spec.specs.Pairs.{Pair}
 
-number_at : {p q : Pair} → p ≡ q → p.0 ≡ q.0
+-- pairs that are the same have one number
+pub number_at : {p q : Pair} → p ≡ q → p.0 ≡ q.0
 number_at e = ap (λ (r : Pair). r.0) e
 
 -- ---- numbers that are skipped

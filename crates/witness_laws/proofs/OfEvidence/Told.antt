@@ -29,6 +29,7 @@ use Rattle.witness_laws.proofs.OfEvidence.Audits.{IsGoodSegment, IsAt, IsNext, S
 use Rattle.witness_laws.proofs.OfEvidence.Charges.{IsGoodCharge, Charging, Uncharged, Charged, charging}
 use Rattle.witness_laws.proofs.OfEvidence.Audited.{IsAudited, none_audited, audited_stays, audited_on}
 use Rattle.witness_laws.proofs.OfEvidence.Audited.{replay_charge}
+use Rattle.witness_laws.proofs.OfEvidence.Starts.{none_exposed}
 
 -- what own steps tell: no evidence, or a charge
 pub data Told (w : Watched) (past : Past) : Type 0 where
@@ -77,7 +78,7 @@ module _ (w : Watched) (past : Past) (p : Step × Reply) where
   audited_further : IsInRoster w → Doing w past p → is_exposed w (p ∷ past) ≡ false → Stand w past
       → is_exposed w past ≡ false → IsAudited w past → IsAudited w (p ∷ past)
   audited_further member (Nothing did) e stand was a = unfiled did.files a
-  audited_further member (Notes x is did) e stand was a = unfiled did.files a
+  audited_further member (Notes x is above did) e stand was a = unfiled did.files a
   audited_further member (Accepts c is wanted did) e stand was a = unfiled did.files a
   audited_further member (Asks first last is few did) e stand was a = unfiled did.files a
   audited_further member (Begins c is did) e stand was a = unfiled did.files a
@@ -109,7 +110,7 @@ module _ (w : Watched) (past : Past) (p : Step × Reply) where
 -- audited entries are an honest log
 pub told : (w : Watched) (past : Past) → IsInRoster w → AreOwed w past
     → AreChecked w past → Told w past
-told w [] member owed checked = Without refl refl (none_audited w)
+told w [] member owed checked = Without refl (none_exposed w member) (none_audited w member)
 told w (p ∷ past) member owed checked =
     told_on w past p member owed checked (told w past member owed.1 checked.1)
 

@@ -3,33 +3,37 @@
 -- Serves: honest_is_never_exposed.
 use Rattle.std.proofs.Common.{◌≡◌, inl, inr, ℕ, ◌+◌, ◌-◌, Bool, true, false, ◌||◌, List, [], ◌∷◌}
 use Rattle.std.proofs.Common.{◌++◌, Option, Some, None, refl, sym, ap, ap₂, subst, ◌∙◌, arith}
+use Rattle.std.specs.Prelude.{nat_le}
 use Rattle.std.specs.List.{AllByRecursion, flat_map}
 use Rattle.std.proofs.lemmas.Bool.{or_from}
 use Rattle.xdr.specs.Item.{Fits}
 use Rattle.authenticator.specs.declared.authenticator.Authenticator.{Authenticator}
+use Rattle.authenticator.proofs.Members.{member_node}
 use Rattle.secure_log.specs.LogEntries.Chain.{zeros, Logged, NoCollision, IsAmong, span}
 use Rattle.secure_log.specs.declared.segment.TheConstants.{MAX_ENTRIES}
 use Rattle.secure_log.specs.Log.{log_pairs}
 use Rattle.secure_log.specs.Versioned.{VersionedParts, ClosedParts, FitsVersion, segment_marks}
 use Rattle.secure_log.specs.Versioned.{versioned_value}
-use Rattle.witness_spec.specs.evidence_spec.Laws.{Reached, IsNextIn}
+use Rattle.witness_spec.specs.evidence_spec.Laws.{BaseIsOfTheLog, Reached, IsNextIn}
+use Rattle.witness_spec.specs.evidence_spec.Showing.{showing_marks}
 use Rattle.witness_spec.proofs.evidence_spec.Reached.{reached_first, goes_on}
 use Rattle.witness_spec.proofs.evidence_spec.Shown.{segment_in_log, segment_is_part, segment_opens}
 use Rattle.secure_log.proofs.OfLogEntries.Pairs.{head_among}
 use Rattle.secure_log.proofs.OfLogEntries.FewerTexts.{Within, fewer, left, right, both}
 use Rattle.witness_spec.specs.state_spec.State.{State}
 use Rattle.witness_spec.specs.replay_spec.Opening.{opening_of}
-use Rattle.witness_spec.specs.replay_spec.Placed.{logged_places}
-use Rattle.witness_spec.specs.replay_spec.Replay.{Honest, Sound}
+use Rattle.witness_spec.specs.replay_spec.Replay.{Sound}
+use Rattle.witness_spec.specs.replay_spec.HonestLogs.{IsHonestLog}
 use Rattle.witness_spec.specs.evidence_spec.Evidence.{replay_item}
 use Rattle.witness_spec.specs.evidence_spec.Proving.{IsLogOf, IsUnforgedIn, log_links, marks_of}
 use Rattle.witness_spec.specs.evidence_spec.Proving.{texts_of}
 use Rattle.witness_spec.specs.evidence_spec.Proving.{versioned_texts}
 use Rattle.witness_spec.specs.Events.{JobParts}
 use Rattle.witness_spec.specs.Replies.{Reply}
+use Rattle.witness_spec.specs.Starting.{KnownBase, IsBaseAt, start_number, start_state, start_pairs}
 use Rattle.witness_spec.specs.Watched.{Watched, IsInRoster}
 use Rattle.witness_spec.specs.Steps.{Step, Answer, Past}
-use Rattle.witness_spec.specs.Pairs.{Pair, pair_of, has_fork, last_of}
+use Rattle.witness_spec.specs.Pairs.{Pair, pair_of, first_pair, has_fork, last_of}
 use Rattle.witness_spec.specs.Done.{noted, accepted}
 use Rattle.witness_spec.specs.Standing.{End, end_of, end_after, moved_by, is_fault, finds_fault, has_fault}
 use Rattle.witness_spec.specs.Standing.{verdict_on}
@@ -37,10 +41,11 @@ use Rattle.witness_spec.specs.Standing.{pairs_noted, pairs_accepted, shown, is_e
 use Rattle.witness_spec.specs.Standing.{Wanted, Given}
 use Rattle.witness_spec.specs.Standing.{Out, stage_of}
 use Rattle.witness_spec.specs.Histories.{AreOwed}
-use Rattle.witness_spec.specs.Premises.{authenticators_in, texts_in}
+use Rattle.witness_spec.specs.Premises.{authenticators_in, texts_in, base_closings, base_texts}
 use Rattle.witness_laws.proofs.Checked.{IsLearned, IsGiven, IsCheckedStep, AreChecked}
 use Rattle.witness_laws.proofs.Doing.{Did, Doing, Nothing, Notes, Accepts, Asks, Begins, Files, PutsBack}
 use Rattle.witness_laws.proofs.Doing.{doing}
+use Rattle.witness_laws.proofs.OfAnswers.Closing.{was_among}
 use Rattle.witness_laws.proofs.OfEvidence.Audits.{IsGoodSegment, good_given, its_log_version, last_is}
 use Rattle.witness_laws.proofs.OfEvidence.Marks.{last_spans}
 use Rattle.witness_laws.proofs.OfTrust.Pairs.{no_fork, among_parts, pair_is_mark}
@@ -199,7 +204,7 @@ module _ (w : Watched) (member : IsInRoster w) (log : List Logged) (is : IsLogOf
       → Trusted past → Trusted (p ∷ past)
   one_step past p (Nothing did) checked unforged within g =
       unfiled past p None None (stage_of past) did nothing_in nothing_in g.stage g
-  one_step past p (Notes a same did) checked unforged within g =
+  one_step past p (Notes a same above did) checked unforged within g =
       let learned : IsLearned w a = subst (IsCheckedStep w) same checked in
       let free =
       subst (λ s. AreUnforged (authenticators_in s)) same unforged in
@@ -224,43 +229,72 @@ module _ (w : Watched) (member : IsInRoster w) (log : List Logged) (is : IsLogOf
       (subst (StageFits (end_of w past)) at g.stage) g
   one_step past p (Files j at did) checked unforged within g = files_on past p j at did g
 
-  all_parts : {A : Type 0} (P : A → Type 0) (xs ys : List A) → AllByRecursion P (xs ++ ys)
+  pub all_parts : {A : Type 0} (P : A → Type 0) (xs ys : List A) → AllByRecursion P (xs ++ ys)
       → AllByRecursion P xs × AllByRecursion P ys
   all_parts P [] ys h = (tt, h)
   all_parts P (x ∷ xs) ys h = let k = all_parts P xs ys h.1 in ((h.0, k.0), k.1)
 
-  trusted : (past : Past) (states : List State)
-      → Honest w.roster (opening_of w.member) (logged_places 0 zeros log) states
+  -- where the audit begins, the pairs that are shown are of the log, which has reached the state there
+  abbrev pub BeginsInLog : Option KnownBase → Type 0
+  BeginsInLog base =
+      InLog (start_pairs base) × Reached w.roster log (start_number base) (start_state w.member base)
+
+  first_in : IsAmong first_pair (marks_of log)
+  first_in = pair_is_mark 0 zeros (log_links log) (0, zeros) (head_among 0 zeros (log_links log))
+
+  -- so it is, with a base or without one, while the log is honest
+  pub begins_in : BaseIsOfTheLog → (base : Option KnownBase) → IsBaseAt w.roster w.member base → (last : State)
+      → (h : IsHonestLog w.roster (opening_of w.member) log last) → AreUnforged (base_closings base)
+      → Within (base_texts base (opening_of w.member ∷ h.states)) all → BeginsInLog base
+  begins_in law None known last h unforged within = (
+    λ q i. elim i [
+      | inl e ↦ subst (λ r. IsAmong r (marks_of log)) (sym e) first_in
+      | inr j ↦ absurd j
+    ],
+    reached_first w.roster log (opening_of w.member) h.states h.honest,
+  )
+  begins_in law (Some b) known last h unforged within =
+      let good = known.good in
+      let closing = b.parts.showing.closing in
+      let texts = base_texts (Some b) (opening_of w.member ∷ h.states) in
+      let node : closing.node ≡ w.member.node =
+      good.closed.node ∙ sym (member_node w.roster b.parts.showing.node w.member good.is_member) in
+      let version : w.member.log_version ≡ b.parts.log_version = sym good.of_member.log_version in
+      let there = subst (λ v. IsAmong (pair_of v closing) (log_pairs log)) version
+      (unforged.0 node good.closed.signed) in
+      let of_log = law w.roster log b.parts w.member b.state last (subst (λ v. IsLogOf v log) version is)
+      known.text good h there
+      (fewer (texts_of log ++ texts) all (both (texts_of log) texts all log_within within) unlike) in (
+        λ q i. elim i [
+          | inl e ↦ subst (λ r. IsAmong r (marks_of log)) (sym e) first_in
+          | inr j ↦ of_log.1 q.0 q.1
+              (was_among (λ (p : Pair). nat_le p.0 b.parts.at) q (showing_marks b.parts.showing) j)
+        ],
+        of_log.0,
+      )
+
+  trusted : (past : Past) → BeginsInLog w.base
       → AreOwed w past → AreChecked w past
       → AreUnforged (flat_map (λ p. authenticators_in p.0) past)
       → Within (flat_map (λ p. texts_in p.0) past) all → Trusted past
-  trusted [] states honest owed checked unforged within = record {
-    shown_in = λ q i. elim i [
-      | inl e ↦ subst (λ r. IsAmong r (marks_of log)) (sym e)
-          (pair_is_mark 0 zeros (log_links log) (0, zeros) (head_among 0 zeros (log_links log)))
-      | inr j ↦ absurd j
-    ];
-    no_fault = refl;
-    reached = reached_first w.roster log (opening_of w.member) states honest;
-    stage = tt;
-  }
-  trusted (p ∷ past) states honest owed checked unforged within =
+  trusted [] first owed checked unforged within =
+      record { shown_in = first.0; no_fault = refl; reached = first.1; stage = tt }
+  trusted (p ∷ past) first owed checked unforged within =
       let parts = all_parts (IsUnforgedIn w.member.log_version w.roster w.member.node log)
       (authenticators_in p.0)
       (flat_map (λ q. authenticators_in q.0) past) unforged in
       let texts = flat_map (λ (q : Step × Reply). texts_in q.0) past in
       one_step past p (doing w past p.0 p.1 owed.0) checked.0 parts.0
       (λ t i. within t (left (texts_in p.0) texts t i))
-      (trusted past states honest owed.1 checked.1 parts.1
+      (trusted past first owed.1 checked.1 parts.1
       (λ t i. within t (right (texts_in p.0) texts t i)))
 
   -- it isn't exposed
-  pub not_exposed : (past : Past) (states : List State)
-      → Honest w.roster (opening_of w.member) (logged_places 0 zeros log) states
+  pub not_exposed : (past : Past) → BeginsInLog w.base
       → AreOwed w past → AreChecked w past
       → AreUnforged (flat_map (λ p. authenticators_in p.0) past)
       → Within (flat_map (λ p. texts_in p.0) past) all → is_exposed w past ≡ false
-  not_exposed past states honest owed checked unforged within =
-      let g = trusted past states honest owed checked unforged within in
+  not_exposed past first owed checked unforged within =
+      let g = trusted past first owed checked unforged within in
       or_from (has_fork (shown w past)) (has_fault w past)
       (no_fork log (shown w past) g.shown_in) g.no_fault

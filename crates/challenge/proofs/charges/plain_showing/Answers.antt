@@ -4,7 +4,7 @@ use Rattle.authenticator.specs.declared.member.LogVersion.TheVariants.{One}
 use Rattle.evidence_showings.specs.Plain.{PlainLinkParts, plain_link}
 use Rattle.evidence_showings.specs.evidence_spec.Showing.{ShownLink, showing_value}
 use Rattle.evidence_showings.proofs.Texts.{value_back}
-use Rattle.challenge.specs.Charges.{SaysNoMore}
+use Rattle.evidence_showings.specs.Showings.{SaysNoMore}
 use Rattle.challenge.proofs.charges.plain_showing.Goals as goal
 
 -- links of a text of a log of version 1 skip nothing

@@ -8,6 +8,7 @@ use Rattle.secure_log.specs.Versioned.{versioned_value}
 use Rattle.evidence_showings.specs.Plain.{plain_value}
 use Rattle.evidence_showings.specs.Worded.{worded_value}
 use Rattle.evidence_showings.specs.evidence_spec.Evidence.{charge_item, is_charge}
+use Rattle.challenge.specs.ReadBased.{read_based_value}
 use Rattle.challenge.proofs.Logs.{plain_charge}
 use Rattle.challenge.proofs.read.take_charge.Goals as goal
 
@@ -46,3 +47,12 @@ returns-in_err-log-in-4 c =
 pub returns-in_ok-log-in-4 : goal.returns-in_ok-log-in-4
 returns-in_ok-log-in-4 c =
     choice_ok is_charge charge_item c.args.source.now 4 c.take_word.new.source (logs.worded_value c.in_ok-log-in-4.log) c.take_worded_log.new.source (rw c.in-4.is at c.in_ok-take_word.ensures) refl c.in_ok-log-in-4.ensures
+
+pub returns-in_err-based-in-5 : goal.returns-in_err-based-in-5
+returns-in_err-based-in-5 c =
+    let p = err_from_is_err_and c.from_residual-in_err-based-in-5.result c.from_residual-in_err-based-in-5.ensures.1 in
+    rw (p.1, p.2) (choice_err_unless is_charge charge_item c.args.source.now 5 c.take_word.new.source (xdr_fault c.in_err-based-in-5.field-0.0) (rw c.in-5.is at c.in_ok-take_word.ensures) refl c.in_err-based-in-5.ensures)
+
+pub returns-in_ok-based-in-5 : goal.returns-in_ok-based-in-5
+returns-in_ok-based-in-5 c =
+    choice_ok is_charge charge_item c.args.source.now 5 c.take_word.new.source (read_based_value c.in_ok-based-in-5.based) c.take_based.new.source (rw c.in-5.is at c.in_ok-take_word.ensures) refl c.in_ok-based-in-5.ensures

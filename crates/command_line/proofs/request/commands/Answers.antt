@@ -12,5 +12,6 @@ returns c =
     c.in_ok-nfsacc.ensures.shape (search rules) ∙ ap₂ with_subcommand top_is rpc_is in
     let two = c.in_ok-nfsacc-2.ensures _ _ one c.check_command.ensures refl in
     let three = c.in_ok-nfsacc-3.ensures _ _ two c.roster_command.ensures refl in
-    let four = c.in_ok-nfsacc-4.ensures _ _ three c.run_command.ensures refl in
-    c.with_subcommand-4.ensures _ _ four c.serve_command.ensures refl
+    let four = c.in_ok-nfsacc-4.ensures _ _ three c.base_command.ensures refl in
+    let five = c.in_ok-nfsacc-5.ensures _ _ four c.run_command.ensures refl in
+    c.with_subcommand-5.ensures _ _ five c.serve_command.ensures refl

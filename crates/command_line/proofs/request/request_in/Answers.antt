@@ -1,5 +1,5 @@
 use Rattle.std.proofs.Common.{◌∙◌, refl}
-use Rattle.command_line.proofs.Asked.{check_is, found_is, name_is, roster_is, rpc_is, run_is}
+use Rattle.command_line.proofs.Asked.{base_is, check_is, found_is, name_is, roster_is, rpc_is, run_is}
 use Rattle.command_line.proofs.ServeAsked.{serve_is}
 use Rattle.command_line.proofs.request.request_in.Goals as goal
 
@@ -28,12 +28,20 @@ pub returns-in-Some-subcommand_matches-2 : goal.returns-in-Some-subcommand_match
 returns-in-Some-subcommand_matches-2 c words none found =
     let is = found_is c.args.matches.now _ _ _ found (c.in-Some-subcommand_matches-2.ensures.found.0 refl)
     c.in-Some-subcommand_matches-2.ensures.rows in
-    run_is words _ _ _ none is c.run_request.ensures.file c.run_request.ensures.roster_out
+    base_is words _ _ none is c.text_of-in-Some-subcommand_matches-2.ensures
 
 pub returns-in-Some-subcommand_matches-3 : goal.returns-in-Some-subcommand_matches-3
 returns-in-Some-subcommand_matches-3 c words none found =
     let is = found_is c.args.matches.now _ _ _ found (c.in-Some-subcommand_matches-3.ensures.found.0 refl)
     c.in-Some-subcommand_matches-3.ensures.rows in
+    let asked = c.run_request.ensures in
+    run_is words _ (record { file = _; roster_out = _; base_out = _ }) none is
+    (record { file = asked.file; roster_out = asked.roster_out; base_out = asked.base_out })
+
+pub returns-in-Some-subcommand_matches-4 : goal.returns-in-Some-subcommand_matches-4
+returns-in-Some-subcommand_matches-4 c words none found =
+    let is = found_is c.args.matches.now _ _ _ found (c.in-Some-subcommand_matches-4.ensures.found.0 refl)
+    c.in-Some-subcommand_matches-4.ensures.rows in
     let asks = c.serve_request.ensures in
     serve_is words _ (record {
       port = _;
@@ -86,7 +94,13 @@ returns c words none found =
                 let bad = rw c.in_default-subcommand_matches-3.is at c.subcommand_matches-4.ensures.found.1
                 (name ∙ e) in
                 cc,
-            tt,
+            (
+              λ e.
+                  let bad = rw c.in_default-subcommand_matches-4.is
+                  at c.subcommand_matches-5.ensures.found.1 (name ∙ e) in
+                  cc,
+              tt,
+            ),
           ),
         ),
       ),

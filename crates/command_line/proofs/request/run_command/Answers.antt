@@ -11,5 +11,9 @@ returns c =
     let one : app_of c.in_ok-arg.field-0
     ≡ with_rule (new_app (codes "run")) (file_option (codes "roster-out")) =
     c.in_ok-arg.ensures.shape (search rules) ∙ ap₂ with_rule empty c.file_option.ensures.rule in
-    IfOk-weaker c.arg-2.result _ _
-    (λ r added. added.shape (search rules) ∙ ap₂ with_rule one c.file_argument.ensures.rule) c.arg-2.ensures
+    let two : app_of c.in_ok-arg-2.field-0
+    ≡ with_rule (with_rule (new_app (codes "run")) (file_option (codes "roster-out")))
+    (file_option (codes "base-out")) =
+    c.in_ok-arg-2.ensures.shape (search rules) ∙ ap₂ with_rule one c.prefix_option.ensures.rule in
+    IfOk-weaker c.arg-3.result _ _
+    (λ r added. added.shape (search rules) ∙ ap₂ with_rule two c.file_argument.ensures.rule) c.arg-3.ensures

@@ -6,3 +6,7 @@ use Rattle.command_line.proofs.request.run_request.Goals as goal
 pub returns-clause-roster_out : goal.returns-clause-roster_out
 returns-clause-roster_out c =
     c.get_str.ensures ∙ first_value-rows (found_of c.args.matches.now) (codes "roster-out")
+
+pub returns-clause-base_out : goal.returns-clause-base_out
+returns-clause-base_out c =
+    c.get_str-2.ensures ∙ first_value-rows (found_of c.args.matches.now) (codes "base-out")

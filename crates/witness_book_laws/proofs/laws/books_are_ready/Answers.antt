@@ -1,15 +1,11 @@
-use Rattle.witness_book_laws.proofs.AllBooks.{all_step}
-use Rattle.witness_book_laws.proofs.Ready.{first_ready, ready_on, ready_at, of_log}
+use Rattle.witness_book_laws.proofs.Ready.{first_ready, ready_step, ready_at, of_log}
 use Rattle.witness_book_laws.proofs.laws.books_are_ready.Goals as goal
 
-pub returns-clause-opening : goal.returns-clause-opening
-returns-clause-opening c = first_ready
+pub returns-clause-starting : goal.returns-clause-starting
+returns-clause-starting c = first_ready
 
 pub returns-clause-step : goal.returns-clause-step
-returns-clause-step c = λ w books b event step reply roster ready e its there owes. (
-  all_step w books b event step reply roster ready.kept e its there owes,
-  ready_on w books b event step reply roster ready e its there owes,
-)
+returns-clause-step c = ready_step
 
 pub returns-clause-ready : goal.returns-clause-ready
 returns-clause-ready c = ready_at

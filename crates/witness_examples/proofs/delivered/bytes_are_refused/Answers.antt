@@ -5,6 +5,7 @@ use Rattle.packets.specs.Packet.{delivery_of}
 use Rattle.packets.specs.Judging.{judged}
 use Rattle.witness_spec.specs.Refusals.{UnknownNode, BadSignature}
 use Rattle.witness_spec.specs.Events.{Deliver}
+use Rattle.witness_spec.specs.Starting.{from_the_first}
 use Rattle.witness_spec.specs.Replies.{Refused}
 use Rattle.witness_spec.specs.Whose.{judged_step}
 use Rattle.witness_spec.specs.Histories.{OwesTo}
@@ -27,12 +28,12 @@ returns-clause-short c = λ history. refl
 
 pub returns-clause-stranger : goal.returns-clause-stranger
 returns-clause-stranger c = λ history.
-    subst (λ r. OwesTo (five ∷ []) history (Deliver (forged_packet 6)) (Refused UnknownNode)
+    subst (λ r. OwesTo (from_the_first (five ∷ [])) history (Deliver (forged_packet 6)) (Refused UnknownNode)
     (judged_step (five ∷ []) r))
     (sym of_stranger) refl
 
 pub returns-clause-forged : goal.returns-clause-forged
 returns-clause-forged c = λ history.
-    subst (λ r. OwesTo (five ∷ []) history (Deliver (forged_packet 5)) (Refused BadSignature)
+    subst (λ r. OwesTo (from_the_first (five ∷ [])) history (Deliver (forged_packet 5)) (Refused BadSignature)
     (judged_step (five ∷ []) r))
     (sym of_member) refl

@@ -9,4 +9,5 @@ pub returns-clause-alone : goal.returns-clause-alone
 returns-clause-alone c = same_book
 
 pub returns-clause-each : goal.returns-clause-each
-returns-clause-each c = λ w books history is stand. found w history books is stand
+returns-clause-each c = λ g w books history is from stand.
+    found g w history from books is stand

@@ -9,3 +9,6 @@ returns-in-WordedFork-clause-none c = rw c.in-WordedFork.is c.worded_fork.ensure
 
 pub returns-in-WordedReplay-clause-none : goal.returns-in-WordedReplay-clause-none
 returns-in-WordedReplay-clause-none c = rw c.in-WordedReplay.is c.worded_replay.ensures.none
+
+pub returns-in-Based-clause-none : goal.returns-in-Based-clause-none
+returns-in-Based-clause-none c = rw c.in-Based.is c.based_charge.ensures.none

@@ -3,9 +3,9 @@ use Rattle.std.proofs.lemmas.Bool.{true≢false}
 use Rattle.authenticator.proofs.Signed.{list_same}
 use Rattle.witness_spec.specs.Events.{ItsIndication}
 use Rattle.witness_spec.specs.Replies.{Told, Trusted, Exposed}
-use Rattle.witness_spec.specs.Watched.{watched}
 use Rattle.witness_spec.specs.Steps.{Ask}
 use Rattle.witness_spec.specs.Standing.{open_challenges, without_evidence}
+use Rattle.witness_examples.specs.Reaching.{watched_in}
 use Rattle.witness_examples.specs.Worked.{five}
 use Rattle.witness_examples.specs.Limits.Audits.{clients, sent_hash, sender}
 use Rattle.witness_examples.specs.Limits.Forwarding.{other_sent_hash, other_sender, state_both, both_audited}
@@ -22,26 +22,26 @@ returns-clause-two c = λ e. absurd (true≢false (sym (list_same other_sent_has
 
 pub returns-clause-found : goal.returns-clause-found
 returns-clause-found c =
-    is_waiting (watched clients five) both_audited both_at 2 1 state_both
+    is_waiting (watched_in clients five) both_audited both_at 2 1 state_both
     (sender ∷ other_sender ∷ []) quiet_audited
 
 pub returns-clause-first : goal.returns-clause-first
 returns-clause-first c =
-    then_forward (watched clients five) both_audited both_at 2 1 state_both
+    then_forward (watched_in clients five) both_audited both_at 2 1 state_both
     (sender ∷ other_sender ∷ []) quiet_audited
 
 pub returns-clause-second : goal.returns-clause-second
 returns-clause-second c =
-    then_forward (watched clients five) one_forwarded both_at 2 1 state_both (other_sender ∷ []) quiet_one
+    then_forward (watched_in clients five) one_forwarded both_at 2 1 state_both (other_sender ∷ []) quiet_one
 
 pub returns-clause-empty : goal.returns-clause-empty
 returns-clause-empty c =
-    then_forward (watched clients five) both_forwarded both_at 2 1 state_both [] quiet_both
+    then_forward (watched_in clients five) both_forwarded both_at 2 1 state_both [] quiet_both
 
 pub returns-clause-trusted : goal.returns-clause-trusted
 returns-clause-trusted c = record {
   steps = quiet_both.owed;
-  next = told (watched clients five) both_forwarded (Ask ItsIndication) (Told Trusted) (λ x. x)
+  next = told (watched_in clients five) both_forwarded (Ask ItsIndication) (Told Trusted) (λ x. x)
       (ap (λ b. Told (cond b Exposed (without_evidence (open_challenges both_forwarded))))
-      (hidden (watched clients five) both_forwarded both_at 2 1 state_both [] quiet_both));
+      (hidden (watched_in clients five) both_forwarded both_at 2 1 state_both [] quiet_both));
 }

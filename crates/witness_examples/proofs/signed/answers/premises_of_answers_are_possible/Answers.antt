@@ -18,5 +18,6 @@ returns-clause-unforged c = λ secret.
     subst (Unforged (roster secret) (without_gaps served)) (sym (own_all secret)) (unforged secret)
 
 pub returns-clause-unlike : goal.returns-clause-unlike
-returns-clause-unlike c = λ secret.
-    subst (NoCollisionWith (without_gaps served)) (sym (own_all secret)) (unlike secret)
+returns-clause-unlike c = λ secret states.
+    subst (NoCollisionWith (roster secret) (without_gaps served) states) (sym (own_all secret))
+    (unlike secret states)

@@ -1,7 +1,7 @@
 use Rattle.std.proofs.Common.{sym, subst}
 use Rattle.secure_log.specs.LogEntries.Chain.{without_gaps}
-use Rattle.witness_spec.specs.Watched.{watched}
 use Rattle.witness_spec.specs.Premises.{NoCollisionWith, Unforged}
+use Rattle.witness_examples.specs.Reaching.{watched_in}
 use Rattle.witness_examples.specs.Signed.Audited.{readings}
 use Rattle.witness_examples.specs.Signed.Audited.{alone, client}
 use Rattle.witness_examples.proofs.OfSigned.Auditing.{own_all, reading_honest, unforged, unlike}
@@ -12,9 +12,10 @@ returns-clause-honest c = reading_honest
 
 pub returns-clause-unforged : goal.returns-clause-unforged
 returns-clause-unforged c = λ secret.
-    subst (Unforged (watched (alone secret) (client secret)) (without_gaps readings)) (sym (own_all secret))
+    subst (Unforged (watched_in (alone secret) (client secret)) (without_gaps readings)) (sym (own_all secret))
     (unforged secret)
 
 pub returns-clause-unlike : goal.returns-clause-unlike
-returns-clause-unlike c = λ secret.
-    subst (NoCollisionWith (without_gaps readings)) (sym (own_all secret)) (unlike secret)
+returns-clause-unlike c = λ secret states.
+    subst (NoCollisionWith (watched_in (alone secret) (client secret)) (without_gaps readings) states)
+    (sym (own_all secret)) (unlike secret states)

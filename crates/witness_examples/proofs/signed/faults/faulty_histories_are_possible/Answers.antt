@@ -3,9 +3,9 @@ use Rattle.witness_spec.specs.Events.{ItsIndication}
 use Rattle.witness_spec.specs.Events as events
 use Rattle.witness_spec.specs.Replies.{Noted, Asked, Accepted, Job, Filed, Told, Exposed}
 use Rattle.witness_spec.specs.Steps.{Learn, Audit, Answer, Begin, File, Ask, Past}
-use Rattle.witness_spec.specs.Watched.{watched}
 use Rattle.witness_spec.specs.Standing.{indication}
 use Rattle.witness_spec.specs.Laws.{HasFaultyFile}
+use Rattle.witness_examples.specs.Reaching.{watched_in}
 use Rattle.witness_examples.specs.Signed.Audited.{alone, client, client_key}
 use Rattle.witness_examples.specs.Signed.Faulty.{back_hash, back_end, back_closed, back_job, back_done}
 use Rattle.witness_examples.specs.Signed.Faulty.{back_learned, back_asked, back_answered, back_begun}
@@ -24,12 +24,12 @@ returns-clause-own_steps c = own_all_back
 
 pub returns-clause-faulty : goal.returns-clause-faulty
 returns-clause-faulty c = λ secret.
-    subst (HasFaultyFile (watched (alone secret) (client secret))) (sym (own_all_back secret))
+    subst (HasFaultyFile (watched_in (alone secret) (client secret))) (sym (own_all_back secret))
     (is_faulty secret)
 
 pub returns-clause-exposed : goal.returns-clause-exposed
 returns-clause-exposed c = λ secret.
-    subst (λ (x : Past). indication (watched (alone secret) (client secret)) x ≡ Exposed)
+    subst (λ (x : Past). indication (watched_in (alone secret) (client secret)) x ≡ Exposed)
     (sym (own_all_back secret)) (is_exposed secret)
 
 pub returns-clause-history : goal.returns-clause-history

@@ -6,6 +6,6 @@ use Rattle.witness_spec.specs.Histories.{own_of}
 
 -- by what is told of evidence after all own steps
 pub returns : goal.returns
-returns c = λ w history is h.
+returns c = λ g w history is from h.
     there_where_exposed w (own_of w history)
-    (told w (own_of w history) is (own_owed w is history h) (own_checked w is history h))
+    (told w (own_of w history) is (own_owed g w is from history h) (own_checked g w is from history h))
