@@ -8,5 +8,6 @@ pub mod Forks
 pub mod Logs
 pub mod BasedTexts
 pub mod BaseStates
+pub mod GoodBases
 pub use Rattle.evidence_showings.proofs as evidence_showings
 pub use Rattle.replay.proofs as replay

@@ -47,6 +47,12 @@ pub record IsGoodText (ms : List Member) (bytes : List ℕ) (b : BaseParts) (m :
   pub is : IsTextOf bytes b
   pub good : IsGoodBase ms b m s
 
+-- What is known of a base is that it says this, with this state, and is of this member.
+pub record IsKnown (b : BaseParts) (m : Member) (s : State) (k : KnownBase) (member : Member) : Type 0 where
+  pub parts : parts_of k ≡ b
+  pub state : k.state ≡ s
+  pub is_member : member ≡ m
+
 -- They are the text of a base that doesn't end in its closing, or has no state.
 pub record IsUnsound (bytes : List ℕ) : Type 0 where
   pub base : BaseParts

@@ -3,6 +3,7 @@ pub use Rattle.replay.specs as replay
 pub use Rattle.evidence_showings.specs.evidence_spec as evidence_spec
 pub mod FaultNumbers
 pub mod KnownBases
+pub mod BaseFiles
 pub mod BaseStates
 pub mod BasedReplays
 pub mod Charges

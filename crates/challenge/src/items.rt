@@ -25,7 +25,10 @@ use std::alloc::Global;
 use xdr::{FromXdr, ReadFault, Reader, XdrFault};
 
 /// The item in front of some bytes, and how many are left after it.
-fn front<'a, T: FromXdr<'a>>(alloc: Global, bytes: &'a [u8]) -> Result<(T, usize), ReadFault>
+pub(crate) fn front<'a, T: FromXdr<'a>>(
+    alloc: Global,
+    bytes: &'a [u8],
+) -> Result<(T, usize), ReadFault>
     ensures { LeavesOf xdr_fault T.item (λ x. T.value x.0) (λ x. x.1) bytes.now result }
 {
     let mut reader = Reader::new(bytes);

@@ -1,6 +1,7 @@
 //! Challenges to nodes, and evidence against them: its text, and whether it is accepted.
 #![tactic(auto)]
 
+mod base_file;
 mod base_state;
 mod based;
 mod based_read;
@@ -21,6 +22,7 @@ mod read;
 mod source;
 mod write;
 
+pub use base_file::check_base_file;
 pub use based::BasedReplay;
 pub use case::{Case, read_case, write_case};
 pub use challenge::Challenge;

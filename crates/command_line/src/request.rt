@@ -101,7 +101,8 @@ const ROSTER_HELP: &str =
 
 const ROSTER_OUT_HELP: &str = "Writes the text of the nodes' roster to this file";
 
-const BASE_HELP: &str = "A roster's text, and after it that of a base; `-` reads it from standard input";
+const BASE_HELP: &str =
+    "A roster's text, and after it that of a base; `-` reads it from standard input";
 
 const BASE_NOTES: &str =
     "The line is `base N K`, of the node N and the number K of its log at which a witness may begin, or `no base`.

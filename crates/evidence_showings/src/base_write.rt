@@ -54,6 +54,8 @@ pub fn write_base(
       state = state.now;
     })) out.old.items result out.new.items }
 {
+    showing.has_text();
+    at.fits();
     let start = out.len();
     let written = add_base(log_version, showing, at, state, out);
     all_or_nothing(out, start, written)
@@ -66,23 +68,15 @@ fn add_base(
     state: &[u8],
     out: &mut Vec<u8>,
 ) -> Result<(), AllocError>
-    requires words { IsTrue (links_follow log_version (showing_value log_version showing.now)) }
     requires few { length state.now ≤ MAX_STATE }
-    ensures has { HasBaseText (record {
-      log_version = log_version;
-      showing = showing.now;
-      at = at;
-      state = state.now;
-    }) }
-    ensures text { Adds (spelling base_item (base_value (record {
+    requires words { IsTrue (links_follow log_version (showing_value log_version showing.now)) }
+    ensures { Adds (spelling base_item (base_value (record {
       log_version = log_version;
       showing = showing.now;
       at = at;
       state = state.now;
     }))) out.old.items result out.new.items }
 {
-    showing.has_text();
-    at.fits();
     match log_version {
         LogVersion::One => add_plain_base(showing, at, state, out),
         LogVersion::Two => add_worded_base(showing, at, state, out),

@@ -112,8 +112,12 @@ fn add_log(facts: &mut Facts, log: &Log<'_>) {
 fn add_contents(facts: &mut Facts, log: &Log<'_>) {
     let mut draft = facts.draft();
     if log.base.is_some() {
-        draft.words("its entries after the base, which --entries lists; what is owed at an entry follows from the ");
-        draft.words("state of the base and the entries before it, and --state K shows the state before entry K");
+        draft.words(
+            "its entries after the base, which --entries lists; what is owed at an entry follows from the ",
+        );
+        draft.words(
+            "state of the base and the entries before it, and --state K shows the state before entry K",
+        );
     } else if log.audited.first().get() == 1 {
         draft.words("all entries from 1 to ");
         draft.number(log.last_number());
@@ -155,7 +159,13 @@ fn add_finding(facts: &mut Facts, roster: &Roster, evidence: &Evidence, finding:
         }
         Finding::Fault(fault, number) => match evidence.charge() {
             Charge::Replay(log) => {
-                add_found_fault(facts, &Log::new(roster, log), fault, number.get(), LOG_RULES);
+                add_found_fault(
+                    facts,
+                    &Log::new(roster, log),
+                    fault,
+                    number.get(),
+                    LOG_RULES,
+                );
             }
             Charge::Based(based) => {
                 let log = Log::after(roster, based);
@@ -172,7 +182,8 @@ const LOG_RULES: &str =
     "the rules of docs/CHECKING.md, which stand on RFC 1094, RFC 4506 and RFC 5531";
 
 /// What one after a base rests on.
-const BASE_RULES: &str = "the rules of docs/CHECKING.md, which stand on RFC 1094, RFC 4506 and RFC 5531; the state at the base is the one that the digest in the log says, and nothing before it is looked at";
+const BASE_RULES: &str =
+    "the rules of docs/CHECKING.md, which stand on RFC 1094, RFC 4506 and RFC 5531; the state at the base is the one that the digest in the log says, and nothing before it is looked at";
 
 /// Adds a fault that a replay finds in the log of a node, by these rules.
 fn add_found_fault(

@@ -1,26 +1,17 @@
-use Rattle.std.proofs.Common.{◌≡◌, arith, subst, sym, true}
+use Rattle.std.proofs.Common.{◌≡◌, subst, sym, true}
 use Rattle.xdr.specs.Item.{spelling}
 use Rattle.xdr.specs.Writing.{Adds}
 use Rattle.authenticator.specs.declared.member.LogVersion.{LogVersion}
 use Rattle.evidence_spec.specs.Base.{base_item, base_value}
 use Rattle.evidence_spec.specs.Showing.{links_follow, showing_value}
-use Rattle.evidence_showings.proofs.Bases.{has_base}
 use Rattle.evidence_showings.proofs.base_write.add_base.Goals as goal
 
 pub add_worded_base-requires-clause-words : goal.add_worded_base-requires-clause-words
 add_worded_base-requires-clause-words c =
     subst (λ v. links_follow v (showing_value v c.args.showing.now) ≡ true) c.in-Two.is c.requires.words
 
-pub returns-in-One-clause-has : goal.returns-in-One-clause-has
-returns-in-One-clause-has c = has_base c.args.log_version c.args.showing.now c.args.at c.args.state.now
-    c.has_text.ensures c.requires.words c.fits.ensures (omega (arith, c.requires.few), c.requires.few)
-
-pub returns-in-Two-clause-has : goal.returns-in-Two-clause-has
-returns-in-Two-clause-has c = has_base c.args.log_version c.args.showing.now c.args.at c.args.state.now
-    c.has_text.ensures c.requires.words c.fits.ensures (omega (arith, c.requires.few), c.requires.few)
-
-pub returns-in-One-clause-text : goal.returns-in-One-clause-text
-returns-in-One-clause-text c =
+pub returns-in-One : goal.returns-in-One
+returns-in-One c =
     subst (λ (v : LogVersion). Adds (spelling base_item (base_value (record {
       log_version = v;
       showing = c.args.showing.now;
@@ -29,8 +20,8 @@ returns-in-One-clause-text c =
     }))) c.args.out.now.items c.add_plain_base.result c.add_plain_base.new.out.items)
     (sym c.in-One.is) c.add_plain_base.ensures
 
-pub returns-in-Two-clause-text : goal.returns-in-Two-clause-text
-returns-in-Two-clause-text c =
+pub returns-in-Two : goal.returns-in-Two
+returns-in-Two c =
     subst (λ (v : LogVersion). Adds (spelling base_item (base_value (record {
       log_version = v;
       showing = c.args.showing.now;
