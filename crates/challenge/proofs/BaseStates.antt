@@ -1,7 +1,7 @@
 -- The state of a base: the link at its number, and the messages that its state knows as sent.
--- Serves: find_link, link_at_number, sends_lie_below, bytes_state, state_of, Base::mark_at.
+-- Serves: find_link, link_at_number, sends_lie_below, bytes_state, state_of, Base::mark_at, Base::hash.
 use Rattle.std.proofs.Common.{◌≡◌, ℕ, ◌+◌, ◌-◌, ◌<◌, ◌≤◌, Bool, true, false, ◌||◌, List, [], ◌∷◌, map, inl}
-use Rattle.std.proofs.Common.{inr, Some, None, refl, sym, ap, subst, ◌∙◌, arith}
+use Rattle.std.proofs.Common.{inr, Some, None, refl, sym, ap, subst, ◌∙◌, ◌++◌, length, arith}
 use Rattle.std.specs.Prelude.{◌≢◌, ◌⊎◌, ◌↔◌, ◌==◌, filter, nat_le}
 use Rattle.std.specs.FinMap as finite
 use Rattle.std.specs.List.{AllByRecursion, list_any}
@@ -24,9 +24,13 @@ use Rattle.replay.specs.replay_spec.state_spec.StateItems.{sent_value}
 use Rattle.replay.specs.replay_spec.state_spec.StateText.{IsStateText, Said, said, spelled_text, state_digest}
 use Rattle.secure_log.specs.declared.log_entries.entry.Entry.TheVariants.{Check}
 use Rattle.evidence_showings.specs.Showings.{numbered_link}
-use Rattle.evidence_showings.specs.evidence_spec.Base.{BaseParts, IsCheckAt, SendsLieBelow, check_link}
-use Rattle.evidence_showings.specs.evidence_spec.Showing.{ShownLink, links_in, numbered, shown_logged}
-use Rattle.secure_log.specs.LogEntries.Chain.{IsAmong, Link}
+use Rattle.evidence_showings.specs.evidence_spec.Base.{BaseParts, IsCheckAt, SendsLieBelow, base_marks, check_link}
+use Rattle.evidence_showings.specs.evidence_spec.Showing.{ShownLink, links_in, numbered, showing_marks, shown_logged}
+use Rattle.evidence_showings.proofs.evidence_spec.Gaps.{shown_after}
+use Rattle.secure_log.specs.LogEntries.Chain.{IsAmong, Link, hash_after, marks, no_entry, none_from}
+use Rattle.secure_log.specs.LogEntries.Chain.{chain_text}
+use Rattle.sha2.proofs.Facts256.{length-sha256}
+use Rattle.secure_log.proofs.OfLogEntries.Marks.{one_mark}
 use Rattle.challenge.specs.BaseStates.{HasNoCheck, LinkIs, link_at}
 
 -- ---- the link at a number
@@ -268,3 +272,68 @@ among_kept at n m (p ∷ ms) = by (among_kept at n m ms) (nat_le p.0 at) refl
             let is : nat_le p.0 at ≡ true =
             le-leb p.0 at (omega (arith, ap (λ (q : ℕ × List ℕ). q.0) same, few)) in absurd cc
         kept few (inr i) = rest.1 (few, i)
+
+-- ---- the mark at a base's number
+
+-- A link's number has a hash among the marks.
+pub record HasHash (ps : List (ℕ × List ℕ)) (n : ℕ) : Type 0 where
+  pub hash : List ℕ
+  pub long : length hash ≡ 32
+  pub there : IsAmong (n, hash) ps
+
+-- the first mark is that of the place before the links
+first_mark : (before : ℕ) (opening : List ℕ) (links : List Link) → IsAmong (before, opening) (marks before opening links)
+first_mark before opening [] = inl refl
+first_mark before opening (l ∷ ls) = inl refl
+
+right : (xs ys : List (ℕ × List ℕ)) (p : ℕ × List ℕ) → IsAmong p ys → IsAmong p (xs ++ ys)
+right [] ys p i = i
+right (x ∷ xs) ys p i = inr (right xs ys p i)
+
+hash_long : (opening : List ℕ) (l : Link) → length (hash_after opening l) ≡ 32
+unfolding hash_after
+hash_long opening l = length-sha256 (chain_text opening l)
+
+link_hash : (before : ℕ) (opening : List ℕ) (links : List Link) (l : Link) → IsAmong l links
+    → HasHash (marks before opening links) l.number
+link_hash before opening [] l i = absurd i
+link_hash before opening (k ∷ ks) l (inl e) =
+    record {
+      hash = hash_after opening k;
+      long = hash_long opening k;
+      there = inr (right (none_from (before + 1) k.skipped) (marks k.number (hash_after opening k) ks)
+          (l.number, hash_after opening k)
+          (subst (λ (n : ℕ). IsAmong (n, hash_after opening k) (marks k.number (hash_after opening k) ks))
+          (sym (ap (λ (x : Link). x.number) e)) (first_mark k.number (hash_after opening k) ks)));
+    }
+link_hash before opening (k ∷ ks) l (inr i) =
+    let rest = link_hash k.number (hash_after opening k) ks l i in
+    record {
+      hash = rest.hash;
+      long = rest.long;
+      there = inr (right (none_from (before + 1) k.skipped) (marks k.number (hash_after opening k) ks)
+          (l.number, rest.hash) rest.there);
+    }
+
+-- a base has a hash at its number
+pub check_hash : (b : BaseParts) (s : State) → IsCheckAt b s → HasHash (base_marks b) b.at
+check_hash b s check =
+    let has = link_hash (b.showing.first - 1) b.showing.opening (links_in b.showing)
+    (check_link check.skipped b.at s) check.link in
+    record {
+      hash = has.hash;
+      long = has.long;
+      there = (among_kept b.at b.at has.hash (showing_marks b.showing)).1 (omega arith, has.there);
+    }
+
+-- and so no other mark than that
+pub no_other_mark : (b : BaseParts) (s : State) → IsCheckAt b s → ¬ IsAmong (b.at, no_entry) (base_marks b)
+no_other_mark b s check i =
+    let has = check_hash b s check in
+    let shown = ((among_kept b.at b.at has.hash (showing_marks b.showing)).0 has.there).1 in
+    let none = ((among_kept b.at b.at no_entry (showing_marks b.showing)).0 i).1 in
+    let same = one_mark (b.showing.first - 1) b.showing.opening (links_in b.showing) b.at has.hash no_entry
+    (shown_after (b.showing.first - 1) b.showing.links) shown none in
+    let long = has.long in
+    let short : length no_entry ≡ 32 = subst (λ x. length x ≡ 32) same long in
+    absurd (omega (arith, short))

@@ -1,5 +1,5 @@
 -- Texts of cases: a roster, and after it the text of evidence.
--- Serves: case_of.
+-- Serves: case_of, roster_in_front.
 use Rattle.std.proofs.Common.{◌≡◌, ℕ, Bool, true, false, cond, List, [], ◌∷◌, Ok, Err, Option, Some, None}
 use Rattle.std.proofs.Common.{refl, sym, ap, subst, ◌∙◌}
 use Rattle.std.specs.Prelude.{IfSome, IsTrue}
@@ -80,3 +80,14 @@ pub no_evidence_no_case : (bytes rest : List ℕ) (r : Value roster_item) (garba
     → OnTrue garbage (text_at case_text bytes ≡ None)
 no_evidence_no_case bytes rest r true e f = case_at bytes rest r e ∙ rw f refl
 no_evidence_no_case bytes rest r false e f = tt
+
+-- what was read, or another value
+read_or : Value roster_item → Read (Value roster_item) → Value roster_item
+read_or d (Ok x) = x.0
+read_or d (Err e) = d
+
+-- two readings that are one gave one roster
+pub one_read : (r s : Value roster_item) (x y : List ℕ)
+    → ◌≡◌ {A = Read (Value roster_item)} (Ok (r, x)) (Ok (s, y)) → r ≡ s
+unfolding read_or
+one_read r s x y e = ap (read_or r) e

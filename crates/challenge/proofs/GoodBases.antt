@@ -2,7 +2,7 @@
 -- Serves: check_base.
 use Rattle.std.proofs.Common.{◌≡◌, ℕ, zero, suc, List, Result, Ok, Err, Some, None, inl, inr, refl, sym, ap, subst}
 use Rattle.std.proofs.Common.{◌∙◌, arith}
-use Rattle.std.specs.Prelude.{◌==◌, MatchResult, if◌then◌else◌}
+use Rattle.std.specs.Prelude.{◌==◌, if◌then◌else◌}
 use Rattle.xdr.specs.Item.{Value}
 use Rattle.authenticator.specs.declared.member.LogVersion.{LogVersion}
 use Rattle.authenticator.specs.declared.member.LogVersion.TheVariants.{One, Two}
@@ -16,7 +16,7 @@ use Rattle.replay.specs.replay_spec.state_spec.StateText.{IsStateText}
 use Rattle.evidence_showings.specs.Showings.{Ends}
 use Rattle.evidence_showings.specs.evidence_spec.Base.{BaseParts, IsGoodBase, base_by, base_item, base_value}
 use Rattle.evidence_showings.specs.evidence_spec.Base.{begun_item, begun_value}
-use Rattle.challenge.specs.KnownBases.{ChecksBase, IsGoodText, IsKnown, IsSound, IsTextOf, KnownBase, parts_of}
+use Rattle.challenge.specs.KnownBases.{ChecksBase, IsGoodText, IsKnown, IsSound, IsTextOf, KnownBase, TakesGood, parts_of}
 use Rattle.challenge.proofs.OneText.{one_base}
 
 -- what stands after the version, or another value
@@ -70,9 +70,7 @@ one_member ms node m other a b = let same : Some m ≡ Some other = sym a ∙ b 
 pub good_is_taken : {C : Type 0} (ms : List Member) (bytes : List ℕ) (value : C → KnownBase) (member : C → Member)
     (result : Result C Refusal)
     → ((s t : State) (text : List ℕ) → IsStateText s text → IsStateText t text → s ≡ t)
-    → ChecksBase ms bytes value member result
-    → (b : BaseParts) (m : Member) (s : State) → IsGoodText ms bytes b m s
-    → MatchResult result (λ c. IsKnown b m s (value c) (member c)) (λ e. e ≡ refusals.NoMemory)
+    → ChecksBase ms bytes value member result → TakesGood ms bytes value member result
 good_is_taken ms bytes value member (Ok c) one h b m s good =
     let same = one_text bytes (parts_of (value c)) b h.is good.is in
     let other = subst (λ x. IsGoodBase ms x (member c) (value c).state) same h.good in

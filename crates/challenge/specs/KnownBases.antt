@@ -1,5 +1,5 @@
 -- Bases that were found good, with their states; and what checking a base's text answers.
-use Rattle.std.specs.Prelude.{◌≡◌, ◌⊎◌, ℕ, List, Result, Ok, Err, Some, None}
+use Rattle.std.specs.Prelude.{◌≡◌, ◌⊎◌, ℕ, List, Result, Ok, Err, Some, None, MatchResult}
 use Rattle.xdr.specs.Item.{spelling}
 use Rattle.xdr.specs.Texts.Text.{text_at}
 use Rattle.authenticator.specs.declared.member.LogVersion.{LogVersion}
@@ -101,3 +101,10 @@ ChecksBase ms bytes value member (Err Garbage) =
 ChecksBase ms bytes value member (Err UnknownNode) = IsOfStranger ms bytes
 ChecksBase ms bytes value member (Err BadSignature) = IsUnsigned ms bytes
 ChecksBase ms bytes value member (Err NoMemory) = Unit {0}
+
+-- The text of a good base is taken, as that base with its state and member, unless memory ran out.
+abbrev pub TakesGood : {C : Type 0} (ms : List Member) (bytes : List ℕ) (value : C → KnownBase)
+    (member : C → Member) → Result C Refusal → Type 0
+TakesGood ms bytes value member result =
+    (b : BaseParts) (m : Member) (s : State) → IsGoodText ms bytes b m s
+    → MatchResult result (λ c. IsKnown b m s (value c) (member c)) (λ e. e ≡ NoMemory)

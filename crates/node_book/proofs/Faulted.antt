@@ -9,17 +9,20 @@ use Rattle.std.proofs.Math.Seq.{take-append_seam}
 use Rattle.authenticator.specs.declared.authenticator.Authenticator.{Authenticator}
 use Rattle.std.specs.List.{AllByRecursion}
 use Rattle.authenticator.specs.declared.member.LogVersion.{LogVersion}
-use Rattle.secure_log.specs.LogEntries.Chain.{IsAmong, Logged, logged_links, span, zeros}
+use Rattle.secure_log.specs.LogEntries.Chain.{IsAmong, Logged, logged_links, span}
 use Rattle.secure_log.specs.LogEntries.Words.{MaySkip}
 use Rattle.secure_log.specs.Versioned.{VersionedParts, ClosedParts, versioned_links}
 use Rattle.witness_spec.specs.state_spec.State.{State}
-use Rattle.evidence_spec.specs.Evidence.{EvidenceParts, Replay}
+use Rattle.evidence_spec.specs.Evidence.{EvidenceParts}
 use Rattle.evidence_spec.specs.replay_spec.Replay.{Sound}
 use Rattle.witness_spec.specs.Limits.{MAX_AUDITED}
+use Rattle.witness_spec.specs.Exposing.{replay_from}
+use Rattle.witness_spec.specs.Starting.{KnownBase, start_hash, start_number}
 use Rattle.witness_spec.specs.Pairs.{first_of, last_of, number_of}
 use Rattle.witness_spec.specs.Standing.{Stage, NoAudit, Wanted, Given, Out}
 use Rattle.witness_book_laws.specs.Books.{Book, exposed, book_audited, job_of}
-use Rattle.witness_book_laws.specs.Ready.{KnowsFew}
+use Rattle.evidence_spec.specs.Base.{MAX_KNOWN}
+use Rattle.witness_book_laws.specs.Ready.{KnowsFew, known_at_start}
 use Rattle.witness_spec.specs.Events.{JobParts}
 use Rattle.witness_spec.specs.Refusals.{NothingToAudit}
 use Rattle.witness_spec.specs.Replies.{Reply, Job, Refused}
@@ -32,7 +35,7 @@ use Rattle.secure_log.proofs.OfLogEntries.Pairs.{span-append}
 use Rattle.witness_book_laws.proofs.Segments.{audited_are}
 use Rattle.witness_book_laws.proofs.witness_laws.OfEvidence.Before.{on_left, on_right}
 use Rattle.replay_jobs.specs.Jobs.{HasRoom}
-use Rattle.node_book.specs.Rows.{ShowsLog, entries_of, replayed_log}
+use Rattle.node_book.specs.Rows.{ShowsLog, entries_of, first_shown, replayed_log}
 
 -- ---- lists
 
@@ -133,7 +136,7 @@ some_entry s w h = by s.entries (omega (arith, w.count, h))
 
 -- with the job's they are a log that may be shown
 pub faulted_shows : (b : Book) (c : ClosedParts) → FitsTogether b → KeepsLimits b → b.stage ≡ Out c
-    → ShowsLog b.log_version b.segments (length b.segments - 1) c.segment
+    → ShowsLog b.base b.log_version b.segments (length b.segments - 1) c.segment
 faulted_shows b c fits limits out =
     let p = split b c fits out in
     let among : (s : VersionedParts) → IsAmong s p.tiles.audited → IsWhole s =
@@ -141,26 +144,28 @@ faulted_shows b c fits limits out =
     let mine : IsWhole c.segment = fits.whole c.segment
     (subst (IsAmong c.segment) (sym p.tiles.are) (on_right c.segment p.tiles.audited p.tiles.more
     (subst (IsAmong c.segment) (sym p.one.is) (inl refl)))) in
-    let count = tile_entries 1 (b.end.number + 1) p.tiles.audited p.tiles.tile among in
+    let count = tile_entries (start_number b.base + 1) (b.end.number + 1) p.tiles.audited p.tiles.tile among in
     let front = ap (λ (l : List VersionedParts). length (entries_of l)) (front_is b c.segment p) in
-    let last : last_of c.segment ≤ MAX_AUDITED =
-    subst (λ x. audit_last b.end.number x ≤ MAX_AUDITED) out limits.last in
+    let last : last_of c.segment ≤ start_number b.base + MAX_AUDITED =
+    subst (λ x. audit_last b.end.number x ≤ start_number b.base + MAX_AUDITED) out limits.last in
     let may : (s : VersionedParts) → IsAmong s b.segments → AllByRecursion (MaySkip b.log_version) (versioned_links s) =
     λ s i. subst (λ v. AllByRecursion (MaySkip v) (versioned_links s)) (fits.version s i) (fits.whole s i).skips in
-    let before : AllByRecursion (MaySkip b.log_version) (logged_links 0 (entries_of p.tiles.audited)) =
-    tile_skips b.log_version 0 (b.end.number + 1) p.tiles.audited p.tiles.tile among
+    let before : AllByRecursion (MaySkip b.log_version) (logged_links (start_number b.base) (entries_of p.tiles.audited)) =
+    tile_skips b.log_version (start_number b.base) (b.end.number + 1) p.tiles.audited p.tiles.tile among
     (λ s i. may s (subst (IsAmong s) (sym p.tiles.are) (on_left s p.tiles.audited p.tiles.more i))) in
     let own : IsAmong c.segment b.segments = subst (IsAmong c.segment) (sym p.tiles.are)
     (on_right c.segment p.tiles.audited p.tiles.more (subst (IsAmong c.segment) (sym p.one.is) (inl refl))) in
-    let seam : c.segment.first - 1 ≡ 0 + span (entries_of p.tiles.audited) =
+    let seam : c.segment.first - 1 ≡ start_number b.base + span (entries_of p.tiles.audited) =
     omega (arith, p.one.follows.first, count) in
     record {
       among = omega arith;
+      first = ap (λ l. first_shown l c.segment) (front_is b c.segment p) ∙ begins p.tiles.audited p.tiles.tile p.one.follows.first;
       some = some_entry c.segment mine (omega (arith, p.one.follows.first, p.one.follows.some));
       most = omega (
         arith,
         front,
         count,
+        fits.begun,
         mine.count,
         p.one.follows.first,
         last,
@@ -169,14 +174,25 @@ faulted_shows b c fits limits out =
       );
       skips = subst
           (λ (l : List VersionedParts). AllByRecursion (MaySkip b.log_version)
-          (logged_links 0 (entries_of l ++ c.segment.entries)))
+          (logged_links (start_number b.base) (entries_of l ++ c.segment.entries)))
           (sym (front_is b c.segment p))
-          (skips_joined b.log_version 0 (entries_of p.tiles.audited) c.segment.entries before
+          (skips_joined b.log_version (start_number b.base) (entries_of p.tiles.audited) c.segment.entries before
           (subst (λ n. AllByRecursion (MaySkip b.log_version) (logged_links n c.segment.entries)) seam
           (may c.segment own)));
     }
 
+  where
+    begins : (ss : List VersionedParts) → Tile (start_number b.base + 1) ss (b.end.number + 1)
+        → first_of c.segment ≡ b.end.number + 1 → first_shown ss c.segment ≡ start_number b.base + 1
+    begins [] t follows = follows ∙ sym t
+    begins (s ∷ ss) t follows = t.0
+
 -- ---- a job that begins
+
+-- where an audit begins few messages are known
+known : (base : Option KnownBase) → known_at_start base ≤ MAX_KNOWN
+known None = omega arith
+known (Some b) = omega arith
 
 -- its state has room for what its segment shows
 pub begun_room : (b : Book) (j : JobParts) → FitsTogether b → KeepsLimits b → KnowsFew b
@@ -190,11 +206,11 @@ begun_room b j fits limits few e = by b.stage refl e
         let mine : IsWhole c.segment = fits.whole c.segment
         (subst (IsAmong c.segment) (sym fits.tiles.are) (on_right c.segment fits.tiles.audited fits.tiles.more
         (subst (IsAmong c.segment) (sym one.is) (inl refl)))) in
-        let last : last_of c.segment ≤ MAX_AUDITED =
-        subst (λ x. audit_last b.end.number x ≤ MAX_AUDITED) is limits.last in
+        let last : last_of c.segment ≤ start_number b.base + MAX_AUDITED =
+        subst (λ x. audit_last b.end.number x ≤ start_number b.base + MAX_AUDITED) is limits.last in
         let entries = few_entries c.segment.entries in record {
-          received = omega (arith, few.received, mine.count, one.follows.first, last, entries);
-          sends = omega (arith, few.sends, mine.count, one.follows.first, last, entries);
+          received = omega (arith, few.received, known b.base, fits.begun, mine.count, one.follows.first, last, entries);
+          sends = omega (arith, few.sends, known b.base, fits.begun, mine.count, one.follows.first, last, entries);
         }
 
     told : (c : ClosedParts) (x : Bool) → b.stage ≡ Given c
@@ -212,22 +228,25 @@ begun_room b j fits limits few e = by b.stage refl e
 pub exposed_by : (b : Book) (c : ClosedParts) (before : ℕ) → FitsTogether b → b.stage ≡ Out c
     → b.evidence ≡ None → before ≡ length b.segments - 1
     → first_evidence b.evidence
-    (Some (record { node = b.node; charge = Replay (audited_with b c.segment) }))
-    ≡ Some (record { node = b.node; charge = Replay (replayed_log b.log_version b.node b.segments before c.segment) })
+    (Some (record { node = b.node; charge = replay_from b.base (audited_with b c.segment) }))
+    ≡ Some (record {
+      node = b.node;
+      charge = replay_from b.base (replayed_log b.base b.log_version b.node b.segments before c.segment);
+    })
 exposed_by b c before fits out none is =
-    ap (λ e. first_evidence e (Some (record { node = b.node; charge = Replay (audited_with b c.segment) })))
+    ap (λ e. first_evidence e (Some (record { node = b.node; charge = replay_from b.base (audited_with b c.segment) })))
     none
     ∙ sym (ap (λ n. Some (record {
       node = b.node;
-      charge = Replay (replayed_log b.log_version b.node b.segments n c.segment);
+      charge = replay_from b.base (replayed_log b.base b.log_version b.node b.segments n c.segment);
     })) is
     ∙ ap (λ es. Some (record {
       node = b.node;
-      charge = Replay (record {
+      charge = replay_from b.base (record {
         log_version = b.log_version;
         node = b.node;
-        first = 1;
-        opening = zeros;
+        first = start_number b.base + 1;
+        opening = start_hash b.base;
         entries = es ++ c.segment.entries;
         closing = c.segment.closing;
       });

@@ -13,6 +13,7 @@ use Rattle.evidence_spec.specs.Showing.{versioned_showing}
 use Rattle.witness_spec.specs.Exposing.{segment_holding, fork_of}
 use Rattle.witness_spec.specs.Pairs.{is_shown, is_fork, number_of}
 use Rattle.witness_spec.specs.Standing.{Wanted}
+use Rattle.witness_spec.specs.Starting.{start_number}
 use Rattle.witness_book_laws.specs.Answers.{answer_fork}
 use Rattle.witness_book_laws.specs.Books.{Book, exposed, book_shown}
 use Rattle.witness_book_laws.specs.Fitting.{FitsTogether}
@@ -23,26 +24,26 @@ use Rattle.witness_book_laws.proofs.Segments.{tiled}
 use Rattle.witness_book_laws.proofs.LookUps.{shown_by_look_up, fork_by_look_up}
 use Rattle.witness_book_laws.proofs.Answers.{answer_looked_up}
 use Rattle.witness_book_laws.proofs.witness_laws.OfEvidence.Before.{found}
-use Rattle.node_book.specs.Looking.{FollowOn}
+use Rattle.node_book.specs.Looking.{FollowOn, hash_kept}
 
 -- a book's accepted segments follow on one another
 pub follow_on : (b : Book) → FitsTogether b → FollowOn b.segments
-follow_on b fits = let t = tiled b fits.tiles in record { next = t.next; tile = t.tile }
+follow_on b fits = let t = tiled b fits.tiles in record { first = start_number b.base + 1; next = t.next; tile = t.tile }
 
 past_zero : (b : Book) (n : ℕ) → (n == 0) ≡ false
-    → hash_held (segment_holding n b.segments) b n ≡ hash_shown b n
+    → hash_held (segment_holding n b.segments) b n ≡ hash_kept b n
 past_zero b n some =
     sym (ap (λ z. cond z (Some zeros) (hash_held (segment_holding n b.segments) b n)) some)
 
--- what a segment that holds a number has there is what the book shows
+-- what a segment that holds a number has there is what is kept
 pub held_in : (b : Book) (n : ℕ) (s : VersionedParts) → FitsTogether b → (n == 0) ≡ false
-    → segment_holding n b.segments ≡ Some s → segment_mark_at s n ≡ hash_shown b n
+    → segment_holding n b.segments ≡ Some s → segment_mark_at s n ≡ hash_kept b n
 held_in b n s fits some e = sym (ap (λ o. hash_held o b n) e) ∙ past_zero b n some
 
 -- where no segment holds it, a learned authenticator's hash is
 pub held_out : (b : Book) (n : ℕ) → (n == 0) ≡ false → segment_holding n b.segments ≡ None
     → option_map (λ (a : Authenticator). a.hash) (find (λ (a : Authenticator). number_of b.log_version a == n) b.learned)
-    ≡ hash_shown b n
+    ≡ hash_kept b n
 held_out b n some e = sym (ap (λ o. hash_held o b n) e) ∙ past_zero b n some
 
 -- it is of the book's version

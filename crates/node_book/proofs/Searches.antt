@@ -2,13 +2,13 @@
 -- Serves: count_ended, segment_holding.
 use Rattle.std.proofs.Common.{◌≡◌, ℕ, zero, suc, ◌+◌, ◌<◌, ◌≤◌, Bool, true, false, cond, nat_lt}
 use Rattle.std.proofs.Common.{nat_le, ◌&&◌, List, [], ◌∷◌, length, get_or, Some, None, refl}
-use Rattle.std.proofs.Common.{ap, ◌∙◌, arith}
+use Rattle.std.proofs.Common.{ap, sym, subst, ◌∙◌, arith}
 use Rattle.std.proofs.lemmas.Bool.{and_from, le-leb, leb-true, ltb-true, ltb-false}
 use Rattle.std.proofs.lemmas.Bool.Decides.{nat_tests}
 use Rattle.secure_log.specs.Versioned.{ClosedParts}
 use Rattle.secure_log.proofs.PartitionPoints.{PassInFront}
 use Rattle.witness_spec.specs.Exposing.{segment_holding}
-use Rattle.witness_spec.specs.Pairs.{last_of}
+use Rattle.witness_spec.specs.Pairs.{first_of, last_of}
 use Rattle.witness_book_laws.specs.Fitting.{Tile}
 use Rattle.node_book.specs.Looking.{count_ended}
 use Rattle.node_book.specs.Rows.{segments_in}
@@ -61,9 +61,9 @@ count_within n (c ∷ cs) =
     ]
 
 -- so many pass in front, and none after them
-pub pass_in_front : (n : ℕ) (cs : List ClosedParts) (next : ℕ) → Tile 1 (segments_in cs) next
+pub pass_in_front : (first n : ℕ) (cs : List ClosedParts) (next : ℕ) → Tile first (segments_in cs) next
     → PassInFront (λ (c : ClosedParts). nat_lt (last_of c.segment) n) cs (count_ended n (segments_in cs))
-pass_in_front n cs next t = (count_within n cs, λ k d there. at_count 1 n cs next k d t there)
+pass_in_front first n cs next t = (count_within n cs, λ k d there. at_count first n cs next k d t there)
 
 -- a segment that ends before a number doesn't hold it
 ended : (from to n : ℕ) → to < n → (nat_le from n && nat_le n to) ≡ false
@@ -81,32 +81,74 @@ found_behind n c cs e =
     ap (λ b. cond b (Some c.segment) (segment_holding n (segments_in cs)))
     (ended c.segment.first (last_of c.segment) n (ltb-true (last_of c.segment) n e))
 
--- the one after them holds the number
-pub holds_at : (first n : ℕ) (cs : List ClosedParts) (next : ℕ) (d : ClosedParts)
-    → Tile first (segments_in cs) next → first ≤ n → count_ended n (segments_in cs) < length cs
+-- the first of those that are left holds the number, if it begins by it
+pub holds_at : (n : ℕ) (cs : List ClosedParts) (d : ClosedParts) → count_ended n (segments_in cs) < length cs
+    → first_of (get_or cs (count_ended n (segments_in cs)) d).segment ≤ n
     → segment_holding n (segments_in cs) ≡ Some (get_or cs (count_ended n (segments_in cs)) d).segment
-holds_at first n [] next d t low h = absurd (omega arith)
-holds_at first n (c ∷ cs) next d t low h =
-    by (nat_lt (last_of c.segment) n) refl h
-    (λ more lt. holds_at (last_of c.segment + 1) n cs next d t.2 more lt)
+holds_at n [] d h low = absurd (omega arith)
+holds_at n (c ∷ cs) d h low =
+    by (nat_lt (last_of c.segment) n) refl h low (λ lt more. holds_at n cs d lt more)
   where
     by : (b : Bool) → nat_lt (last_of c.segment) n ≡ b
         → cond b (count_ended n (segments_in cs) + 1) 0 < length (c ∷ cs)
-        → (last_of c.segment + 1 ≤ n → count_ended n (segments_in cs) < length cs
+        → first_of (get_or (c ∷ cs) (cond b (count_ended n (segments_in cs) + 1) 0) d).segment ≤ n
+        → (count_ended n (segments_in cs) < length cs
+        → first_of (get_or cs (count_ended n (segments_in cs)) d).segment ≤ n
         → segment_holding n (segments_in cs) ≡ Some (get_or cs (count_ended n (segments_in cs)) d).segment)
         → segment_holding n (segments_in (c ∷ cs))
         ≡ Some (get_or (c ∷ cs) (cond b (count_ended n (segments_in cs) + 1) 0) d).segment
-    by true e h rest =
-        let past : last_of c.segment < n = ltb-true _ _ e in
-        let one : suc (count_ended n (segments_in cs)) ≡ count_ended n (segments_in cs) + 1 = omega arith in
-        found_behind n c cs e ∙ rest (omega arith) (omega arith)
-        ∙ ap (λ k. Some (get_or (c ∷ cs) k d).segment) one
-    by false e h rest =
-        let from : c.segment.first ≤ n = omega (arith, t.0, low) in
+    by true e h from rest =
+        let one : count_ended n (segments_in cs) + 1 ≡ suc (count_ended n (segments_in cs)) = omega arith in
+        let first : first_of (get_or cs (count_ended n (segments_in cs)) d).segment ≤ n =
+        subst (λ k. first_of (get_or (c ∷ cs) k d).segment ≤ n) one from in
+        found_behind n c cs e ∙ rest (omega arith) first
+        ∙ ap (λ k. Some (get_or (c ∷ cs) k d).segment) (sym one)
+    by false e h from rest =
         let to : n ≤ last_of c.segment = ltb-false _ _ e in
         ap (λ b. cond b (Some c.segment) (segment_holding n (segments_in cs)))
         (and_from (nat_le c.segment.first n) (nat_le n (last_of c.segment))
         (le-leb c.segment.first n from) (le-leb n (last_of c.segment) to))
+
+-- one that begins after a number doesn't hold it
+later : (from to n : ℕ) → n < from → (nat_le from n && nat_le n to) ≡ false
+later from to n h = by (nat_le from n) refl
+  where
+    by : (a : Bool) → nat_le from n ≡ a → (nat_le from n && nat_le n to) ≡ false
+    by true e = absurd (omega (arith, h, leb-true from n e))
+    by false e = ap (λ b. b && nat_le n to) e
+
+-- where segments that follow on one another begin after a number, none holds it
+pub none_later : (first n : ℕ) (cs : List ClosedParts) (next : ℕ) → Tile first (segments_in cs) next → n < first
+    → segment_holding n (segments_in cs) ≡ None
+none_later first n [] next t h = refl
+none_later first n (c ∷ cs) next t h =
+    ap (λ b. cond b (Some c.segment) (segment_holding n (segments_in cs)))
+    (later c.segment.first (last_of c.segment) n (omega (arith, t.0, h)))
+    ∙ none_later (last_of c.segment + 1) n cs next t.2 (omega (arith, t.1, h))
+
+-- and so none does where the first of those that are left begins after it
+pub holds_later : (first n : ℕ) (cs : List ClosedParts) (next : ℕ) (d : ClosedParts)
+    → Tile first (segments_in cs) next → count_ended n (segments_in cs) < length cs
+    → n < first_of (get_or cs (count_ended n (segments_in cs)) d).segment
+    → segment_holding n (segments_in cs) ≡ None
+holds_later first n [] next d t h from = absurd (omega arith)
+holds_later first n (c ∷ cs) next d t h from =
+    by (nat_lt (last_of c.segment) n) refl h from
+    (λ lt more. holds_later (last_of c.segment + 1) n cs next d t.2 lt more)
+  where
+    by : (b : Bool) → nat_lt (last_of c.segment) n ≡ b
+        → cond b (count_ended n (segments_in cs) + 1) 0 < length (c ∷ cs)
+        → n < first_of (get_or (c ∷ cs) (cond b (count_ended n (segments_in cs) + 1) 0) d).segment
+        → (count_ended n (segments_in cs) < length cs
+        → n < first_of (get_or cs (count_ended n (segments_in cs)) d).segment
+        → segment_holding n (segments_in cs) ≡ None)
+        → segment_holding n (segments_in (c ∷ cs)) ≡ None
+    by true e h from rest =
+        let one : count_ended n (segments_in cs) + 1 ≡ suc (count_ended n (segments_in cs)) = omega arith in
+        let first : n < first_of (get_or cs (count_ended n (segments_in cs)) d).segment =
+        subst (λ k. n < first_of (get_or (c ∷ cs) k d).segment) one from in
+        found_behind n c cs e ∙ rest (omega arith) first
+    by false e h from rest = none_later first n (c ∷ cs) next t (omega (arith, t.0, from))
 
 -- where there is none after them, none holds it
 pub holds_none : (n : ℕ) (cs : List ClosedParts) → length cs ≤ count_ended n (segments_in cs)

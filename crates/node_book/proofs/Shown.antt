@@ -22,6 +22,9 @@ use Rattle.secure_log.proofs.VersionedTexts.{whole_is}
 use Rattle.evidence_spec.specs.Evidence.{Replay, charge_value, is_whole_charge}
 use Rattle.witness_spec.specs.Limits.{MAX_AUDITED}
 use Rattle.node_book.specs.declared.replayed.ShownEntries.{ShownEntries}
+use Rattle.evidence_showings.specs.Bases.{HasBaseText}
+use Rattle.evidence_spec.specs.Base.{BaseParts, base_by, base_text}
+use Rattle.witness_spec.specs.Starting.{KnownBase, start_hash, start_number}
 use Rattle.node_book.specs.Rows.{ShowsLog, entries_of, replayed_log, segments_in}
 use Rattle.node_book.specs.Shown.{IsShown, counts_of}
 use Rattle.node_book.proofs.Mapped.{flat_map_map}
@@ -106,10 +109,10 @@ one_more s log more old was given skips o w g back grown added = record {
 -- ---- the log that is shown
 
 -- it has no more entries than evidence may have
-pub shown_few : (v : LogVersion) (cs : List ClosedParts) (n : ℕ) (s : VersionedParts)
-    (shown : ShownEntries) → ShowsLog v (segments_in cs) n s
+pub shown_few : (base : Option KnownBase) (v : LogVersion) (cs : List ClosedParts) (n : ℕ) (s : VersionedParts)
+    (shown : ShownEntries) → ShowsLog base v (segments_in cs) n s
     → IsShown shown (entries_of (segments_in (take n cs)) ++ s.entries) → length shown.entries.items ≤ MAX_AUDITED
-shown_few v cs n s shown h is =
+shown_few base v cs n s shown h is =
     let log = entries_of (segments_in (take n cs)) ++ s.entries in
     omega (
       arith,
@@ -121,60 +124,94 @@ shown_few v cs n s shown h is =
     )
 
 -- they skip as they may
-pub shown_skips : (v : LogVersion) (cs : List ClosedParts) (n : ℕ) (s : VersionedParts)
-    (shown : ShownEntries) → ShowsLog v (segments_in cs) n s
+pub shown_skips : (base : Option KnownBase) (v : LogVersion) (cs : List ClosedParts) (n : ℕ) (s : VersionedParts)
+    (shown : ShownEntries) → ShowsLog base v (segments_in cs) n s
     → IsShown shown (entries_of (segments_in (take n cs)) ++ s.entries)
-    → AllByRecursion (MaySkip v) (logged_links 0 (logged shown.skips.items shown.entries.items))
-shown_skips v cs n s shown h is =
+    → AllByRecursion (MaySkip v) (logged_links (start_number base) (logged shown.skips.items shown.entries.items))
+shown_skips base v cs n s shown h is =
     let log = entries_of (segments_in (take n cs)) ++ s.entries in
-    subst (λ ls. AllByRecursion (MaySkip v) (logged_links 0 ls))
+    subst (λ ls. AllByRecursion (MaySkip v) (logged_links (start_number base) ls))
     (ap (λ ss. entries_of ss ++ s.entries) (sym (first_are n cs))
     ∙ sym (ap₂ logged is.skips is.entries ∙ shown_log log))
     h.skips
 
--- evidence of it has a text
-pub whole_charge : (v : LogVersion) (cs : List ClosedParts) (n : ℕ) (node : ℕ) (s : VersionedParts)
-    → ShowsLog v (segments_in cs) n s
-    → is_whole_charge (charge_value (Replay (replayed_log v node (segments_in cs) n s))) ≡ true
-whole_charge v cs n node s h = by v h
+-- it is whole
+pub shown_whole : (base : Option KnownBase) (v : LogVersion) (cs : List ClosedParts) (n : ℕ) (node : ℕ)
+    (s : VersionedParts) → ShowsLog base v (segments_in cs) n s
+    → is_whole_in v (versioned_value v (replayed_log base v node (segments_in cs) n s)) ≡ true
+shown_whole base v cs n node s h =
+    sym (whole_is v (replayed_log base v node (segments_in cs) n s) may (begins v)) ∙ some h.some
   where
-    by : (v : LogVersion) → ShowsLog v (segments_in cs) n s
-        → is_whole_charge (charge_value (Replay (replayed_log v node (segments_in cs) n s))) ≡ true
-    by One h = sym (whole_is One (replayed_log One node (segments_in cs) n s) h.skips tt) ∙ some h.some
-      where
-        some : 0 < length s.entries → (nat_lt 0 1 && not (length (entries_of (take n (segments_in cs)) ++ s.entries) == 0)) ≡ true
-        some more = ap not (is_false _ (λ e. absurd (omega (arith, eqb-true _ _ e, length-append (entries_of (take n (segments_in cs))) s.entries, more))))
-    by Two h = sym (whole_is Two (replayed_log Two node (segments_in cs) n s) h.skips (omega arith)) ∙ some h.some
-      where
-        some : 0 < length s.entries → (nat_lt 0 1 && not (length (entries_of (take n (segments_in cs)) ++ s.entries) == 0)) ≡ true
-        some more = ap not (is_false _ (λ e. absurd (omega (arith, eqb-true _ _ e, length-append (entries_of (take n (segments_in cs))) s.entries, more))))
+    back : start_number base + 1 - 1 ≡ start_number base
+    back = omega arith
 
--- the log from the start, of these entries and this closing, is the one that is to be shown
-pub log_is : (v : LogVersion) (node : ℕ) (cs : List ClosedParts) (n : ℕ) (s : VersionedParts)
-    (shown : ShownEntries) (closing : Authenticator)
-    → IsShown shown (entries_of (segments_in (take n cs)) ++ s.entries) → closing ≡ s.closing
+    may : AllByRecursion (MaySkip v) (logged_links (start_number base + 1 - 1)
+        (entries_of (take n (segments_in cs)) ++ s.entries))
+    may = subst (λ k. AllByRecursion (MaySkip v) (logged_links k (entries_of (take n (segments_in cs)) ++ s.entries)))
+        (sym back) h.skips
+
+    begins : (w : LogVersion) → Begins w (start_number base + 1)
+    begins One = tt
+    begins Two = omega arith
+
+    some : 0 < length s.entries
+        → (nat_lt 0 (start_number base + 1) && not (length (entries_of (take n (segments_in cs)) ++ s.entries) == 0)) ≡ true
+    some more =
+        and_from (nat_lt 0 (start_number base + 1)) (not (length (entries_of (take n (segments_in cs)) ++ s.entries) == 0))
+        (lt-ltb 0 (start_number base + 1) (omega arith))
+        (ap not (is_false _ (λ e. absurd (omega (
+          arith,
+          eqb-true _ _ e,
+          length-append (entries_of (take n (segments_in cs))) s.entries,
+          more,
+        )))))
+
+-- the log from where the audit began, of these entries and this closing, is the one that is to be shown
+pub log_is : (base : Option KnownBase) (v : LogVersion) (node : ℕ) (cs : List ClosedParts) (n : ℕ)
+    (s : VersionedParts) (shown : ShownEntries) (first : ℕ) (opening : List ℕ) (closing : Authenticator)
+    → IsShown shown (entries_of (segments_in (take n cs)) ++ s.entries) → first ≡ start_number base + 1
+    → opening ≡ start_hash base → closing ≡ s.closing
     → ◌≡◌ {A = VersionedParts} (record {
       log_version = v;
       node = node;
-      first = 1;
-      opening = zeros;
+      first = first;
+      opening = opening;
       entries = logged shown.skips.items shown.entries.items;
       closing = closing;
-    }) (replayed_log v node (segments_in cs) n s)
-log_is v node cs n s shown closing is closed =
-    ap₂ (λ (ls : List Logged) (c : Authenticator). record {
+    }) (replayed_log base v node (segments_in cs) n s)
+log_is base v node cs n s shown first opening closing is number hash closed =
+    let entries : logged shown.skips.items shown.entries.items
+    ≡ entries_of (take n (segments_in cs)) ++ s.entries =
+    ap₂ logged is.skips is.entries ∙ shown_log (entries_of (segments_in (take n cs)) ++ s.entries)
+    ∙ ap (λ ss. entries_of ss ++ s.entries) (first_are n cs) in
+    λ i. record {
       log_version = v;
       node = node;
-      first = 1;
-      opening = zeros;
-      entries = ls;
-      closing = c;
-    })
-    (ap₂ logged is.skips is.entries ∙ shown_log (entries_of (segments_in (take n cs)) ++ s.entries)
-    ∙ ap (λ ss. entries_of ss ++ s.entries) (first_are n cs))
-    closed
+      first = number i;
+      opening = hash i;
+      entries = entries i;
+      closing = closed i;
+    }
 
--- evidence that may be there is there where what it lacks otherwise isn't lacking
-pub there : {X : Type 0} (o : Option X) (b : Bool) → IfNone o (b ≡ false) → b ≡ true → IsSome o
-there None b none passes = sym none ∙ passes
-there (Some x) b none passes = refl
+-- ---- its charge
+
+-- a charge of a replay is whole where its log is
+pub replay_whole : (v : LogVersion) (s : VersionedParts) → s.log_version ≡ v
+    → is_whole_charge (charge_value (Replay s)) ≡ is_whole_in v (versioned_value v s)
+replay_whole v s same = subst (λ w. is_whole_charge (replay_charge w s) ≡ is_whole_in v (versioned_value v s)) (sym same) (by v)
+  where
+    by : (w : LogVersion) → is_whole_charge (replay_charge w s) ≡ is_whole_in w (versioned_value w s)
+    by One = refl
+    by Two = refl
+
+-- so is one of a replay from a base that has a text
+pub based_whole : (v : LogVersion) (b : BaseParts) (s : VersionedParts) → HasBaseText b → b.log_version ≡ v
+    → is_whole_charge (charge_value (Based b s)) ≡ is_whole_in v (versioned_value v s)
+based_whole v b s text same =
+    subst (λ w. is_whole_charge (5, based_value w b s) ≡ is_whole_in v (versioned_value v s)) (sym same)
+    (by v (subst (λ w. IsTrue (base_text.test (base_by w b))) same text.follow))
+  where
+    by : (w : LogVersion) → IsTrue (base_text.test (base_by w b))
+        → is_whole_charge (5, based_value w b s) ≡ is_whole_in w (versioned_value w s)
+    by One follow = refl
+    by Two follow = ap (λ x. x && is_whole_in Two (versioned_value Two s)) follow

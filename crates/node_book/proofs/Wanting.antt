@@ -66,6 +66,7 @@ adds_is_more b step (d.Answer (a.Accepted share evidence)) decides owes adds = a
 adds_is_more b step (d.Audit (q.Asked first last)) decides owes adds = absurd decides
 adds_is_more b step (d.File c.IsOut) decides owes adds = absurd decides
 adds_is_more b step (d.Learn l.Known) decides owes adds = absurd adds
+adds_is_more b step (d.Learn l.Below) decides owes adds = absurd adds
 adds_is_more b step (d.Learn l.Full) decides owes adds = absurd adds
 adds_is_more b step (d.Learn l.Ignored) decides owes adds = absurd adds
 adds_is_more b step (d.Learn (l.Noted (Some e))) decides owes adds = absurd adds

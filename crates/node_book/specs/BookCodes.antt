@@ -15,9 +15,12 @@ use Rattle.envelopes.specs.declared.envelope.Envelope.{Envelope}
 use Rattle.envelopes.specs.contracts.envelope.Envelope as envelopes
 use Rattle.evidence_spec.specs.Evidence.{EvidenceParts}
 use Rattle.challenge.specs.contracts.evidence.Evidence as evidences
+use Rattle.evidence_showings.specs.contracts.base_text.BaseText as bases
+use Rattle.evidence_spec.specs.Base.{BaseParts}
 use Rattle.witness_spec.specs.state_spec.State.{State}
 use Rattle.witness_spec.specs.state_spec.Codes.{state_code}
 use Rattle.witness_spec.specs.Replies.{Challenge, AuditOf, SendOf}
+use Rattle.witness_spec.specs.Starting.{KnownBase}
 use Rattle.witness_spec.specs.Standing.{End, Stage, NoAudit, Wanted, Given, Out}
 use Rattle.witness_book_laws.specs.Books.{Book}
 use Rattle.replay_jobs.specs.Codes.{closed_code}
@@ -124,6 +127,12 @@ end_code =
     code_by (ℕ × State) (coded× coded_ℕ state_code)
     (λ e. (e.number, e.state)) (λ p. record { number = p.0; state = p.1 }) (λ _. refl)
 
+-- of a base
+abbrev pub base_code : Coded KnownBase
+base_code =
+    code_by (BaseParts × State) (coded× bases.the_row.coded state_code)
+    (λ b. (b.parts, b.state)) (λ p. record { parts = p.0; state = p.1 }) (λ _. refl)
+
 -- of authenticators
 abbrev pub authenticators_code : Coded (List Authenticator)
 authenticators_code = coded_list authenticator_code
@@ -141,11 +150,11 @@ lists_code =
 -- of a book
 abbrev pub book_code : Coded Book
 book_code =
-    code_by ((ℕ × LogVersion) × (End × (Stage × (ℕ × (ListParts × Option EvidenceParts)))))
-    (coded× (coded× coded_ℕ version_code) (coded× end_code (coded× stage_code (coded× coded_ℕ
+    code_by ((ℕ × (LogVersion × Option KnownBase)) × (End × (Stage × (ℕ × (ListParts × Option EvidenceParts)))))
+    (coded× (coded× coded_ℕ (coded× version_code (coded_option base_code))) (coded× end_code (coded× stage_code (coded× coded_ℕ
     (coded× lists_code (coded_option evidences.the_row.coded))))))
     (λ b. (
-      (b.node, b.log_version),
+      (b.node, (b.log_version, b.base)),
       (
         b.end,
         (
@@ -159,7 +168,8 @@ book_code =
     ))
     (λ p. record {
       node = p.0.0;
-      log_version = p.0.1;
+      log_version = p.0.1.0;
+      base = p.0.1.1;
       end = p.1.0;
       stage = p.1.1.0;
       begun = p.1.1.1.0;

@@ -50,6 +50,7 @@ AnyReply = ReplyOf JobParts JobParts
 -- the reply to an authenticator
 abbrev pub learn_reply : {J D : Type 0} → LearnDecision → ReplyOf J D
 learn_reply l.Known = r.Already
+learn_reply l.Below = r.Refused f.BelowBase
 learn_reply l.Full = r.Refused f.LearnedFull
 learn_reply l.Ignored = r.Noted
 learn_reply (l.Noted evidence) = r.Noted
@@ -122,6 +123,7 @@ reply_of step decided = r.Refused f.NoMemory
 -- Of an authenticator: whether it is known, and what it exposes.
 abbrev pub DecidesLearn : Book → Authenticator → LearnDecision → Type 0
 DecidesLearn book x l.Known = reply_to_learn book x ≡ spec.Already
+DecidesLearn book x l.Below = reply_to_learn book x ≡ spec.Refused refusals.BelowBase
 DecidesLearn book x l.Full = reply_to_learn book x ≡ spec.Refused refusals.LearnedFull
 DecidesLearn book x l.Ignored = exposed book ≡ true
 DecidesLearn book x (l.Noted evidence) =

@@ -1,19 +1,30 @@
 -- What look-ups in a book's rows find.
-use Rattle.std.specs.Prelude.{ℕ, ◌+◌, Bool, true, false, nat_lt, IsTrue, List, [], ◌∷◌, if◌then◌else◌}
+use Rattle.std.specs.Prelude.{ℕ, ◌+◌, ◌==◌, Bool, true, false, nat_lt, IsTrue, List, [], ◌∷◌, Option, Some, if◌then◌else◌}
 use Rattle.authenticator.specs.declared.member.LogVersion.{LogVersion}
+use Rattle.secure_log.specs.LogEntries.Chain.{zeros}
 use Rattle.secure_log.specs.Versioned.{VersionedParts}
 use Rattle.evidence_spec.specs.Showing.{ShowingParts, links_follow, showing_value}
+use Rattle.witness_spec.specs.Exposing.{segment_holding}
 use Rattle.witness_spec.specs.Pairs.{last_of}
+use Rattle.witness_book_laws.specs.Books.{Book}
+use Rattle.witness_book_laws.specs.LookUps.{hash_held}
 use Rattle.witness_book_laws.specs.Fitting.{Tile}
 use Rattle.node_book.specs.declared.looking.ShownHash.{ShownHash}
 use Rattle.node_book.specs.declared.looking.ShownHash.TheVariants.{Same, Another, Nothing}
 
--- Segments follow on one another, from 1 on.
+-- Segments follow on one another.
 pub record FollowOn (segments : List VersionedParts) : Type 0 where
+  -- the first number of the first
+  pub first : ℕ
   -- the number after the last
   pub next : ℕ
-  -- they hold each number up to it
-  pub tile : Tile 1 segments next
+  -- they hold each number between them
+  pub tile : Tile first segments next
+
+-- the mark of what a book keeps at a number: zeros at 0
+abbrev pub hash_kept : Book → (number : ℕ) → Option (List ℕ)
+hash_kept b number =
+    if number == 0 then Some zeros else hash_held (segment_holding number b.segments) b number
 
 -- how many segments stand in front that end before a number
 abbrev pub count_ended : (number : ℕ) → List VersionedParts → ℕ

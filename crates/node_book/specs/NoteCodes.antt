@@ -18,7 +18,7 @@ use Rattle.challenge.specs.replay.replay_spec.Stepping.{WrongCheckpoint, BadAck,
 use Rattle.challenge.specs.replay.replay_spec.Replay.{Verdict, Sound, Fault}
 use Rattle.witness_spec.specs.Refusals.{Refusal, UnknownNode, Garbage, BadSignature, LearnedFull}
 use Rattle.witness_spec.specs.Refusals.{ChallengesFull, OutboxFull, TooFar, NothingToAudit, Busy, NotAsked}
-use Rattle.witness_spec.specs.Refusals.{NoJob, WrongJob, BookFull, NoMemory, refusal_number}
+use Rattle.witness_spec.specs.Refusals.{NoJob, WrongJob, BookFull, NoMemory, BelowBase, refusal_number}
 use Rattle.witness_spec.specs.Events.{PublicKey, JobParts, DoneParts, Question, ItsIndication, ItsChallenges}
 use Rattle.witness_spec.specs.Events.{ItsEvidence, Event}
 use Rattle.witness_spec.specs.Events as events
@@ -201,7 +201,8 @@ refusal_at n =
     else if n == 11 then NoJob
     else if n == 12 then WrongJob
     else if n == 13 then BookFull
-    else NoMemory
+    else if n == 14 then NoMemory
+    else BelowBase
 
 -- a refusal is the one with its number
 pub refusal_back : (f : Refusal) → refusal_at (refusal_number f) ≡ f
@@ -219,6 +220,7 @@ refusal_back NoJob = refl
 refusal_back WrongJob = refl
 refusal_back BookFull = refl
 refusal_back NoMemory = refl
+refusal_back BelowBase = refl
 
 -- of a refusal
 abbrev pub refusal_code : Coded Refusal

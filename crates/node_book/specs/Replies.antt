@@ -30,6 +30,7 @@ refusal_in f.NoJob = refusals.NoJob
 refusal_in f.WrongJob = refusals.WrongJob
 refusal_in f.BookFull = refusals.BookFull
 refusal_in f.NoMemory = refusals.NoMemory
+refusal_in f.BelowBase = refusals.BelowBase
 
 -- what is said of a node
 abbrev pub indication_in : Indication → spec.Indication

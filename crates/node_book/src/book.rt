@@ -1,10 +1,12 @@
 //! One member's book.
 
 ghost use Rattle.std.specs.Prelude.{◌≡◌, IfOk};
-ghost use Rattle.witness_book_laws.specs.Books.{book_opening};
+ghost use Rattle.witness_book_laws.specs.Books.{book_starting};
 ghost use Rattle.witness_book_laws.specs.Ready.{IsOfLog, IsReady};
 ghost use Rattle.node_book.specs.Events.{step_in};
 ghost use Rattle.node_book.specs.Replies.{refusal_in, reply_in};
+ghost use Rattle.witness_spec.specs.Starting.{start_state};
+ghost use Rattle.node_book.specs.Rows.{BaseIsOfLog, base_in};
 ghost use Rattle.node_book.specs.Deciding.{reply_of};
 ghost use Rattle.node_book.specs.Stepping.{NotedSteps, Steps, step_refused};
 
@@ -13,12 +15,13 @@ use crate::noted::note_of;
 use crate::outbox::Outbox;
 use crate::refusal::Refusal;
 use crate::reply::{PlainReply, Reply, ReplyOf};
-use crate::rows::{Exposure, Rows, Stage};
+use crate::rows::{Exposure, Rows, Stage, start_number};
 use crate::step::Step;
 use authenticator::Member;
-use challenge::{SharedState, opening_state};
+use challenge::{Base, SharedState, opening_state};
 use std::alloc::{AllocError, Global};
 use std::marker::Model;
+use std::sync::Arc;
 
 /// One member's book at a witness (PeerReview, SOSP 2007): what the witness keeps of the node.
 #[derive(Drop)]
@@ -29,7 +32,7 @@ pub struct Book {
 impl Model for Book {
     ghost use Rattle.witness_book_laws.specs.Books.{Book};
     ghost use Rattle.node_book.specs.BookCodes.{book_code};
-    ghost use Rattle.node_book.specs.Rows.{KeepsExposure, book_in, segments_in};
+    ghost use Rattle.node_book.specs.Rows.{KeepsRows, book_in};
 
     ghost Value = { Book };
 
@@ -37,7 +40,7 @@ impl Model for Book {
 
     ghost view = { λ b. book_in b.rows };
 
-    ghost invariant = { λ b. KeepsExposure b.rows.log_version (segments_in b.rows.segments.items) b.rows.exposure };
+    ghost invariant = { λ b. KeepsRows b.rows };
 }
 
 impl Step {
@@ -61,16 +64,25 @@ impl Step {
 }
 
 impl Book {
-    /// A member's book before its first step: nothing is known of the node but the state that it begins with.
-    /// Takes memory for that state's text; `AllocError` comes only where a growth was refused.
-    pub fn opening(alloc: Global, member: &Member) -> Result<Book, AllocError>
-        ensures { IfOk result (λ b. b ≡ book_opening member.now) }
+    /// A member's book before its first step. Without a base nothing is known of the node but the state that
+    /// it begins with; with one the audit begins after the base's number, from its state, which is shared.
+    /// Takes memory for the text of the state that a node begins with; `AllocError` comes only where a growth
+    /// was refused.
+    pub fn starting(
+        alloc: Global,
+        member: &Member,
+        base: Option<Arc<Base>>,
+    ) -> Result<Book, AllocError>
+        requires { BaseIsOfLog (base_in base) member.now.log_version }
+        ensures { IfOk result (λ b. b ≡ book_starting member.now (base_in base)) }
     {
-        let state = SharedState::new(alloc, &opening_state(alloc, member)?)?;
+        let state = start_state(alloc, member, &base)?;
+        let end = start_number(&base);
         let rows = Rows {
             node: member.node,
             log_version: member.log_version,
-            end: 0,
+            base,
+            end,
             state,
             stage: Stage::NoAudit,
             begun: 0,
@@ -124,6 +136,20 @@ impl Book {
             Ok(notes) => (self.rows.carry_out(step, decided), Some(notes)),
             Err(AllocError) => (step.refuse(Refusal::NoMemory), None),
         }
+    }
+}
+
+/// The state where an audit begins: that of the base, which is shared, or that with which a node begins.
+fn start_state(
+    alloc: Global,
+    member: &Member,
+    base: &Option<Arc<Base>>,
+) -> Result<SharedState, AllocError>
+    ensures { IfOk result (λ s. s ≡ start_state member.now (base_in base.now)) }
+{
+    match base {
+        Some(base) => base.state().try_clone(),
+        None => SharedState::new(alloc, &opening_state(alloc, member)?),
     }
 }
 

@@ -10,7 +10,7 @@ ghost use Rattle.witness_book_laws.specs.Going.{after_learn, after_send_challeng
 ghost use Rattle.witness_book_laws.specs.Going.{after_audit, after_begin, after_file, after_put_back};
 ghost use Rattle.witness_book_laws.specs.Going.{after_forward};
 ghost use Rattle.witness_book_laws.specs.Going.{audited_with, book_after, first_evidence, having_filed};
-ghost use Rattle.evidence_spec.specs.Evidence as charges;
+ghost use Rattle.witness_spec.specs.Exposing.{replay_from};
 ghost use Rattle.witness_spec.specs.Standing as standing;
 ghost use Rattle.replay_jobs.specs.Jobs.{verdict_told};
 ghost use Rattle.node_book.specs.Deciding.{DecidesLearn, DecidesChallenge, DecidesAnswer, DecidesAck};
@@ -24,7 +24,7 @@ ghost use Rattle.node_book.specs.Events.{step_in};
 ghost use Rattle.replay_jobs.specs.Jobs.{done_parts};
 ghost use Rattle.node_book.specs.Outboxes.{HasPlace, outbox_in};
 ghost use Rattle.node_book.specs.Replies.{reply_in};
-ghost use Rattle.node_book.specs.Rows.{KeepsExposure, book_in, segments_in, stage_in};
+ghost use Rattle.node_book.specs.Rows.{KeepsRows, book_in, segments_in, stage_in};
 
 use crate::challenges::{close_answered, close_send};
 use crate::decision::{
@@ -48,14 +48,17 @@ impl Rows {
     fn carry_learn(&mut self, authenticator: Authenticator, learning: LearnDecision) -> Reply
         requires decided { DecidesLearn (book_in self.old) authenticator learning }
         requires room { HasRoomToLearn self.old learning }
-        requires keeps { KeepsExposure self.old.log_version (segments_in self.old.segments.items) self.old.exposure }
+        requires keeps { KeepsRows self.old }
         ensures reply { result ≡ learn_reply learning }
         ensures after { book_in self.new ≡ after_learn (book_in self.old) authenticator (reply_in result) }
-        ensures keeps { KeepsExposure self.new.log_version (segments_in self.new.segments.items) self.new.exposure }
+        ensures keeps { KeepsRows self.new }
     {
         let reply = learn_reply(&learning);
         match learning {
-            LearnDecision::Known | LearnDecision::Full | LearnDecision::Ignored => {}
+            LearnDecision::Known
+            | LearnDecision::Below
+            | LearnDecision::Full
+            | LearnDecision::Ignored => {}
             LearnDecision::Noted(None) => self.learned.push_reserved(authenticator),
             LearnDecision::Noted(Some(evidence)) => self.exposure = Exposure::Fork(evidence),
         }
@@ -66,11 +69,11 @@ impl Rows {
     fn carry_send_challenge(&mut self, envelope: Envelope, opening: ChallengeDecision) -> Reply
         requires decided { DecidesChallenge (book_in self.old) envelope opening }
         requires room { HasRoomToOpen self.old opening }
-        requires keeps { KeepsExposure self.old.log_version (segments_in self.old.segments.items) self.old.exposure }
+        requires keeps { KeepsRows self.old }
         ensures reply { result ≡ challenge_reply opening }
         ensures after { book_in self.new ≡ after_send_challenge (book_in self.old) envelope
             (reply_in result) }
-        ensures keeps { KeepsExposure self.new.log_version (segments_in self.new.segments.items) self.new.exposure }
+        ensures keeps { KeepsRows self.new }
     {
         let reply = challenge_reply(&opening);
         if let ChallengeDecision::Opened = opening {
@@ -83,10 +86,10 @@ impl Rows {
     fn carry_answer(&mut self, segment: SharedSegment, accepting: AnswerDecision) -> Reply
         requires decided { DecidesAnswer (book_in self.old) segment accepting }
         requires room { HasRoomToAccept self.old accepting }
-        requires keeps { KeepsExposure self.old.log_version (segments_in self.old.segments.items) self.old.exposure }
+        requires keeps { KeepsRows self.old }
         ensures reply { result ≡ answer_reply accepting }
         ensures after { book_in self.new ≡ after_answer (book_in self.old) segment (reply_in result) }
-        ensures keeps { KeepsExposure self.new.log_version (segments_in self.new.segments.items) self.new.exposure }
+        ensures keeps { KeepsRows self.new }
     {
         let reply = answer_reply(&accepting);
         if let AnswerDecision::Accepted(share, evidence) = accepting {
@@ -101,10 +104,10 @@ impl Rows {
     /// Closes the challenge that an acknowledgement answers.
     fn carry_ack(&mut self, ack: Ack, is_open: bool) -> Reply
         requires decided { DecidesAck (book_in self.old) ack is_open }
-        requires keeps { KeepsExposure self.old.log_version (segments_in self.old.segments.items) self.old.exposure }
+        requires keeps { KeepsRows self.old }
         ensures reply { result ≡ ack_reply is_open }
         ensures after { book_in self.new ≡ after_ack (book_in self.old) ack (reply_in result) }
-        ensures keeps { KeepsExposure self.new.log_version (segments_in self.new.segments.items) self.new.exposure }
+        ensures keeps { KeepsRows self.new }
     {
         if is_open {
             close_send(&mut self.challenges, &ack.message());
@@ -116,10 +119,10 @@ impl Rows {
     fn carry_audit(&mut self, asking: AuditDecision) -> Reply
         requires decided { DecidesAudit (book_in self.old) asking }
         requires room { HasRoomToAsk self.old asking }
-        requires keeps { KeepsExposure self.old.log_version (segments_in self.old.segments.items) self.old.exposure }
+        requires keeps { KeepsRows self.old }
         ensures reply { result ≡ audit_reply asking }
         ensures after { book_in self.new ≡ after_audit (book_in self.old) (reply_in result) }
-        ensures keeps { KeepsExposure self.new.log_version (segments_in self.new.segments.items) self.new.exposure }
+        ensures keeps { KeepsRows self.new }
     {
         let reply = audit_reply(&asking);
         if let AuditDecision::Asked(first, last) = asking {
@@ -134,10 +137,10 @@ impl Rows {
     fn carry_begin(&mut self, beginning: BeginDecision) -> Reply
         requires ready { IsReady (book_in self.old) }
         requires decided { DecidesBegin (book_in self.old) beginning }
-        requires keeps { KeepsExposure self.old.log_version (segments_in self.old.segments.items) self.old.exposure }
+        requires keeps { KeepsRows self.old }
         ensures reply { result ≡ begin_reply beginning }
         ensures after { book_in self.new ≡ after_begin (book_in self.old) (reply_in result) }
-        ensures keeps { KeepsExposure self.new.log_version (segments_in self.new.segments.items) self.new.exposure }
+        ensures keeps { KeepsRows self.new }
     {
         match beginning {
             BeginDecision::Begun(job) => {
@@ -155,10 +158,10 @@ impl Rows {
     /// Takes a job back.
     fn carry_put_back(&mut self, job: ReplayJob, coming: ReturnDecision) -> Reply
         requires decided { DecidesReturn (book_in self.old) job coming }
-        requires keeps { KeepsExposure self.old.log_version (segments_in self.old.segments.items) self.old.exposure }
+        requires keeps { KeepsRows self.old }
         ensures reply { result ≡ put_back_reply job coming }
         ensures after { book_in self.new ≡ after_put_back (book_in self.old) job (reply_in result) }
-        ensures keeps { KeepsExposure self.new.log_version (segments_in self.new.segments.items) self.new.exposure }
+        ensures keeps { KeepsRows self.new }
     {
         match coming {
             ReturnDecision::NoJob => ReplyOf::PutBackRefused(Refusal::NoJob, job),
@@ -175,11 +178,11 @@ impl Rows {
         requires ready { IsReady (book_in self.old) }
         requires decided { DecidesReturn (book_in self.old) done coming }
         requires room { HasRoomToFile self.old coming }
-        requires keeps { KeepsExposure self.old.log_version (segments_in self.old.segments.items) self.old.exposure }
+        requires keeps { KeepsRows self.old }
         ensures reply { result ≡ file_reply done coming }
         ensures after { book_in self.new ≡
             after_file (book_in self.old) (done_parts done) (reply_in result) }
-        ensures keeps { KeepsExposure self.new.log_version (segments_in self.new.segments.items) self.new.exposure }
+        ensures keeps { KeepsRows self.new }
     {
         match coming {
             ReturnDecision::NoJob => ReplyOf::FileRefused(Refusal::NoJob, done),
@@ -198,10 +201,10 @@ impl Rows {
         requires ready { IsReady (book_in self.old) }
         requires out { stage_in self.old.stage ≡ standing.Out segment }
         requires room { HasPlace self.old.outbox }
-        requires keeps { KeepsExposure self.old.log_version (segments_in self.old.segments.items) self.old.exposure }
+        requires keeps { KeepsRows self.old }
         ensures after { book_in self.new ≡
             having_filed (book_in self.old) segment.segment (verdict_told verdict) }
-        ensures keeps { KeepsExposure self.new.log_version (segments_in self.new.segments.items) self.new.exposure }
+        ensures keeps { KeepsRows self.new }
     {
         match verdict {
             JobVerdict::Sound(state, found) => {
@@ -239,14 +242,14 @@ impl Rows {
     fn expose_by_replay(&mut self, segment: SharedSegment)
         requires ready { IsReady (book_in self.old) }
         requires out { stage_in self.old.stage ≡ standing.Out segment }
-        requires keeps { KeepsExposure self.old.log_version (segments_in self.old.segments.items) self.old.exposure }
+        requires keeps { KeepsRows self.old }
         ensures after { book_in self.new ≡ record (book_in self.old) {
           evidence = first_evidence (book_in self.old).evidence (Some (record {
             node = self.old.node;
-            charge = charges.Replay (audited_with (book_in self.old) segment.segment);
+            charge = replay_from (book_in self.old).base (audited_with (book_in self.old) segment.segment);
           }));
         } }
-        ensures keeps { KeepsExposure self.new.log_version (segments_in self.new.segments.items) self.new.exposure }
+        ensures keeps { KeepsRows self.new }
     {
         if let Exposure::Nothing = self.exposure {
             let before = all_but_one(&self.segments);
@@ -257,10 +260,10 @@ impl Rows {
     /// Gives what is to be forwarded.
     fn carry_forward(&mut self, forwarding: Option<Authenticator>) -> Reply
         requires decided { DecidesForward (book_in self.old) forwarding }
-        requires keeps { KeepsExposure self.old.log_version (segments_in self.old.segments.items) self.old.exposure }
+        requires keeps { KeepsRows self.old }
         ensures reply { result ≡ forward_reply forwarding }
         ensures after { book_in self.new ≡ after_forward (book_in self.old) (reply_in result) }
-        ensures keeps { KeepsExposure self.new.log_version (segments_in self.new.segments.items) self.new.exposure }
+        ensures keeps { KeepsRows self.new }
     {
         match forwarding {
             Some(authenticator) => {
@@ -273,12 +276,12 @@ impl Rows {
 
     /// Evidence of a fork exposes the node, if there is some. The first evidence stays.
     fn expose(&mut self, evidence: Option<Arc<Evidence>>)
-        requires keeps { KeepsExposure self.old.log_version (segments_in self.old.segments.items) self.old.exposure }
+        requires keeps { KeepsRows self.old }
         ensures after { book_in self.new ≡ record (book_in self.old) {
           evidence = first_evidence (book_in self.old).evidence (option_map arc_value evidence);
         } }
         ensures segments { self.new.segments ≡ self.old.segments }
-        ensures keeps { KeepsExposure self.new.log_version (segments_in self.new.segments.items) self.new.exposure }
+        ensures keeps { KeepsRows self.new }
     {
         if let Exposure::Nothing = self.exposure {
             if let Some(evidence) = evidence {
@@ -292,10 +295,10 @@ impl Rows {
         requires ready { IsReady (book_in self.old) }
         requires decided { Decides (book_in self.old) step decided }
         requires room { HasRoomFor self.old decided }
-        requires keeps { KeepsExposure self.old.log_version (segments_in self.old.segments.items) self.old.exposure }
+        requires keeps { KeepsRows self.old }
         ensures reply { result ≡ reply_of step decided }
         ensures after { book_in self.new ≡ book_after (book_in self.old) (step_in step) (reply_in result) }
-        ensures keeps { KeepsExposure self.new.log_version (segments_in self.new.segments.items) self.new.exposure }
+        ensures keeps { KeepsRows self.new }
     {
         match (step, decided) {
             (Step::Learn(authenticator), Decision::Learn(d)) => self.carry_learn(authenticator, d),

@@ -10,6 +10,7 @@ ghost use Rattle.witness_spec.specs.Steps as steps;
 ghost use Rattle.witness_book_laws.specs.Books.{book_indication, exposed, job_of};
 ghost use Rattle.witness_book_laws.specs.Ready.{IsOfLog, IsReady};
 ghost use Rattle.witness_spec.specs.Pairs.{number_of};
+ghost use Rattle.witness_spec.specs.Starting.{is_below, start_number};
 ghost use Rattle.witness_spec.specs.Replies as spec;
 ghost use Rattle.witness_book_laws.specs.Replying.{BookOwes, reply_to_answer, reply_to_begin};
 ghost use Rattle.witness_book_laws.specs.Replying.{reply_to_forward};
@@ -19,7 +20,7 @@ ghost use Rattle.node_book.specs.Deciding.{DecidesAudit, DecidesBegin, DecidesRe
 ghost use Rattle.node_book.specs.Deciding.{Decides, DecidesAsk, audit_reply, reply_of};
 ghost use Rattle.node_book.specs.Events.{question_in, step_in};
 ghost use Rattle.node_book.specs.Replies.{indication_in, reply_in};
-ghost use Rattle.node_book.specs.Rows.{KeepsExposure, book_in, segments_in};
+ghost use Rattle.node_book.specs.Rows.{BaseIsOfLog, KeepsRows, base_in, book_in};
 ghost use Rattle.node_book.specs.Stepping.{MayRunOut, StepMayWant, is_refusal_or_already};
 
 use crate::challenges::{copies_of, count_sends, is_open};
@@ -32,7 +33,7 @@ use crate::looking::ShownHash;
 use crate::refusal::Refusal;
 use crate::replayed::replayed_evidence;
 use crate::reply::Indication;
-use crate::rows::{Exposure, Rows, Stage};
+use crate::rows::{Exposure, Rows, Stage, start_number};
 use crate::step::Step;
 use authenticator::{Authenticator, LogVersion, Number, Signs};
 use challenge::{Challenge, Evidence};
@@ -64,18 +65,22 @@ impl Rows {
         }
     }
 
-    /// Of an authenticator. A known pair comes before a lack of room.
+    /// Of an authenticator. A number below the base comes before a known pair, and that before a lack of room.
     fn decide_learn(
         &self,
         alloc: Global,
         authenticator: &Authenticator,
     ) -> Result<LearnDecision, AllocError>
-        requires { IsReady (book_in self.now) }
+        requires ready { IsReady (book_in self.now) }
+        requires base { BaseIsOfLog (base_in self.now.base) self.now.log_version }
         ensures ok { IfOk result (DecidesLearn (book_in self.now) authenticator.now) }
         ensures err { IfErr result (λ _. reply_to_learn (book_in self.now) authenticator.now ≡ spec.Noted) }
     {
         if self.is_exposed() {
             return Ok(LearnDecision::Ignored);
+        }
+        if self.is_below(authenticator) {
+            return Ok(LearnDecision::Below);
         }
         match self.knows(authenticator) {
             ShownHash::Same => Ok(LearnDecision::Known),
@@ -85,6 +90,20 @@ impl Rows {
             }
             ShownHash::Nothing if self.has_no_room(authenticator) => Ok(LearnDecision::Full),
             ShownHash::Nothing => Ok(LearnDecision::Noted(None)),
+        }
+    }
+
+    /// Whether an authenticator's number lies below all that the base shows.
+    fn is_below(&self, authenticator: &Authenticator) -> bool
+        ensures { result ≡ is_below (base_in self.now.base)
+            (number_of self.now.log_version authenticator.now) }
+    {
+        match &self.base {
+            Some(base) => {
+                let number = authenticator.word.number(self.log_version);
+                number.get() < base.showing().first().saturating_sub(1)
+            }
+            None => false,
         }
     }
 
@@ -117,6 +136,7 @@ impl Rows {
         segment: &SharedSegment,
     ) -> Result<AnswerDecision, AllocError>
         requires ready { IsReady (book_in self.now) }
+        requires base { BaseIsOfLog (base_in self.now.base) self.now.log_version }
         requires of_log { segment.now.segment.log_version ≡ self.now.log_version }
         ensures ok { IfOk result (DecidesAnswer (book_in self.now) segment.now) }
         ensures err { IfErr result (λ _. reply_to_answer (book_in self.now) segment.now ≡ spec.Accepted) }
@@ -160,7 +180,8 @@ impl Rows {
     fn decide_asking(&self) -> AuditDecision
         requires { IsReady (book_in self.now) }
         ensures { reply_in (audit_reply result) ≡ ask_reply self.now.log_version (exposed (book_in self.now))
-            self.now.end (length (book_in self.now).outbox) self.now.learned.items }
+            (start_number (base_in self.now.base)) self.now.end (length (book_in self.now).outbox)
+            self.now.learned.items }
     {
         if self.is_exposed() || self.learned.is_empty() {
             return AuditDecision::Refused(Refusal::NothingToAudit);
@@ -169,7 +190,7 @@ impl Rows {
         if last == 0 {
             return AuditDecision::Refused(Refusal::TooFar);
         }
-        if u64::from(MAX_AUDITED) < last {
+        if u64::from(MAX_AUDITED) < last.saturating_sub(start_number(&self.base)) {
             return AuditDecision::Refused(Refusal::BookFull);
         }
         if self.has_no_room_for(last.saturating_sub(self.end)) {
@@ -269,7 +290,7 @@ impl Rows {
 
     /// The evidence against the node, if it is exposed: shared, or made of the accepted segments.
     fn evidence(&self, alloc: Global) -> Result<Option<Arc<Evidence>>, AllocError>
-        requires { KeepsExposure self.now.log_version (segments_in self.now.segments.items) self.now.exposure }
+        requires { KeepsRows self.now }
         ensures { IfOk result (λ e. option_map arc_value e ≡ (book_in self.now).evidence) }
     {
         match &self.exposure {
@@ -278,6 +299,7 @@ impl Rows {
             Exposure::Replay(before, faulty) => {
                 let evidence = replayed_evidence(
                     alloc,
+                    &self.base,
                     self.log_version,
                     self.node,
                     &self.segments,
@@ -291,7 +313,7 @@ impl Rows {
 
     /// Of a question. That for the indication takes no memory.
     fn decide_ask(&self, alloc: Global, question: Question) -> Result<AskDecision, AllocError>
-        requires { KeepsExposure self.now.log_version (segments_in self.now.segments.items) self.now.exposure }
+        requires { KeepsRows self.now }
         ensures ok { IfOk result (DecidesAsk (book_in self.now) question) }
         ensures err { IfErr result (λ _. StepMayWant (steps.Ask (question_in question))) }
     {
@@ -307,7 +329,7 @@ impl Rows {
     pub fn decide(&self, alloc: Global, step: &Step) -> Result<Decision, AllocError>
         requires ready { IsReady (book_in self.now) }
         requires of_log { IsOfLog self.now.log_version (step_in step.now) }
-        requires keeps { KeepsExposure self.now.log_version (segments_in self.now.segments.items) self.now.exposure }
+        requires keeps { KeepsRows self.now }
         ensures ok { IfOk result (Decides (book_in self.now) step.now) }
         ensures owes { IfOk result
             (λ d. BookOwes (book_in self.now) (step_in step.now) (reply_in (reply_of step.now d))) }

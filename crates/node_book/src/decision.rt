@@ -13,6 +13,8 @@ use std::sync::Arc;
 pub(crate) enum LearnDecision {
     /// Its pair was shown before.
     Known,
+    /// Its number lies below the base.
+    Below,
     /// As many are kept as may be.
     Full,
     /// The node is exposed: nothing is kept.

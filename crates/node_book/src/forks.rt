@@ -5,7 +5,9 @@ ghost use Rattle.secure_log.specs.Marks.{mark_in};
 ghost use Rattle.secure_log.specs.Versioned.{segment_marks};
 ghost use Rattle.evidence_spec.specs.Showing.{authenticator_showing, versioned_showing};
 ghost use Rattle.evidence_spec.specs.Evidence as spec;
-ghost use Rattle.witness_spec.specs.Exposing.{fork_of, showing_before};
+ghost use Rattle.witness_spec.specs.Exposing.{fork_of, kept_before};
+ghost use Rattle.witness_spec.specs.Starting.{start_showing};
+ghost use Rattle.authenticator.specs.declared.member.LogVersion.{LogVersion};
 ghost use Rattle.witness_spec.specs.Pairs.{last_of, pair_of};
 ghost use Rattle.witness_spec.specs.Standing as standing;
 ghost use Rattle.witness_book_laws.specs.Answers.{answer_fork, least_from, least_with, lesser};
@@ -15,15 +17,16 @@ ghost use Rattle.witness_book_laws.specs.Going.{evidence_of, fork_evidence};
 ghost use Rattle.witness_book_laws.specs.LookUps.{is_other_hash};
 ghost use Rattle.witness_book_laws.specs.Ready.{IsReady};
 ghost use Rattle.node_book.specs.Looking.{HasWordsOf};
-ghost use Rattle.node_book.specs.Rows.{book_in};
+ghost use Rattle.node_book.specs.Rows.{BaseIsOfLog, base_in, book_in};
 
 use crate::looking::{ShownHash, learned_at, segment_holding};
 use crate::rows::Rows;
 use authenticator::{Authenticator, LogVersion, Number};
-use challenge::{Charge, Evidence, Fork, Showing};
+use challenge::{Base, Charge, Evidence, Fork, Showing};
 use replay_jobs::SharedSegment;
 use secure_log::{ClosedSegment, Mark};
 use std::alloc::{AllocError, Global};
+use std::sync::Arc;
 
 impl Rows {
     /// The evidence that an authenticator brings: a fork, where the book shows another mark at its number. It
@@ -35,6 +38,7 @@ impl Rows {
         authenticator: &Authenticator,
     ) -> Result<Option<Evidence>, AllocError>
         requires ready { IsReady (book_in self.now) }
+        requires base { BaseIsOfLog (base_in self.now.base) self.now.log_version }
         requires hidden { exposed (book_in self.now) ≡ false }
         ensures { IfOk result (λ e. e ≡ fork_evidence (book_in self.now)
             (authenticator_showing self.now.log_version authenticator.now)
@@ -59,6 +63,7 @@ impl Rows {
         segment: &SharedSegment,
     ) -> Result<Option<Evidence>, AllocError>
         requires ready { IsReady (book_in self.now) }
+        requires base { BaseIsOfLog (base_in self.now.base) self.now.log_version }
         requires hidden { exposed (book_in self.now) ≡ false }
         requires of_log { segment.now.segment.log_version ≡ self.now.log_version }
         requires asked { (book_in self.now).stage
@@ -94,26 +99,30 @@ impl Rows {
         number: Number,
     ) -> Result<Option<Evidence>, AllocError>
         requires fits { FitsTogether (book_in self.now) }
+        requires base { BaseIsOfLog (base_in self.now.base) self.now.log_version }
         requires words { HasWordsOf self.now.log_version new }
         ensures { IfOk result (λ e. e ≡ evidence_of (book_in self.now)
-            (fork_of self.now.log_version (book_in self.now).learned (book_in self.now).segments new number)) }
+            (fork_of (base_in self.now.base) self.now.log_version (book_in self.now).learned
+            (book_in self.now).segments new number)) }
     {
+        if let Some(old) = base_showing(alloc, &self.base, number.get())? {
+            return Ok(self.evidence_of_fork(number, old, Some(new)));
+        }
         if number.get() == 0 {
             return Ok(self.evidence_of_fork(Number::new(0), new, None));
         }
-        let Some(old) = self.showing_before(alloc, number.get())? else {
+        let Some(old) = self.showing_kept(alloc, number.get())? else {
             return Ok(None);
         };
         Ok(self.evidence_of_fork(number, old, Some(new)))
     }
 
-    /// What showed a hash at a number from 1 on: the learned authenticator with the number, else the accepted
-    /// segment that holds it. `AllocError` comes only where a growth was refused.
-    fn showing_before(&self, alloc: Global, number: u64) -> Result<Option<Showing>, AllocError>
+    /// What is kept that showed a hash at a number: the learned authenticator with the number, else the
+    /// accepted segment that holds it. `AllocError` comes only where a growth was refused.
+    fn showing_kept(&self, alloc: Global, number: u64) -> Result<Option<Showing>, AllocError>
         requires fits { FitsTogether (book_in self.now) }
-        requires some { 0 < number }
         ensures shown { IfOk result (λ s. s ≡
-            showing_before self.now.log_version (book_in self.now).learned (book_in self.now).segments number) }
+            kept_before self.now.log_version (book_in self.now).learned (book_in self.now).segments number) }
         ensures words { IfOk result (λ o. IfSome o (HasWordsOf self.now.log_version)) }
     {
         if let Some(authenticator) = learned_at(self.log_version, &self.learned, number) {
@@ -146,6 +155,27 @@ impl Rows {
                 b,
             }),
         )
+    }
+}
+
+/// A copy of the showing of a base, of a number up to the base's. `AllocError` comes only where a growth was
+/// refused.
+fn base_showing(
+    alloc: Global,
+    base: &Option<Arc<Base>>,
+    number: u64,
+) -> Result<Option<Showing>, AllocError>
+    ensures shown { IfOk result (λ s. s ≡ start_showing (base_in base.now) number) }
+    ensures words { (v : LogVersion) → BaseIsOfLog (base_in base.now) v →
+        IfOk result (λ o. IfSome o (HasWordsOf v)) }
+{
+    match base {
+        Some(base) if number <= base.at().get() => {
+            base.has_text();
+            let showing = base.showing().try_clone(alloc)?;
+            Ok(Some(showing))
+        }
+        Some(_) | None => Ok(None),
     }
 }
 

@@ -6,15 +6,17 @@ ghost use Rattle.secure_log.specs.Marks.{mark_in};
 ghost use Rattle.witness_spec.specs.Pairs.{last_of, number_of, pair_of, is_shown, is_fork};
 ghost use Rattle.witness_book_laws.specs.Books.{book_shown, exposed};
 ghost use Rattle.witness_book_laws.specs.Fitting.{FitsTogether};
-ghost use Rattle.witness_book_laws.specs.LookUps.{hash_shown};
+ghost use Rattle.witness_book_laws.specs.LookUps.{base_mark_at, hash_shown};
 ghost use Rattle.witness_book_laws.specs.Ready.{IsReady};
-ghost use Rattle.node_book.specs.Rows.{book_in, segments_in};
-ghost use Rattle.node_book.specs.Looking.{FollowOn, count_ended, is_another, is_the_same};
+ghost use Rattle.node_book.specs.Rows.{base_in, book_in, segments_in};
+ghost use Rattle.node_book.specs.Looking.{FollowOn, count_ended, hash_kept, is_another, is_the_same};
 
 use crate::rows::Rows;
 use authenticator::{Authenticator, LogVersion};
+use challenge::Base;
 use replay_jobs::SharedSegment;
 use secure_log::Mark;
+use std::sync::Arc;
 
 /// What a book shows at an authenticator's number: its hash, another mark, or nothing.
 #[derive(Clone, Copy)]
@@ -25,14 +27,27 @@ pub(crate) enum ShownHash {
 }
 
 impl Rows {
-    /// The mark that the book shows at a number: zeros at 0, else that in the accepted segment that holds the
+    /// The mark that the book shows at a number: the base's, if it has one there, else that of what is kept.
+    /// No memory is taken. Where the number lies between the base's first and its own, the base's links up to
+    /// there are hashed.
+    pub(crate) fn mark_shown(&self, number: u64) -> Option<Mark>
+        requires { FitsTogether (book_in self.now) }
+        ensures { option_map mark_in result ≡ hash_shown (book_in self.now) number }
+    {
+        match base_mark(&self.base, number) {
+            Some(mark) => Some(mark),
+            None => self.mark_kept(number),
+        }
+    }
+
+    /// The mark of what is kept at a number: zeros at 0, else that in the accepted segment that holds the
     /// number, else the hash of the learned authenticator with the number. It looks at the logarithm of how
     /// many segments and entries there are, or besides at each learned authenticator; nothing is hashed, and
     /// no memory taken.
     #[tactic(auto, unfolding(secure_log::specs::LogEntries::Chain::zeros))]
-    pub(crate) fn mark_shown(&self, number: u64) -> Option<Mark>
+    fn mark_kept(&self, number: u64) -> Option<Mark>
         requires { FitsTogether (book_in self.now) }
-        ensures { option_map mark_in result ≡ hash_shown (book_in self.now) number }
+        ensures { option_map mark_in result ≡ hash_kept (book_in self.now) number }
     {
         if number == 0 {
             return Some(Mark::Hash([0; 32]));
@@ -64,6 +79,16 @@ impl Rows {
     }
 }
 
+/// The mark of a base at a number, if there is a base and it has one there.
+fn base_mark(base: &Option<Arc<Base>>, number: u64) -> Option<Mark>
+    ensures { option_map mark_in result ≡ base_mark_at (base_in base.now) number }
+{
+    match base {
+        Some(base) => base.mark_at(number),
+        None => None,
+    }
+}
+
 /// How many segments, which follow on one another, end before a number.
 fn count_ended(segments: &[SharedSegment], number: u64) -> usize
     requires { FollowOn (segments_in segments.now) }
@@ -80,14 +105,13 @@ fn count_ended(segments: &[SharedSegment], number: u64) -> usize
     )
 }
 
-/// The segment that holds a number from 1 on, of some that follow on one another.
+/// The segment that holds a number, of some that follow on one another.
 pub(crate) fn segment_holding(segments: &[SharedSegment], number: u64) -> Option<&SharedSegment>
-    requires on { FollowOn (segments_in segments.now) }
-    requires some { 0 < number }
+    requires { FollowOn (segments_in segments.now) }
     ensures { option_map (λ s. s.now.segment) result ≡ segment_holding number (segments_in segments.now) }
 {
     let count = count_ended(segments, number);
-    if count < segments.len() {
+    if count < segments.len() && segments[count].closed().segment().first().get() <= number {
         Some(&segments[count])
     } else {
         None

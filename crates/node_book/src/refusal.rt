@@ -52,10 +52,13 @@ pub enum Refusal {
     /// A growth was refused.
     #[error("out of memory")]
     NoMemory,
+    /// It is of a number below all that the base shows from which the audit began.
+    #[error("it lies below the base")]
+    BelowBase,
 }
 
 impl Refusal {
-    /// The number that programs print, from 1 to 14.
+    /// The number that programs print, from 1 to 15.
     pub fn number(self) -> u32
         ensures { result ≡ refusal_number (refusal_in self) }
     {
@@ -74,6 +77,7 @@ impl Refusal {
             Refusal::WrongJob => 12,
             Refusal::BookFull => 13,
             Refusal::NoMemory => 14,
+            Refusal::BelowBase => 15,
         }
     }
 

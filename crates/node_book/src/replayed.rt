@@ -2,40 +2,97 @@
 
 ghost use Rattle.std.specs.Prelude.{◌≡◌, ◌++◌, ◌+◌, ◌≤◌, List, IfOk, length, take};
 ghost use Rattle.secure_log.specs.LogEntries.Chain.{Logged};
-ghost use Rattle.evidence_spec.specs.Evidence as charges;
+ghost use Rattle.evidence_spec.specs.Evidence.{charge_value, is_whole_charge};
+ghost use Rattle.secure_log.specs.Versioned.{is_whole_in, versioned_value};
+ghost use Rattle.witness_spec.specs.Exposing.{replay_from};
+ghost use Rattle.witness_spec.specs.Starting.{start_hash};
 ghost use Rattle.witness_spec.specs.Limits.{MAX_AUDITED};
-ghost use Rattle.node_book.specs.Rows.{ShowsLog, entries_of, replayed_log, segments_in};
+ghost use Rattle.node_book.specs.Rows.{BaseIsOfLog, ShowsLog, base_in, entries_of, first_shown, replayed_log, segments_in};
 ghost use Rattle.node_book.specs.Shown.{IsShown, counts_of};
 
-use authenticator::LogVersion;
-use challenge::{AuditedLog, Charge, Evidence};
+use authenticator::{LogVersion, Number};
+use challenge::{AuditedLog, Base, BasedReplay, Charge, Evidence};
 use replay_jobs::SharedSegment;
+use secure_log::LogStart;
 use secure_log::log_entries::{Entry, skipped_at};
 use std::alloc::{AllocError, Global};
+use std::sync::Arc;
 
-/// Evidence that a node's log of this version isn't honest: the log from its start, of the entries of the first
-/// `before` segments and of the faulty one, which closes it. Memory is that of one copy of these entries and of
-/// what is skipped before them, reserved once; each entry is also written once, into memory that is used again.
-/// `AllocError` comes only where a growth was refused.
+/// Evidence that a node's log of this version isn't honest: the log from where the audit began, of the entries
+/// of the first `before` segments and of the faulty one, which closes it; and the base, if it began at one. Memory is that of
+/// one copy of these entries and of what is skipped before them, reserved once, and of one of the base's text;
+/// each entry is also written once, into memory that is used again. `AllocError` comes only where a growth was
+/// refused.
 pub(crate) fn replayed_evidence(
     alloc: Global,
+    base: &Option<Arc<Base>>,
     version: LogVersion,
     node: u32,
     segments: &[SharedSegment],
     before: usize,
     faulty: &SharedSegment,
 ) -> Result<Evidence, AllocError>
-    requires { ShowsLog version (segments_in segments.now) before faulty.now.segment }
+    requires version { BaseIsOfLog (base_in base.now) version }
+    requires shows { ShowsLog (base_in base.now) version (segments_in segments.now) before
+        faulty.now.segment }
     ensures { IfOk result (λ e. e ≡ record {
       node = node;
-      charge = charges.Replay (replayed_log version node (segments_in segments.now) before
-          faulty.now.segment);
+      charge = replay_from (base_in base.now)
+          (replayed_log (base_in base.now) version node (segments_in segments.now) before faulty.now.segment);
     }) }
 {
     let shown = shown_of(alloc, &segments[..before], faulty)?;
+    let start = LogStart {
+        node,
+        first: first_shown(&segments[..before], faulty),
+        opening: start_hash(base),
+    };
     let closing = faulty.closed().segment().closing();
-    let log = AuditedLog::whole_log(alloc, version, node, shown.skips, shown.entries, closing)?;
-    Ok(Evidence::new(node, Charge::Replay(log)).unwrap())
+    let log = AuditedLog::log_from(alloc, version, start, shown.skips, shown.entries, closing)?;
+    let charge = charge_from(alloc, base, log)?;
+    Ok(Evidence::new(node, charge).unwrap())
+}
+
+/// The first number of the first of some segments, or that of another one where there are none.
+fn first_shown(segments: &[SharedSegment], other: &SharedSegment) -> Number
+    ensures { result ≡ first_shown (segments_in segments.now) other.now.segment }
+{
+    match segments.first() {
+        Some(segment) => segment.closed().segment().first(),
+        None => other.closed().segment().first(),
+    }
+}
+
+/// The hash where an audit from a base begins; 32 zero bytes without one.
+fn start_hash(base: &Option<Arc<Base>>) -> [u8; 32]
+    ensures { result ≡ start_hash (base_in base.now) }
+{
+    match base {
+        Some(base) => base.hash(),
+        None => [0; 32],
+    }
+}
+
+/// What a log is that a replay from a base finds a fault in, or one from a log's start without a base.
+/// `AllocError` comes only where a growth was refused.
+fn charge_from(
+    alloc: Global,
+    base: &Option<Arc<Base>>,
+    log: AuditedLog,
+) -> Result<Charge, AllocError>
+    requires { BaseIsOfLog (base_in base.now) log.log_version }
+    ensures charge { IfOk result (λ c. c ≡ replay_from (base_in base.now) log) }
+    ensures whole { IfOk result (λ c. is_whole_charge (charge_value c)
+        ≡ is_whole_in log.log_version (versioned_value log.log_version log)) }
+{
+    match base {
+        Some(base) => {
+            base.has_text();
+            let base = base.to_text(alloc)?;
+            Ok(Charge::Based(BasedReplay::new(base, log).unwrap()))
+        }
+        None => Ok(Charge::Replay(log)),
+    }
 }
 
 /// Entries, with how many numbers are skipped before each.

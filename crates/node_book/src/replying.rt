@@ -13,6 +13,7 @@ pub(crate) fn learn_reply<J, D>(decision: &LearnDecision) -> ReplyOf<J, D>
     ensures { result ≡ learn_reply decision.now }
 {
     match decision {
+        LearnDecision::Below => ReplyOf::Refused(Refusal::BelowBase),
         LearnDecision::Known => ReplyOf::Already,
         LearnDecision::Full => ReplyOf::Refused(Refusal::LearnedFull),
         LearnDecision::Ignored | LearnDecision::Noted(_) => ReplyOf::Noted,

@@ -6,7 +6,7 @@ ghost use Rattle.witness_book_laws.specs.Replying.{BookOwes};
 ghost use Rattle.node_book.specs.Deciding.{AddsOne, Decides, HasRoomFor, reply_of};
 ghost use Rattle.node_book.specs.Events.{step_in};
 ghost use Rattle.node_book.specs.Replies.{reply_in};
-ghost use Rattle.node_book.specs.Rows.{KeepsExposure, book_in, segments_in};
+ghost use Rattle.node_book.specs.Rows.{KeepsRows, book_in};
 ghost use Rattle.node_book.specs.Stepping.{MayRunOut};
 
 use crate::decision::{
@@ -22,6 +22,7 @@ impl Rows {
     /// none is taken, and the answer is `Ok`.
     fn make_room_for(&mut self, decided: &Decision) -> Result<(), AllocError>
         ensures stays { book_in self.new ≡ book_in self.old }
+        ensures base { self.new.base ≡ self.old.base }
         ensures segments { self.new.segments.items ≡ self.old.segments.items }
         ensures exposure { self.new.exposure ≡ self.old.exposure }
         ensures room { OnOk result (HasRoomFor self.new decided.now) }
@@ -44,9 +45,9 @@ impl Rows {
     pub fn prepare(&mut self, alloc: Global, step: &Step) -> Result<Decision, AllocError>
         requires ready { IsReady (book_in self.old) }
         requires of_log { IsOfLog self.old.log_version (step_in step.now) }
-        requires keeps { KeepsExposure self.old.log_version (segments_in self.old.segments.items) self.old.exposure }
+        requires keeps { KeepsRows self.old }
         ensures stays { book_in self.new ≡ book_in self.old }
-        ensures keeps { KeepsExposure self.new.log_version (segments_in self.new.segments.items) self.new.exposure }
+        ensures keeps { KeepsRows self.new }
         ensures decided { IfOk result (Decides (book_in self.new) step.now) }
         ensures owes { IfOk result
             (λ d. BookOwes (book_in self.new) (step_in step.now) (reply_in (reply_of step.now d))) }

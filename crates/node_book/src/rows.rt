@@ -1,8 +1,12 @@
 //! What a book holds in memory.
 
+ghost use Rattle.std.specs.Prelude.{◌≡◌};
+ghost use Rattle.witness_spec.specs.Starting.{start_number};
+ghost use Rattle.node_book.specs.Rows.{base_in};
+
 use crate::outbox::Outbox;
 use authenticator::{Authenticator, LogVersion, Number};
-use challenge::{Challenge, Evidence, SharedState};
+use challenge::{Base, Challenge, Evidence, SharedState};
 use replay_jobs::SharedSegment;
 use std::sync::Arc;
 
@@ -33,6 +37,8 @@ pub(crate) struct Rows {
     pub node: u32,
     /// The version of its log.
     pub log_version: LogVersion,
+    /// The base from which its audit began, if it did from one.
+    pub base: Option<Arc<Base>>,
     /// The last number that was audited, and the state there.
     pub end: u64,
     pub state: SharedState,
@@ -50,4 +56,14 @@ pub(crate) struct Rows {
     pub outbox: Outbox,
     /// What exposed the node.
     pub exposure: Exposure,
+}
+
+/// The number at which an audit from a base begins; 0 without one.
+pub(crate) fn start_number(base: &Option<Arc<Base>>) -> u64
+    ensures { result ≡ start_number (base_in base.now) }
+{
+    match base {
+        Some(base) => base.at().get(),
+        None => 0,
+    }
 }

@@ -3,5 +3,5 @@ use Rattle.challenge.proofs.good_base.check_base.Goals as goal
 
 pub returns-clause-only : goal.returns-clause-only
 returns-clause-only c =
-    λ b m s good. good_is_taken c.args.roster.now c.args.bytes.now (λ x. x.value) (λ x. x.member) c.checked_base.result
-    c.a_text_has_one_state.ensures.one c.checked_base.ensures b m s good
+    good_is_taken c.args.roster.now c.args.bytes.now (λ x. x.value) (λ x. x.member) c.checked_base.result
+    c.a_text_has_one_state.ensures.one c.checked_base.ensures

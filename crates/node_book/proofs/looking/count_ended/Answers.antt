@@ -12,7 +12,7 @@ pub returns-clause-count : goal.returns-clause-count
 returns-clause-count c =
     let n = c.args.number in
     let cs = c.args.segments.now in
-    let passes = pass_in_front n cs c.requires.next c.requires.tile in
+    let passes = pass_in_front c.requires.first n cs c.requires.next c.requires.tile in
     let parts = c.partition_point.ensures.partitioned (λ (s : ClosedParts). nat_lt (last_of s.segment) n)
     (always_returns_same _ _ _ (λ a r f k. search (rules, of_calls)))
     (is_partitioned (λ (s : ClosedParts). nat_lt (last_of s.segment) n) cs (count_ended n (segments_in cs)) passes) in

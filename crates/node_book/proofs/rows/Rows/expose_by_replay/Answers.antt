@@ -8,7 +8,7 @@ use Rattle.node_book.proofs.rows.Rows.expose_by_replay.Goals as goal
 pub returns-in-Nothing-clause-after : goal.returns-in-Nothing-clause-after
 returns-in-Nothing-clause-after c =
     let b = book_in c.args.self.now in
-    let none : b.evidence ≡ None = ap (λ e. evidence_in b.log_version b.node b.segments e) c.in-Nothing.is in
+    let none : b.evidence ≡ None = ap (λ e. evidence_in b.base b.log_version b.node b.segments e) c.in-Nothing.is in
     let is : c.all_but_one-before.result ≡ length b.segments - 1 =
     c.all_but_one-before.ensures ∙ ap (λ l. length (segments_in l) - 1) c.deref.ensures.value in
     ap (λ e. record b { evidence = e })
@@ -20,5 +20,5 @@ returns-in-Nothing-clause-keeps c =
     let b = book_in c.args.self.now in
     let is : c.all_but_one-before.result ≡ length b.segments - 1 =
     c.all_but_one-before.ensures ∙ ap (λ l. length (segments_in l) - 1) c.deref.ensures.value in
-    subst (λ n. ShowsLog b.log_version b.segments n c.args.segment.segment) (sym is)
+    subst (λ n. ShowsLog b.base b.log_version b.segments n c.args.segment.segment) (sym is)
     (faulted_shows b c.args.segment c.requires.ready.fits c.requires.ready.limits c.requires.out)

@@ -5,7 +5,7 @@ use Rattle.node_book.specs.Rows.{book_in, segments_in}
 use Rattle.node_book.specs.Looking.{FollowOn, HasWordsOf}
 use Rattle.node_book.proofs.ForkTexts.{alone_has_words}
 use Rattle.node_book.proofs.LookUps.{follow_on, of_the_log}
-use Rattle.node_book.proofs.rows.Rows.showing_before.Goals as goal
+use Rattle.node_book.proofs.rows.Rows.showing_kept.Goals as goal
 
 pub segment_holding-requires-clause-on : goal.segment_holding-requires-clause-on
 segment_holding-requires-clause-on c =

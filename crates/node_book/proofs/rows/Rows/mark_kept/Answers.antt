@@ -6,7 +6,7 @@ use Rattle.witness_spec.specs.Exposing.{segment_holding}
 use Rattle.node_book.specs.Rows.{book_in, segments_in}
 use Rattle.node_book.specs.Looking.{FollowOn}
 use Rattle.node_book.proofs.LookUps.{follow_on, held_in, held_out}
-use Rattle.node_book.proofs.rows.Rows.mark_shown.Goals as goal
+use Rattle.node_book.proofs.rows.Rows.mark_kept.Goals as goal
 
 pub segment_holding-requires-clause-on : goal.segment_holding-requires-clause-on
 segment_holding-requires-clause-on c =
