@@ -1,8 +1,8 @@
 -- What is said of a file with a base, by more bytes of it than such a file has.
 -- Serves: judge_base.
-use Rattle.std.proofs.Common.{◌≡◌, ◌∙◌, ℕ, ◌+◌, ◌<◌, ◌≤◌, List, [], ◌++◌, length, Ok, Err, Some, None, refl, ap, arith, subst, sym}
-use Rattle.std.proofs.Common.{append_assoc}
-use Rattle.std.specs.Prelude.{Result, inl, inr, ◌⊎◌}
+use Rattle.std.proofs.Common.{◌≡◌, ◌∙◌, ℕ, ◌<◌, List, [], ◌++◌, length, Ok, Err, Some, refl, ap, arith, subst, sym}
+use Rattle.std.proofs.Common.{append_assoc, inl, inr}
+use Rattle.std.specs.Prelude.{Result}
 use Rattle.std.proofs.lemmas.List.{length-append}
 use Rattle.xdr.specs.Item.{IsBytes, Value, spelling}
 use Rattle.xdr.specs.Reading.{read_at}
@@ -16,7 +16,7 @@ use Rattle.challenge.specs.evidence_spec.Base.{base_item, base_text}
 use Rattle.challenge.specs.BaseFiles.{ChecksFile, ChecksRest, HasNoRoster, HasRoster}
 use Rattle.challenge.specs.KnownBases.{ChecksBase, KnownBase}
 use Rattle.console.specs.Bases.{HoldsBase, IsRefused}
-use Rattle.console.specs.Contents.{IsFront, IsMoreThan}
+use Rattle.console.specs.Contents.{IsFront}
 use Rattle.console.proofs.Fronts.{none_unless, text_read}
 use Rattle.console.proofs.Lengths.{base_up, roster_up}
 use Rattle.console.proofs.Locals.{roster_local}

@@ -1,10 +1,10 @@
 -- What is read of a roster depends on its own bytes alone, whatever stands after them.
 -- Serves: judge_base by way of BaseFiles.
 use Rattle.std.proofs.Common.{◌≡◌, ◌∙◌, ℕ, zero, suc, ◌+◌, ◌-◌, ◌*◌, ◌%◌, ◌≤◌, Bool, true, false, cond, ltb, eqb}
-use Rattle.std.proofs.Common.{List, [], ◌∷◌, ◌++◌, ◌==◌, length, take, drop, Ok, Err, refl, sym, ap, arith, lit≤}
+use Rattle.std.proofs.Common.{List, [], ◌∷◌, ◌++◌, ◌==◌, length, take, drop, Ok, Err, refl, sym, ap, arith}
 use Rattle.std.specs.List.{list_all}
 use Rattle.std.proofs.lemmas.Bool.{ltb-false, le-ltb}
-use Rattle.std.proofs.lemmas.List.{length-append, length-drop, take-append-le, drop-append-le}
+use Rattle.std.proofs.lemmas.List.{length-drop, take-append-le, drop-append-le}
 use Rattle.std.proofs.lemmas.Nat.{mul-le}
 use Rattle.byteorder.specs.Endian.{big_number}
 use Rattle.byteorder.specs.Numbers.{big_from-append}
@@ -15,7 +15,7 @@ use Rattle.xdr.proofs.Front.{bind_ok, guard_ok, guard_true, ok_is}
 use Rattle.authenticator.specs.declared.roster.TheConstants.{SECOND_FORM}
 use Rattle.authenticator.specs.Roster.{member_item, members_item, roster_item, versioned_item, is_node, is_kind}
 use Rattle.authenticator.specs.Roster.{is_height, is_log, is_roster_word}
-use Rattle.console.proofs.Lengths.{TakesUpTo, at_most, number_just, tested_just, fixed_just, pair_up, items_up}
+use Rattle.console.proofs.Lengths.{TakesUpTo, at_most, number_just, tested_just, fixed_just, pair_up}
 use Rattle.console.proofs.Lengths.{few_members}
 
 -- Where so many bytes are there, reading gives the same value with more bytes after them, and leaves those, too.
@@ -124,6 +124,12 @@ items_local {A} read n up local (suc count) bytes more x long e =
       sym (ap (λ (r : List A × List ℕ). r.1) same) ∙ others.2,
     )
 
+-- an array is read by its count and its items
+array_is : (max : ℕ) (a : Item) (bytes after : List ℕ) (count : ℕ) (r : Read (List (Value a)))
+    → number_at 4 bytes ≡ Ok (count, after) → ltb max count ≡ false → items_at (read_at a) count after ≡ r
+    → read_at (array max a) bytes ≡ r
+array_is max a bytes after count r number few items = rw (number, few) items
+
 array_local : (max : ℕ) (a : Item) (n : ℕ) → TakesUpTo n (read_at a) → IsLocal n (read_at a)
     → IsLocal (4 + max * n) (read_at (array max a))
 array_local max a n up local bytes more x long e =
@@ -136,7 +142,13 @@ array_local max a n up local bytes more x long e =
     let room : p.0.0 * n ≤ length first.0 = omega (arith, long, few, front) in
     let items = items_local (read_at a) n up local p.0.0 first.0 more x room
     (ap (items_at (read_at a) p.0.0) (sym first.2) ∙ g.1) in
-    (items.0, rw (first.1, g.0) items.1, items.2)
+    (items.0, array_is max a bytes first.0 p.0.0 (Ok (x.0, items.0)) first.1 g.0 items.1, items.2)
+
+-- a choice by its number and what stands after it
+choice_is : (known : ℕ → Bool) (body : ℕ → Item) (bytes after rest : List ℕ) (k : ℕ) (v : Value (body k))
+    → number_at 4 bytes ≡ Ok (k, after) → known k ≡ true → read_at (body k) after ≡ Ok (v, rest)
+    → read_at (choice known body) bytes ≡ Ok ((k, v), rest)
+choice_is known body bytes after rest k v number is_known read = rw (number, is_known, read) refl
 
 choice_local : (known : ℕ → Bool) (body : ℕ → Item) (n : ℕ)
     → ((k : ℕ) → known k ≡ true → IsLocal n (read_at (body k)))
@@ -153,9 +165,9 @@ choice_local known body n local bytes more x long e =
     let room : n ≤ length first.0 = omega (arith, long, front) in
     let second = local p.0.0 g.0 first.0 more q.0 room (ap (read_at (body p.0.0)) (sym first.2) ∙ q.1) in (
       second.0,
-      rw (first.1, g.0, second.1)
-          (ap (λ (v : Value (choice known body)). Ok (v, second.0))
-          (ap (λ (r : Value (choice known body) × List ℕ). r.0) same)),
+      choice_is known body bytes first.0 second.0 p.0.0 q.0.0 first.1 g.0 second.1
+          ∙ ap (λ (v : Value (choice known body)). Ok (v, second.0))
+          (ap (λ (r : Value (choice known body) × List ℕ). r.0) same),
       sym (ap (λ (r : Value (choice known body) × List ℕ). r.1) same) ∙ second.2,
     )
 

@@ -47,8 +47,8 @@ fn judge_base(alloc: Global, bytes: &[u8]) -> Result<BaseJudgement, AllocError>
             node: base.value().showing().node(),
             at: base.value().at().get(),
         }),
-        Err(Refusal::NoMemory) => Err(AllocError),
-        Err(refusal) => Ok(BaseJudgement::NoBase(refusal)),
+        Err(refusal) if refusal != Refusal::NoMemory => Ok(BaseJudgement::NoBase(refusal)),
+        Err(_) => Err(AllocError),
     }
 }
 

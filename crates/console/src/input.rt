@@ -178,7 +178,10 @@ pub(crate) fn read_front<R: Read>(
     let mut bytes = Vec::new(alloc);
     let mut piece = [0; PIECE];
     for _ in 0..u64::MAX {
-        if bytes.len() > most || !read_piece(reader, &mut piece, &mut bytes)? {
+        if bytes.len() > most {
+            return Ok(bytes);
+        }
+        if !read_piece(reader, &mut piece, &mut bytes)? {
             return Ok(bytes);
         }
     }
