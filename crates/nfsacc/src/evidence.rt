@@ -1,4 +1,4 @@
-//! `nfsacc check` and `nfsacc roster`.
+//! `nfsacc check`, `nfsacc roster` and `nfsacc base`.
 
 use crate::devices::Remembering;
 use crate::{
@@ -6,7 +6,8 @@ use crate::{
 };
 use command_line::{CheckRequest, state_number};
 use console::{
-    CheckFault, Detail, Format, Judgement, Reason, Roster, check, read_roster, write_roster,
+    BaseJudgement, CheckFault, Detail, Format, Judgement, Reason, Roster, check, check_base,
+    read_roster, write_roster,
 };
 use rpc::records::Counting;
 use shown_names::ShownName;
@@ -191,6 +192,40 @@ where
             Err(without)
         }
         Err(fault) => Err(report_check(rt, name, fault)),
+    }
+}
+
+/// Says on standard output whether a file, or standard input, holds a base, and gives the status for it.
+pub fn check_base_file<R>(rt: &R, name: &str) -> u8
+where
+    R: Files + Input + Print + Eprint + AllocGlobal,
+{
+    if name == DASH {
+        return check_base_input(rt, rt.reader(), STANDARD_INPUT);
+    }
+    match fs::open(rt, name) {
+        Ok(file) => check_base_input(rt, file, name),
+        Err(error) => report_file(rt, name, &error),
+    }
+}
+
+/// Checks the base in what is read under a name.
+fn check_base_input<R, I>(rt: &R, input: I, name: &str) -> u8
+where
+    R: Print + Eprint + AllocGlobal,
+    I: Read + Drop,
+{
+    let mut reader = Counting::new(input);
+    let mut writer = Counting::new(Remembering::new(io::writer(rt)));
+    match check_base(rt.alloc(), &mut reader, &mut writer) {
+        Ok(BaseJudgement::Base { .. }) => 0,
+        Ok(BaseJudgement::NoBase(refusal)) => {
+            let shown = ShownName::new(name);
+            let _ = eprintln!(rt; "nfsacc: {shown}: no base: {refusal}");
+            INPUT_FAULT
+        }
+        Err(CheckFault::Write) => report_output(rt, writer.get_ref().last()),
+        Err(fault) => report_check(rt, name, fault),
     }
 }
 

@@ -16,7 +16,7 @@ mod words;
 use command_line::{Request, RunRequest, ServeRefusal, parse, serve_order};
 use devices::Remembering;
 use errors::TimedErrors;
-use evidence::{check_file, show_roster};
+use evidence::{check_base_file, check_file, show_roster};
 use rpc::records::{Counting, RecordFault, RecordReader};
 use rpc_streams::run_rpc;
 use scripts::{ScriptEnd, ScriptFault, ScriptFiles, run_script};
@@ -35,7 +35,7 @@ use std::{fs, io};
 use words::{report_words, words_of};
 
 /// The status of the program, beside 0, for a fault in the input: the records end with one, a file is no
-/// evidence or has no roster, or a script has a bad line.
+/// evidence or has no roster or no base, or a script has a bad line.
 pub(crate) const INPUT_FAULT: u8 = 1;
 
 /// The words of the command line ask for nothing that there is.
@@ -225,6 +225,7 @@ fn main(rt: HostRuntime) -> ExitCode {
         Ok(Request::Rpc) => rpc(&rt),
         Ok(Request::Check(request)) => check_file(&rt, request),
         Ok(Request::Roster(name)) => show_roster(&rt, name),
+        Ok(Request::Base(name)) => check_base_file(&rt, name),
         Ok(Request::Run(request)) => run_file(&rt, request),
         Ok(Request::Serve(request)) => match serve_order(&request) {
             Ok(order) => match open(&rt, &order) {
