@@ -30,7 +30,8 @@ said_is() {
 check_stories() {
     local story
     for story in lie later_lie fork accusation challenged challenges no_keys last_keys any_order nothing times round flood \
-        gaps/honest gaps/lie gaps/skips; do
+        gaps/honest gaps/lie gaps/skips bases/joins bases/another_check bases/lie bases/earlier_lie bases/below bases/without_base \
+        bases/last_check bases/challenged bases/again bases/gaps; do
         : > in
         run 0 run "$stories/$story.script"
         cmp -s out "$stories/$story.printed" || fail "$story: it printed" out
@@ -49,7 +50,26 @@ check_stories() {
     run 0 check gaps_lie.evidence
     [ "$(cat out)" = 'exposed 1' ] || fail 'the evidence of the lie after a gap' out
     [ ! -e none.evidence ] || fail 'there is evidence of a false accusation' out
-    echo 'sixteen stories print what they should, and leave evidence where somebody is exposed'
+    echo 'twenty-six stories print what they should, and leave evidence where somebody is exposed'
+}
+
+# Evidence of a lie after a base is accepted as it is; with the last name in the base's state changed there is none. A client
+# gives no base, and a line that would have it log a CHECK is bad.
+check_bases() {
+    local at
+    run 0 check base_lie.evidence
+    [ "$(cat out)" = 'exposed 1' ] || fail 'the evidence of a lie after a base' out
+    cp base_lie.evidence changed.evidence
+    at=$(LC_ALL=C grep -abo hello base_lie.evidence | tail -n 1)
+    printf i | dd of=changed.evidence bs=1 seek="${at%%:*}" conv=notrunc status=none
+    [ "$(cmp -l base_lie.evidence changed.evidence | wc -l)" -eq 1 ] || fail 'more than a byte was changed' said
+    run 1 check changed.evidence
+    [ "$(cat out)" = 'no evidence' ] || fail 'evidence with another state in its base' out
+    grep -v '^#' "$stories/bases/client.script" > in
+    run 1 run -
+    said_is 'line 7: bad'
+    cmp -s out "$stories/bases/client.printed" || fail 'a client gives no base: it printed' out
+    echo "evidence that rests on a base holds for that state alone, and a client gives no base"
 }
 
 # Lines that are bad, as the first one and after others; one of a megabyte; thousands that are passed over before one.
@@ -277,6 +297,7 @@ check_answers_at_once() {
 
 for program in "${made[@]}"; do
     check_stories
+    check_bases
     check_bad_lines
     check_ends
     check_roster
