@@ -50,9 +50,9 @@ use Rattle.witness_node_laws.specs.Logs.{IsListedAs, MayBegin, ShowsItsOwn}
 
 -- ---- who is never exposed
 
--- A node that didn't stray is never exposed by a witness that begins under its roster, with whatever bases,
--- where none of its signatures is forged and no two texts have one digest: with a base of the node, also none of
--- the states that its log comes to.
+-- A node that didn't stray is never exposed by a witness that begins under its roster, with whatever
+-- bases, where none of its signatures is forged and no two texts have one digest. With a base of the node
+-- the texts of the states that its log comes to are among them.
 abbrev pub IsNeverExposed : NodeParts → Type 0
 IsNeverExposed n =
     n.strayed ≡ false → (g : Beginning) (m : Member) (history : History)
@@ -63,8 +63,8 @@ IsNeverExposed n =
     → NoCollisionWith w n.entries (opening_of m ∷ log.states) (own_of w history))
     → indication w (own_of w history) ≢ Exposed
 
--- Nor is it where the witness has no base of it, all that it was shown of the node's log is what the node itself
--- showed, and no two texts of that log have one digest. Nothing is supposed of signatures.
+-- Nor is it where the witness has no base of it, all that it was shown of the node's log is what the node
+-- itself showed, and no two texts of that log have one digest. Nothing is supposed of signatures.
 abbrev pub OwnWordsNeverExpose : NodeParts → Type 0
 OwnWordsNeverExpose n =
     n.strayed ≡ false → (g : Beginning) (m : Member) (history : History)
@@ -111,9 +111,9 @@ AskedCanBeAnswered =
     → MayBegin n.log_version n.entries first
     → RefusesChallenge n first last fault → fault ≡ NoMemory
 
--- So it does where the roster gives its log the version that it has, the witness has no base of it, and all that
--- it was shown of its log is what the node itself showed: then an audit asks from after an entry on, up to a number
--- at which the node signed.
+-- So it does where the roster gives its log the version that it has, the witness has no base of it, and all
+-- that it was shown of its log is what the node itself showed: then an audit asks from after an entry on, up
+-- to a number at which the node signed.
 abbrev pub OwnWordsCanBeAnswered : NodeParts → Type 0
 OwnWordsCanBeAnswered n =
     (g : Beginning) (w : Watched) (history : History) (first last : ℕ) (fault : SegmentFault)
