@@ -3,7 +3,7 @@
 ghost use Rattle.std.specs.Prelude.{◌≡◌, ℕ, List, IfErr, IfOk, IfSome, IsErrOf, OnOk, string_bytes};
 ghost use Rattle.std.specs.Io.KnownBytes.{Appends};
 ghost use Rattle.rpc.specs.Records.Count.{Rises};
-ghost use Rattle.console.specs.Bases.{JudgesBase, TellsBasePart, base_line};
+ghost use Rattle.console.specs.Bases.{HoldsBase, IsRefused, JudgesBase, TellsBasePart, base_line};
 ghost use Rattle.console.specs.Checking.{IsRead};
 ghost use Rattle.console.specs.Contents.{IsFront};
 ghost use Rattle.console.specs.declared.bases.TheConstants.{LONGEST_BASE};
@@ -11,8 +11,8 @@ ghost use Rattle.console.specs.declared.fault.CheckFault.TheVariants.{NoMemory, 
 
 use crate::fault::CheckFault;
 use crate::input::read_front;
-use authenticator::Refusal;
-use challenge::check_base_file;
+use authenticator::{Checked, Refusal};
+use challenge::{Base, check_base_file};
 use rpc::records::{Counting, write_bytes};
 use secure_log::are_bytes;
 use std::alloc::{AllocError, Global};
@@ -35,21 +35,71 @@ pub enum BaseJudgement {
     NoBase(Refusal),
 }
 
-/// What is said of bytes with which a file begins: of all, or of more than a file with a base has.
-/// `AllocError` comes only where a growth was refused.
-fn judge_base(alloc: Global, bytes: &[u8]) -> Result<BaseJudgement, AllocError>
-    ensures { (input : List ℕ) → IsFront LONGEST_BASE bytes.now input →
-        IfOk result (λ judgement. JudgesBase input judgement) }
+/// The base that a file holds which begins with these bytes: with all, or with more than a file with a base
+/// has; or why it holds none, which is never `NoMemory`. `AllocError` comes only where a growth was refused.
+fn base_in(alloc: Global, bytes: &[u8]) -> Result<Result<Checked<Base>, Refusal>, AllocError>
+    ensures base { (input : List ℕ) → IsFront LONGEST_BASE bytes.now input →
+        IfOk result (λ held. IfOk held (λ b. HoldsBase input b.value.showing.node b.value.at)) }
+    ensures none { (input : List ℕ) → IsFront LONGEST_BASE bytes.now input →
+        IfOk result (λ held. IfErr held (λ refusal. IsRefused input refusal)) }
 {
     are_bytes(bytes);
     match check_base_file(alloc, bytes) {
-        Ok(base) => Ok(BaseJudgement::Base {
-            node: base.value().showing().node(),
-            at: base.value().at().get(),
-        }),
-        Err(refusal) if refusal != Refusal::NoMemory => Ok(BaseJudgement::NoBase(refusal)),
+        Ok(base) => Ok(Ok(base)),
+        Err(refusal) if refusal != Refusal::NoMemory => Ok(Err(refusal)),
         Err(_) => Err(AllocError),
     }
+}
+
+/// Reads a file to its end, or to more bytes than a roster with a base after it can have, and answers the base
+/// in it as `challenge::check_base_file` does, or why it holds none, which is never `NoMemory`. `Read` comes
+/// where a read failed, and then the reader's count rose; `NoMemory` where memory was refused; never `Write`.
+pub fn read_base<R: Read>(
+    alloc: Global,
+    reader: &mut Counting<R>,
+) -> Result<Result<Checked<Base>, Refusal>, CheckFault>
+    ensures base { IfOk result (λ held. IfOk held (λ b. IfSome (R.remaining reader.old.inner) (λ input.
+        HoldsBase input b.value.showing.node b.value.at))) }
+    ensures none { IfOk result (λ held. IfErr held (λ refusal. IfSome (R.remaining reader.old.inner) (λ input.
+        IsRefused input refusal))) }
+    ensures kept { OnOk result (reader.new.count ≡ reader.old.count) }
+    ensures memory { IsErrOf result NoMemory → reader.new.count ≡ reader.old.count }
+    ensures read { IfErr result (λ e. IsRead e → Rises reader.old.count reader.new.count) }
+    ensures write { ¬ IsErrOf result Write }
+{
+    let bytes = read_front(alloc, LONGEST_BASE, reader)?;
+    let held = base_in(alloc, &bytes)?;
+    Ok(held)
+}
+
+/// What is said of the base that a file holds, or of why it holds none.
+fn judgement_of(held: &Result<Checked<Base>, Refusal>) -> BaseJudgement
+    ensures base { IfOk held.now (λ b. result ≡ BaseJudgement.Base b.value.showing.node b.value.at) }
+    ensures none { IfErr held.now (λ refusal. result ≡ BaseJudgement.NoBase refusal) }
+{
+    match held {
+        Ok(base) => BaseJudgement::Base {
+            node: base.value().showing().node(),
+            at: base.value().at().get(),
+        },
+        Err(refusal) => BaseJudgement::NoBase(*refusal),
+    }
+}
+
+/// What is said of a file that is read as by `read_base`.
+fn read_judgement<R: Read>(
+    alloc: Global,
+    reader: &mut Counting<R>,
+) -> Result<BaseJudgement, CheckFault>
+    ensures judged { IfOk result (λ judgement. IfSome (R.remaining reader.old.inner) (λ input.
+        JudgesBase input judgement)) }
+    ensures kept { OnOk result (reader.new.count ≡ reader.old.count) }
+    ensures memory { IsErrOf result NoMemory → reader.new.count ≡ reader.old.count }
+    ensures read { IfErr result (λ e. IsRead e → Rises reader.old.count reader.new.count) }
+    ensures write { ¬ IsErrOf result Write }
+{
+    let held = read_base(alloc, reader)?;
+    Ok(judgement_of(&held))
 }
 
 /// The line that says it.
@@ -86,8 +136,7 @@ pub fn check_base<R: Read, W: Write>(
         → TellsBasePart (R.remaining reader.old.inner) (W.contents writer.old.inner) (W.contents writer.new.inner)
         × Rises writer.old.count writer.new.count × (reader.new.count ≡ reader.old.count) }
 {
-    let bytes = read_front(alloc, LONGEST_BASE, reader)?;
-    let judgement = judge_base(alloc, &bytes)?;
+    let judgement = read_judgement(alloc, reader)?;
     let line = base_line(alloc, judgement)?;
     match write_bytes(writer, line.as_bytes()) {
         Ok(()) => Ok(judgement),

@@ -7,8 +7,9 @@ mod fault;
 mod input;
 mod rosters;
 
-pub use authenticator::{Refusal, Roster};
-pub use bases::{BaseJudgement, check_base};
+pub use authenticator::{Checked, Refusal, Roster};
+pub use bases::{BaseJudgement, check_base, read_base};
+pub use challenge::Base;
 pub use checking::{Format, Judgement, Reason, check, judge};
 pub use explain::{Detail, Lack};
 pub use fault::CheckFault;

@@ -6,8 +6,8 @@ use crate::{
 };
 use command_line::{CheckRequest, state_number};
 use console::{
-    BaseJudgement, CheckFault, Detail, Format, Judgement, Reason, Roster, check, check_base,
-    read_roster, write_roster,
+    Base, BaseJudgement, CheckFault, Checked, Detail, Format, Judgement, Reason, Roster, check,
+    check_base, read_base, read_roster, write_roster,
 };
 use rpc::records::Counting;
 use shown_names::ShownName;
@@ -226,6 +226,39 @@ where
         }
         Err(CheckFault::Write) => report_output(rt, writer.get_ref().last()),
         Err(fault) => report_check(rt, name, fault),
+    }
+}
+
+/// The base in a file, or on standard input, or the status: where it holds none that is said on standard
+/// error.
+pub fn read_base_file<R>(rt: &R, name: &str) -> Result<Checked<Base>, u8>
+where
+    R: Files + Input + Eprint + AllocGlobal,
+{
+    if name == DASH {
+        return base_of(rt, rt.reader(), STANDARD_INPUT);
+    }
+    match fs::open(rt, name) {
+        Ok(file) => base_of(rt, file, name),
+        Err(error) => Err(report_file(rt, name, &error)),
+    }
+}
+
+/// The base in what is read under a name.
+fn base_of<R, I>(rt: &R, input: I, name: &str) -> Result<Checked<Base>, u8>
+where
+    R: Eprint + AllocGlobal,
+    I: Read + Drop,
+{
+    match read_base(rt.alloc(), &mut Counting::new(input)) {
+        Ok(Ok(base)) => Ok(base),
+        Ok(Err(refusal)) => {
+            let shown = ShownName::new(name);
+            let number = refusal.number().unwrap_or(0);
+            let _ = eprintln!(rt; "nfsacc: {shown}: refused {number}");
+            Err(INPUT_FAULT)
+        }
+        Err(fault) => Err(report_check(rt, name, fault)),
     }
 }
 
