@@ -6,5 +6,5 @@ use Rattle.witness_books.proofs.runs.run.Goals as goal
 
 pub returns-in-Ok-clause-witnessed : goal.returns-in-Ok-clause-witnessed
 returns-in-Ok-clause-witnessed c =
-    is_witnessed c.runs_are_histories.ensures.opening c.args.books.now c.run_all.new.books
+    is_witnessed c.runs_are_histories.ensures.starting c.args.books.now c.run_all.new.books
     (map event_in c.args.events.items) (map reply_in c.run_all.result.items) c.run_all.ensures.runs
