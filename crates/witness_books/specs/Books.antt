@@ -1,6 +1,8 @@
 -- What a witness's books say: those of all members of a roster, each from its base if it has one.
 use Rattle.std.specs.Prelude.{◌≡◌, ℕ, Bool, true, false, List, map, refl}
-use Rattle.std.specs.Arc.{Arc, arc_value}
+use Rattle.std.specs.Arc.{arc_value}
+use Rattle.std.specs.Global.{Global}
+use Rattle.std.specs.declared.sync.Arc.{Arc}
 use Rattle.std.specs.Coded.{Coded, code_by, coded×, coded_list}
 use Rattle.authenticator.specs.Roster.{IsRoster}
 use Rattle.authenticator.specs.declared.member.Member.{Member}
@@ -37,7 +39,7 @@ abbrev pub beginning_of : BooksParts → Beginning
 beginning_of b = record { roster = b.roster; bases = b.bases }
 
 -- bases as they are shared
-abbrev pub bases_in : List (Arc bases.KnownBase) → List KnownBase
+abbrev pub bases_in : List (Arc bases.KnownBase Global) → List KnownBase
 bases_in shared = map (λ b. known_in (arc_value b)) shared
 
 -- the books, as what they must hold is said

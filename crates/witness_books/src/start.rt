@@ -167,7 +167,8 @@ pub(crate) fn share_bases(
     ensures { IfOk result (λ shared. bases_in shared.items ≡ map (λ c. known_in c.value) bases.items) }
 {
     let mut shared = Vec::with_capacity(alloc, bases.len())?;
-    for base in bases {
+    let mut rest = bases.into_iter();
+    'bases: while let Some(base) = rest.next() {
         match Arc::new(alloc, base.into_value()) {
             Ok(base) => shared.push(base)?,
             Err(_) => return Err(AllocError),
