@@ -1,15 +1,15 @@
 -- Where a book begins: what its base shows.
 -- Serves: base_mark, base_showing, start_hash.
-use Rattle.std.proofs.Common.{◌≡◌, ℕ, Bool, true, false, ◌==◌, List, [], ◌∷◌, find, Option, Some, None, inl, inr}
+use Rattle.std.proofs.Common.{◌≡◌, ℕ, Bool, true, false, ◌==◌, List, [], ◌∷◌, Option, Some, None, inl, inr}
 use Rattle.std.proofs.Common.{refl, sym, ap, subst, ◌∙◌, ◌-◌}
-use Rattle.std.specs.Prelude.{◌↔◌, ◌⊎◌, IsTrue, nat_le, option_map}
+use Rattle.std.specs.Prelude.{◌↔◌, ◌⊎◌, IsTrue, nat_le}
 use Rattle.std.proofs.lemmas.Bool.{eq-eqb, eqb-true}
 use Rattle.authenticator.specs.declared.member.LogVersion.{LogVersion}
 use Rattle.authenticator.specs.declared.member.LogVersion.TheVariants.{One, Two}
 use Rattle.secure_log.specs.LogEntries.Chain.{IsAmong}
 use Rattle.secure_log.specs.Marks.{mark_among}
 use Rattle.secure_log.proofs.OfLogEntries.Marks.{one_mark}
-use Rattle.evidence_showings.specs.Bases.{HasBaseText}
+use Rattle.challenge.specs.evidence_showings.Bases.{HasBaseText}
 use Rattle.evidence_spec.specs.Base.{BaseParts, base_by, base_marks, base_text}
 use Rattle.evidence_spec.specs.Showing.{links_follow, links_in, showing_marks, showing_value}
 use Rattle.evidence_spec.proofs.Gaps.{shown_after}
