@@ -14,6 +14,12 @@ use Rattle.secure_log.specs.LogEntries.Chain.{IsAmong}
 use Rattle.node_book.specs.Rows.{BaseIsOfLog, known_in}
 use Rattle.node_book.proofs.witness_book_laws.Histories.{base_known, its_member}
 use Rattle.node_book.specs.witness_spec.Starting.{KnownBase, Beginning, IsBeginning, IsBaseAt, node_of}
+use Rattle.node_book.specs.witness_spec.Contract.{starting_books}
+use Rattle.node_book.specs.witness_book_laws.Books.{Book, parts_of}
+use Rattle.node_book.specs.witness_book_laws.Ready.{AreReady}
+use Rattle.node_book.specs.witness_book_laws.ReadyLaws.{StartingBooksAreReady}
+use Rattle.witness_books.specs.Books.{KeepsBooks, books_at_first}
+use Rattle.witness_books.proofs.Witnessed.{starting_same}
 use Rattle.witness_books.specs.Starts.{AreApart, base_at, handed, handed_bases}
 
 -- ---- bases that are apart
@@ -132,3 +138,16 @@ unfolding IsDistinct
 none_begin ms bs none =
     subst (λ (l : List KnownBase). IsBeginning (record { roster = ms; bases = l })) (sym none)
     (record { known = tt; apart = tt })
+
+-- what the type of books keeps holds at first
+pub keeps_first : StartingBooksAreReady → (g : Beginning) (books : List Book) → IsRoster g.roster → IsBeginning g
+    → books ≡ books_at_first g → KeepsBooks (record { roster = g.roster; bases = g.bases; books = books })
+keeps_first law g books roster begins are = record {
+  roster = roster;
+  ready = subst (AreReady g) (sym are) (law g roster begins);
+}
+
+-- so does what the contract of books says
+pub first_parts : (g : Beginning) (books : List Book) → books ≡ books_at_first g
+    → map parts_of books ≡ starting_books g
+first_parts g books are = ap (map parts_of) are ∙ starting_same g

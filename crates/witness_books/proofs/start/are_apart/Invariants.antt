@@ -1,8 +1,6 @@
-use Rattle.std.proofs.Common.{◌≡◌, ◌==◌, ◌↔◌, IsTrue, List, map, drop, take}
-use Rattle.std.specs.List.{AllByRecursion, IsDistinct, list_any}
+use Rattle.std.proofs.Common.{◌↔◌, map, drop}
 use Rattle.node_book.specs.Rows.{known_in}
-use Rattle.node_book.specs.witness_spec.Starting.{IsOfSome, node_of}
-use Rattle.witness_books.specs.Starts.{AreApart, AreOfRoster, base_at, handed}
+use Rattle.witness_books.specs.Starts.{AreApart}
 use Rattle.witness_books.proofs.start.are_apart.Given as goal
 
 abbrev pub invariant-loop-place : goal.invariant-loop-place

@@ -1,9 +1,5 @@
-use Rattle.std.proofs.Common.{◌≡◌, ◌==◌, ◌↔◌, IsTrue, List, map, drop, take}
-use Rattle.std.specs.List.{AllByRecursion, IsDistinct, list_any}
-use Rattle.node_book.specs.Rows.{known_in}
-use Rattle.node_book.specs.witness_spec.Starting.{IsOfSome, node_of}
-use Rattle.witness_books.specs.Starts.{AreApart, AreOfRoster, base_at, handed}
-use Rattle.std.specs.Arc.{arc_value}
+use Rattle.std.proofs.Common.{◌≡◌, drop}
+use Rattle.witness_books.specs.Starts.{base_at}
 use Rattle.witness_books.specs.Books.{bases_in}
 use Rattle.witness_books.proofs.start.base_for.Given as goal
 

@@ -1,8 +1,7 @@
-use Rattle.std.proofs.Common.{◌≡◌, ◌==◌, ◌↔◌, IsTrue, List, map, drop, take}
-use Rattle.std.specs.List.{AllByRecursion, IsDistinct, list_any}
+use Rattle.std.proofs.Common.{◌≡◌, ◌==◌, map, drop}
+use Rattle.std.specs.List.{list_any}
 use Rattle.node_book.specs.Rows.{known_in}
-use Rattle.node_book.specs.witness_spec.Starting.{IsOfSome, node_of}
-use Rattle.witness_books.specs.Starts.{AreApart, AreOfRoster, base_at, handed}
+use Rattle.node_book.specs.witness_spec.Starting.{node_of}
 use Rattle.witness_books.proofs.start.has_node.Given as goal
 
 abbrev pub invariant-loop-base : goal.invariant-loop-base

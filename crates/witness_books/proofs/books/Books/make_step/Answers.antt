@@ -10,7 +10,7 @@ use Rattle.witness_books.specs.Memory.{RunsOutWhereItMay, RunOutForMore}
 use Rattle.witness_books.proofs.Memory.{refused_for_more, refused_runs_out, step_for_more, step_runs_out}
 use Rattle.witness_books.proofs.Places.{can_step}
 use Rattle.witness_books.proofs.Refused.{all_stay}
-use Rattle.witness_books.proofs.Stepping.{its_member, step_goes}
+use Rattle.witness_books.proofs.Stepping.{its_member, refused_steps, step_goes}
 use Rattle.witness_books.proofs.books.Books.make_step.Goals as goal
 
 pub step_of-requires-clause-member : goal.step_of-requires-clause-member
@@ -37,6 +37,14 @@ invariant_of-self c =
     (step_in c.in-Step.step) (reply_in c.step_of.result) c.self.invariant.roster c.self.invariant.ready
     c.route.ensures.is_event c.in-Step.ensures.goes c.step_of.ensures in
     record { roster = c.self.invariant.roster; ready = goes.ready }
+
+pub returns-in-Refused-clause-steps : goal.returns-in-Refused-clause-steps
+returns-in-Refused-clause-steps c =
+    let g : Beginning = record { roster = c.self.inside.roster; bases = bases_in c.self.inside.bases.items } in
+    subst (λ (b : BooksParts). StepsTo (beginning_of b) (parts_in b) (event_in c.args.event)
+    (reply_in c.in-Refused.reply) (parts_in b)) c.self.view_is
+    (refused_steps c.what_leaves_books.ensures.out c.what_leaves_books.ensures.want g c.self.inside.books.items
+    (event_in c.args.event) (reply_in c.in-Refused.reply) c.route.ensures.is_event c.in-Refused.ensures.goes)
 
 pub returns-in-Step-clause-steps : goal.returns-in-Step-clause-steps
 returns-in-Step-clause-steps c =
