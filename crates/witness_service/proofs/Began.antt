@@ -1,11 +1,10 @@
 -- Bases that a witness keeps are the same exactly where the bases in memory are.
 -- Serves: are_same, began_with, WitnessService::close.
-use Rattle.std.proofs.Common.{◌≡◌, ◌↔◌, inl, inr, ℕ, zero, suc, ◌+◌, ◌<◌, ◌≤◌, Bool, true, false, true≢false, List, []}
-use Rattle.std.proofs.Common.{◌∷◌, map, take, drop, get_or, length, refl, sym, ap, ap₂, subst, ◌∙◌, arith}
+use Rattle.std.proofs.Common.{◌≡◌, ℕ, ◌<◌, List}
+use Rattle.std.proofs.Common.{map, get_or, length, sym, ap, ◌∙◌}
 use Rattle.std.proofs.lemmas.List.{get_or-map}
 use Rattle.challenge.specs.KnownBases as bases
 use Rattle.witness_books.specs.node_book.Rows.{known_in}
-use Rattle.witness_books.specs.witness_spec.Starting.{KnownBase}
 
 -- a base in memory is told by what a witness keeps of it
 pub same_known : (k l : bases.KnownBase) → known_in k ≡ known_in l → k ≡ l
