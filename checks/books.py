@@ -6,10 +6,12 @@ book after a step) are written out here a second time, over plain values: a hash
 entry is marked as bad. Random steps are made, and after each the reply and all parts are compared. The limits are small,
 so that every refusal of a node's own step is reached; then errors are planted in the equations, and each must be seen.
 
-All of it is done with a log of version 1, and then with one of version 2, whose numbers have gaps.
+All of it is done with a log of version 1, and then with one of version 2, whose numbers have gaps; and then of both again
+where the audit begins at a base: at number 1, at 5, and at the last but one of all numbers. A base is a showing of the log,
+with a CHECK at one of its numbers and the state there.
 
     checks/books.py [HISTORIES]     prints how many steps were compared, which replies came, and what was planted; of
-                                    version 2 half as many histories are tried
+                                    version 2 without a base half as many histories are tried
 """
 import random
 import sys
@@ -20,11 +22,14 @@ from functools import lru_cache
 LEARNED, CHALLENGES = 3, 2
 # The limits that are of numbers: how many are asked for, audited, and wait in the outbox. Numbers with gaps need more.
 Reach = namedtuple('Reach', 'asked audited outbox')
-REACH = {1: Reach(3, 8, 4), 2: Reach(6, 10, 7)}
+REACH = {1: Reach(3, 8, 4), 2: Reach(6, 10, 6)}
 SKIPS = [0, 0, 0, 0, 1, 1, 2]
 NODE = 1
 ZEROS = 0
 NO_ENTRY = None
+# The greatest number that an entry may have, and those at which bases stand.
+GREATEST = 2 ** 64 - 2
+STARTS = [1, 5, GREATEST - 1]
 
 # `skipped` is how many numbers are skipped just before an entry; a log of version 1 skips none.
 Authenticator = namedtuple('Authenticator', 'number hash skipped', defaults=(0,))
@@ -33,10 +38,13 @@ Job = namedtuple('Job', 'node number state segment')
 Done = namedtuple('Done', 'job verdict')
 Entry = namedtuple('Entry', 'kind word skipped', defaults=(0,))
 State = namedtuple('State', 'number hash')
-Book = namedtuple('Book', 'end state stage begun learned segments challenges outbox evidence')
-START = State(0, ZEROS)
-OPENING = Book(0, START, ('none',), 0, (), (), (), (), None)
+# A part of the log that is shown, the number of a CHECK in it, and the state there.
+Base = namedtuple('Base', 'showing at state')
+Book = namedtuple('Book', 'base end state stage begun learned segments challenges outbox evidence')
+OPENING = State(0, ZEROS)
 version = 1
+# The base from which the node is watched, or None.
+watched = None
 
 
 def refused(number):
@@ -78,6 +86,34 @@ def verdict_on(state, s):
     return ('sound', State(s.closing.number, s.closing.hash), found)
 
 
+# ---- where an audit begins: at the log's first entry, or at a base
+
+def start_number(base):
+    return base.at if base else 0
+
+
+def start_state(base):
+    return base.state if base else OPENING
+
+
+def start_hash(base):
+    return dict(segment_marks(base.showing))[base.at] if base else ZEROS
+
+
+def base_pairs(base):
+    """What a base shows up to its number."""
+    return tuple(pair for pair in segment_marks(base.showing) if pair[0] <= base.at) if base else ()
+
+
+def is_below(base, number):
+    """The number lies below all that the base's showing marks."""
+    return base is not None and number < base.showing.first - 1
+
+
+def start_showing(base, number):
+    return base.showing if base and number <= base.at else None
+
+
 # ---- the definitions: functions of own steps, a linked list with the newest first, (step, reply, earlier steps)
 
 memo = lru_cache(None)
@@ -107,7 +143,7 @@ def forwarded(step, reply):
 def end_of(past):
     """The last number that was audited, and the state there."""
     if past is None:
-        return 0, START
+        return start_number(watched), start_state(watched)
     step, reply, rest = past
     job, end = filed(step, reply), end_of(rest)
     if job is None:
@@ -155,7 +191,7 @@ def has_fork(pairs):
 @memo
 def shown(past):
     if past is None:
-        return ((0, ZEROS),)
+        return ((0, ZEROS),) + base_pairs(watched)
     step, reply, rest = past
     a, c = noted(step, reply), accepted(step, reply)
     new = () if a is None or is_exposed(rest) else (pair_of(a),)
@@ -247,16 +283,27 @@ def first_fork(new, pairs):
     return next((pair[0] for pair in new if is_fork(pair, pairs)), None)
 
 
-def fork_of(learned, segments, new, number):
+def kept_before(learned, segments, number):
+    """What showed the number: an authenticator that is kept, else a segment that holds it."""
+    old = next((a for a in learned if a.number == number), None)
+    return old or next((s for s in segments if s.first <= number <= s.closing.number), None)
+
+
+def fork_of(base, learned, segments, new, number):
     """The fork that a new showing makes at a number, if it makes one."""
     if number is None:
         return None
-    if number == 0:
+    old = start_showing(base, number)
+    if number == 0 and old is None:
         return ('fork', 0, new, None)
-    old = next((a for a in learned if a.number == number), None)
-    if old is None:
-        old = next((s for s in segments if s.first <= number <= s.closing.number), None)
-    return None if old is None else ('fork', number, old, new)
+    old = old or kept_before(learned, segments, number)
+    return old and ('fork', number, old, new)
+
+
+def replay_from(base, entries, closing):
+    """What shows the fault of a replay: all audited entries, after the base where there is one."""
+    log = Segment(start_number(base) + 1, start_hash(base), entries, closing)
+    return ('replay from a base', base, log) if base else ('replay', log)
 
 
 @memo
@@ -269,9 +316,9 @@ def evidence(past):
     a, c, job = noted(step, reply), accepted(step, reply), filed(step, reply)
     if a or c:
         new = [pair_of(a)] if a else segment_marks(c)
-        return fork_of(kept(rest), all_accepted(rest), a or c, first_fork(new, shown(rest)))
+        return fork_of(watched, kept(rest), all_accepted(rest), a or c, first_fork(new, shown(rest)))
     if job and verdict_filed(past)[0] == 'fault':
-        return ('replay', Segment(1, ZEROS, audited(rest) + job.segment.entries, job.segment.closing))
+        return replay_from(watched, audited(rest) + job.segment.entries, job.segment.closing)
     return None
 
 
@@ -283,10 +330,10 @@ def last_in_reach(end, learned):
     return max((a.number for a in learned if a.number <= end + REACH[version].asked), default=0)
 
 
-def ask_up_to(end, waiting, last):
+def ask_up_to(start, end, waiting, last):
     if last == 0:
         return refused(7)
-    if REACH[version].audited < last:
+    if start + REACH[version].audited < last:
         return refused(13)
     return refused(6) if REACH[version].outbox < waiting + last - end else ('asked', end + 1, last)
 
@@ -295,6 +342,8 @@ def learn_reply(past, a):
     pairs = shown(past)
     if is_exposed(past):
         return 'noted'
+    if is_below(watched, a.number):
+        return refused(15)
     if pair_of(a) in pairs:
         return 'already'
     full = end_of(past)[0] < a.number and LEARNED <= len(kept(past))
@@ -317,7 +366,7 @@ def audit_reply(past):
     if is_exposed(past) or not kept(past):
         return refused(8)
     end = end_of(past)[0]
-    return ask_up_to(end, len(outbox(past)), last_in_reach(end, kept(past)))
+    return ask_up_to(start_number(watched), end, len(outbox(past)), last_in_reach(end, kept(past)))
 
 
 def begin_reply(past):
@@ -372,6 +421,16 @@ GAP_ERRORS = [
     'a joined log loses its counts', 'the end counts entries', 'an authenticator with another count is another',
     'an authenticator shows what it skips',
 ]
+# Errors that only a base shows, and of a base those that only a log with gaps shows.
+BASE_ERRORS = [
+    "the first job has the node's opening state", "the base's marks are not shown",
+    "the base's marks above its number are shown", 'a pair that is shown is not below',
+    'an exposed book is asked whether it is below', 'below is below the CHECK',
+    'a fork up to the base is sought in what is kept', 'a fork up to the base has the new showing first',
+    'a fork at 0 has no base', 'evidence of a replay has no base', 'evidence of a replay begins with the first entry',
+    'a book is full at a number', 'sums wrap',
+]
+BASE_GAP_ERRORS = ['numbers skipped before the CHECK are not shown', "the base's opening is not shown"]
 planted = None
 
 
@@ -380,14 +439,24 @@ def has(error):
 
 
 def exposing_pairs(found):
-    if found is None or found[0] == 'replay' or has('what exposed the node is not shown'):
+    if found is None or found[0] != 'fork' or has('what exposed the node is not shown'):
         return []
     newer = found[2] if found[3] is None else found[3]
     return [pair_of(newer.closing if isinstance(newer, Segment) else newer)]
 
 
+def shown_of_base(base):
+    if base is None or has("the base's marks are not shown"):
+        return []
+    above = has("the base's marks above its number are shown")
+    pairs = segment_marks(base.showing) if above else list(base_pairs(base))
+    if has('numbers skipped before the CHECK are not shown'):
+        return [pair for pair in pairs if pair[1] is not NO_ENTRY]
+    return pairs[1:] if has("the base's opening is not shown") else pairs
+
+
 def book_shown(b):
-    pairs = [(0, ZEROS)] + exposing_pairs(b.evidence) + [pair_of(a) for a in b.learned]
+    pairs = [(0, ZEROS)] + exposing_pairs(b.evidence) + [pair_of(a) for a in b.learned] + shown_of_base(b.base)
     if has('an authenticator shows what it skips'):
         pairs += [(number, NO_ENTRY) for a in b.learned for number in range(a.number - a.skipped, a.number)]
     if has('forks are sought among learned alone'):
@@ -409,14 +478,26 @@ def as_compared(job):
     if job is not None and has("a job's number is ignored"):
         return job._replace(number=0)
     if job is not None and has("a job's state is ignored"):
-        return job._replace(state=START)
+        return job._replace(state=OPENING)
     return job
+
+
+def lies_below(base, number):
+    return number < base.at if base and has('below is below the CHECK') else is_below(base, number)
+
+
+def is_shown_below(b, a):
+    return has('a pair that is shown is not below') and pair_of(a) in book_shown(b)
 
 
 def reply_to_learn(b, a):
     pairs = book_shown(b)
+    if lies_below(b.base, a.number) and has('an exposed book is asked whether it is below'):
+        return refused(15)
     if b.evidence is not None and not has('an exposed book says Already'):
         return 'noted'
+    if lies_below(b.base, a.number) and not is_shown_below(b, a):
+        return refused(15)
     others = [each for each in b.learned if has('an authenticator with another count is another') and each != a]
     if pair_of(a) in pairs and pair_of(a) not in [pair_of(each) for each in others]:
         return 'already'
@@ -430,12 +511,29 @@ def reply_to_send(b, word):
     return challenge_reply(b.challenges, word)
 
 
+def book_reach(b):
+    """The greatest number within reach, by differences: a sum could pass the greatest number of all."""
+    most = REACH[version].asked
+    if has('sums wrap'):
+        return max((a.number for a in b.learned if a.number <= (b.end + most) % 2 ** 64), default=0)
+    return max((a.number for a in b.learned if a.number - b.end <= most), default=0)
+
+
+def book_asks_up_to(b, last):
+    begin = 0 if has('a book is full at a number') else start_number(b.base)
+    if last == 0:
+        return refused(7)
+    if REACH[version].audited < last - begin:
+        return refused(13)
+    return refused(6) if REACH[version].outbox < len(b.outbox) + (last - b.end) else ('asked', b.end + 1, last)
+
+
 def reply_to_audit(b):
     if b.stage[0] != 'none':
         return refused(9)
     if b.evidence is not None or not b.learned:
         return refused(8)
-    return ask_up_to(b.end, len(b.outbox), last_in_reach(b.end, b.learned))
+    return book_asks_up_to(b, book_reach(b))
 
 
 def reply_to_begin(b):
@@ -486,7 +584,26 @@ def fork_evidence(b, showing, pairs):
     number, segments = first_fork(pairs, book_shown(b)), b.segments
     if has('no segment has a number that it skips'):
         segments = [s for s in segments if number in dict(numbered(s))]
-    return first_evidence(b.evidence, fork_of(b.learned, segments, showing, number))
+    return first_evidence(b.evidence, book_fork(b, segments, showing, number))
+
+
+def book_fork(b, segments, showing, number):
+    base = None if has('a fork up to the base is sought in what is kept') else b.base
+    if number == 0 and has('a fork at 0 has no base'):
+        return ('fork', 0, showing, None)
+    found = fork_of(base, b.learned, segments, showing, number)
+    if found and start_showing(b.base, number) and has('a fork up to the base has the new showing first'):
+        return ('fork', number, showing, b.base.showing)
+    return found
+
+
+def book_replay(b, entries, closing):
+    found = replay_from(b.base, entries, closing)
+    if b.base and has('evidence of a replay has no base'):
+        return ('replay', found[-1])
+    if has('evidence of a replay begins with the first entry'):
+        return found[:-1] + (found[-1]._replace(first=1, opening=ZEROS),)
+    return found
 
 
 def after_learn(b, a):
@@ -507,12 +624,18 @@ def having_filed(b, s, verdict):
         joined = book_audited(b) + s.entries
         if has('a joined log loses its counts'):
             joined = tuple(entry._replace(skipped=0) for entry in joined)
-        charge = ('replay', Segment(1, ZEROS, joined, s.closing))
+        charge = book_replay(b, joined, s.closing)
         return b._replace(stage=('none',), evidence=first_evidence(b.evidence, charge))
     above = tuple(a for a in b.learned if s.closing.number < a.number or has('what lies below the end stays'))
     end = b.end + len(s.entries) if has('the end counts entries') else s.closing.number
     moved = b._replace(end=end, state=verdict[1], stage=('none',))
     return moved._replace(learned=above, outbox=b.outbox + verdict[2], evidence=first_evidence(b.evidence, None))
+
+
+def book_starting(base):
+    """The book of a node at first, from its base if there is one."""
+    state = OPENING if has("the first job has the node's opening state") else start_state(base)
+    return Book(base, start_number(base), state, ('none',), 0, (), (), (), (), None)
 
 
 def book_after(b, step, reply):
@@ -541,22 +664,58 @@ def book_after(b, step, reply):
 
 # ---- random steps
 
-def grown(rng, start, length, bad, before=0):
-    """A log: its first hash, then entries, each with its number and the hash after it."""
-    log = [(None, before, start)]
+def some_entry(rng, bad):
+    kind, word = rng.choices(['send', 'recv', 'clock', 'bad'], [3, 4, 3, bad])[0], rng.randrange(4)
+    return Entry(kind, word, rng.choice(SKIPS) if version == 2 else 0)
+
+
+def with_entry(log, entry):
+    """A log, its number and hash before the first entry, then its entries with both; and an entry more."""
+    _, before, hash_ = log[-1]
+    number = before + entry.skipped + 1
+    return log + [(entry, number, link(hash_, number, entry))]
+
+
+def grown(rng, log, length, bad):
+    """A log, and so many further entries, or as many as there are numbers for."""
     for _ in range(length):
-        kind, word = rng.choices(['send', 'recv', 'clock', 'bad'], [3, 4, 3, bad])[0], rng.randrange(4)
-        entry = Entry(kind, word, rng.choice(SKIPS) if version == 2 else 0)
-        number = log[-1][1] + entry.skipped + 1
-        log.append((entry, number, link(log[-1][2], number, entry)))
+        longer = with_entry(log, some_entry(rng, bad))
+        log = longer if longer[-1][1] <= GREATEST else log
     return log
 
 
-def made_logs(rng):
-    """The log of a history, one that forks from it, and one that begins with another hash."""
-    log, cut = grown(rng, ZEROS, 14, .1), rng.randrange(1, 10)
-    _, number, hash_ = log[cut - 1]
-    return [log, log[:cut] + grown(rng, hash_, 15 - cut, 1, number)[1:], grown(rng, 1, 14, 1)]
+def checked_log(rng, at):
+    """A log that ends in a CHECK at a number: from its first entry on, or from a few entries before."""
+    log = [(None, 0, ZEROS)] if at < 9 else [(None, at - rng.randrange(1, 6), 3)]
+    while log[-1][1] < at - 1:
+        longer = with_entry(log, some_entry(rng, 0))
+        if longer[-1][1] < at:
+            log = longer
+        elif rng.random() < .5:
+            break
+    return with_entry(log, Entry('check', 0, at - 1 - log[-1][1]))
+
+
+def base_in(rng, log, at):
+    """A base at a CHECK of a log: shown from there or from before, up to there or to a few entries after."""
+    place = next(i for i, (_, number, _) in enumerate(log) if number == at)
+    begin, last = rng.randrange(place), min(place + rng.randrange(3), len(log) - 1)
+    _, before, opening = log[begin]
+    showing = closed(Segment(before + 1, opening, tuple(e for e, _, _ in log[begin + 1:last + 1]), None))
+    return Base(showing, at, State(at, log[place][2]))
+
+
+def made_logs(rng, log):
+    """A log, longer; one that forks from it, and one that begins with another hash."""
+    log = grown(rng, log, 14, .1)
+    cut = rng.randrange(1, min(10, len(log)))
+    return [log, grown(rng, log[:cut], 15 - cut, 1), grown(rng, [(None, log[0][1], log[0][2] + 1)], 14, 1)]
+
+
+def watched_logs(rng, at):
+    """The logs of a history, and the base at a number of the first, or none at 0."""
+    logs = made_logs(rng, checked_log(rng, at) if at else [(None, 0, ZEROS)])
+    return logs, base_in(rng, logs[0], at) if at else None
 
 
 def closed(s):
@@ -607,7 +766,8 @@ def some_job(rng, past, log, old):
     """The job that is out, or another."""
     job = job_out(past)
     if job is None or rng.random() < .15:
-        job = rng.choice(old) if old else Job(NODE, 1, START, segment_of(log, 1, 2))
+        first = start_number(watched) + 1
+        job = rng.choice(old) if old else Job(NODE, 1, start_state(watched), segment_of(log, first, first + 1))
         if rng.random() < .3:
             job = job._replace(state=State(9, 9))
         if rng.random() < .3:
@@ -627,7 +787,7 @@ def next_step(rng, past, logs, old):
     if kind in ('send', 'ack'):
         return kind, rng.randrange(4)
     if kind == 'answer':
-        some = sorted((1 + rng.randrange(8), 1 + rng.randrange(8)))
+        some = sorted(start_number(watched) + 1 + rng.randrange(8) for _ in range(2))
         first, last = stage[1:] if stage[0] == 'wanted' and rng.random() < .9 else some
         segment = segment_of(log, first, last)
         return kind, without_one(rng, segment) if version == 2 and rng.random() < .05 else segment
@@ -658,9 +818,21 @@ def name_of(step, reply):
     return f'{step[0]}: {reply}' if isinstance(reply, str) else f'{step[0]}: with a value'
 
 
-def walk(rng, seen, most):
+def exposed_by(charge):
+    """How a node was exposed."""
+    if charge[0] != 'fork':
+        return f'exposed by a {charge[0]}'
+    return 'exposed by a fork up to the base' if start_showing(watched, charge[1]) else 'exposed by a fork'
+
+
+def walk(rng, seen, most, starts):
     """One history: gives the number of its steps, and the first in which book and definitions differ."""
-    logs, past, book, old = made_logs(rng), None, OPENING, []
+    global watched
+    at = rng.choice(starts)
+    logs, watched = watched_logs(rng, at)
+    past, book, old = None, book_starting(watched), []
+    if not agree(past, book):
+        return 0, f'a start at {at}'
     for count in range(1, rng.randrange(2, most)):
         step = next_step(rng, past, logs, old)
         reply = owed(past, step)
@@ -669,7 +841,10 @@ def walk(rng, seen, most):
             seen[f'{step[0]} in an exposed book'] += 1
         if book_reply(book, step) != reply:
             return count, step
+        was_exposed = is_exposed(past)
         book, past = book_after(book, step, reply), (step, reply, past)
+        if is_exposed(past) and not was_exposed:
+            seen[exposed_by(evidence(past))] += 1
         if begun(step, reply):
             old.append(reply[1])
         if not agree(past, book):
@@ -683,13 +858,13 @@ MEMOS = [
 ]
 
 
-def compare(seed, histories, seen):
+def compare(seed, histories, seen, starts):
     """Gives the steps that were compared, and the first that differs."""
     rng, steps = random.Random(seed), 0
     for _ in range(histories):
         for function in MEMOS:
             function.cache_clear()
-        count, wrong = walk(rng, seen, 90)
+        count, wrong = walk(rng, seen, 90, starts)
         steps += count
         if wrong:
             return steps, wrong
@@ -698,7 +873,7 @@ def compare(seed, histories, seen):
 
 def replies_to(steps):
     """What is owed to steps of a node, where the book replies the same."""
-    past, book, replies = None, OPENING, []
+    past, book, replies = None, book_starting(watched), []
     for step in steps:
         reply = owed(past, step)
         if book_reply(book, step) != reply:
@@ -718,33 +893,48 @@ def is_hidden_entry_shown():
             and after == ['noted', ('asked', 1, 4), 'accepted', 'noted', ('fork', 3, s, hidden)])
 
 
-def try_version(log, histories, errors):
-    """Compares with a log of this version, and plants these errors: whether all is as it should be."""
+EXPOSED = ['exposed by a fork', 'exposed by a replay']
+EXPOSED_FROM_BASES = ['exposed by a fork', 'exposed by a fork up to the base', 'exposed by a replay from a base']
+
+
+def not_reached(seen, starts):
+    """What should have come, and didn't: refusals, and ways in which a node is exposed."""
+    numbers = list(range(4, 14)) + [15] * any(starts)
+    missing = [f'refused {n}' for n in numbers if not any(name.endswith(f'refused {n}') for name in seen)]
+    return missing + [name for name in (EXPOSED_FROM_BASES if any(starts) else EXPOSED) if name not in seen]
+
+
+def try_version(log, starts, histories, errors):
+    """Compares with a log of this version, from these starts, and plants errors: whether all is as it should be."""
     global planted, version
     seen, planted, version = Counter(), None, log
-    steps, wrong = compare(1, histories, seen)
+    steps, wrong = compare(1, histories, seen, starts)
     print(f'{steps} steps:', 'none differs' if wrong is None else f'this one differs: {wrong}')
     for name in sorted(seen):
         print(f'{seen[name]:8} {name}')
     good = wrong is None
     for planted in errors:
-        steps, wrong = compare(2, 1000, Counter())
+        steps, wrong = compare(2, 1000, Counter(), starts)
         print(f'planted: {planted}:', 'NOT SEEN' if wrong is None else f'seen after {steps} steps')
         good = good and wrong is not None
-    missing = [n for n in range(4, 14) if not any(name.endswith(f'refused {n}') for name in seen)]
+    missing = not_reached(seen, starts)
     if missing:
-        print('not reached: refusals', *missing)
+        print('not reached:', ', '.join(missing))
     return good and not missing
 
 
 def main(histories):
-    global planted
-    good = try_version(1, histories, ERRORS)
+    global planted, watched
+    good = try_version(1, [0], histories, ERRORS)
     print('a log of version 2, whose numbers have gaps:')
-    good, planted = try_version(2, histories // 2, GAP_ERRORS) and good, None
+    good, planted = try_version(2, [0], histories // 2, GAP_ERRORS) and good, None
     if not is_hidden_entry_shown():
         print('an entry that is hidden, but was signed, is not shown')
         good = False
+    print('from a base:')
+    good = try_version(1, STARTS, histories, BASE_ERRORS) and good
+    print('from a base, with a log of version 2:')
+    good = try_version(2, STARTS, histories, BASE_GAP_ERRORS) and good
     return 0 if good else 1
 
 

@@ -30,7 +30,8 @@ said_is() {
 check_stories() {
     local story
     for story in lie later_lie fork accusation challenged challenges no_keys last_keys any_order nothing times round flood \
-        gaps/honest gaps/lie gaps/skips; do
+        gaps/honest gaps/lie gaps/skips bases/joins bases/another_check bases/lie bases/earlier_lie bases/below bases/without_base \
+        bases/last_check bases/challenged bases/again bases/gaps; do
         : > in
         run 0 run "$stories/$story.script"
         cmp -s out "$stories/$story.printed" || fail "$story: it printed" out
@@ -49,7 +50,66 @@ check_stories() {
     run 0 check gaps_lie.evidence
     [ "$(cat out)" = 'exposed 1' ] || fail 'the evidence of the lie after a gap' out
     [ ! -e none.evidence ] || fail 'there is evidence of a false accusation' out
-    echo 'sixteen stories print what they should, and leave evidence where somebody is exposed'
+    echo 'twenty-six stories print what they should, and leave evidence where somebody is exposed'
+}
+
+# Evidence of a lie after a base is accepted as it is; with the last name in the base's state changed there is none. A client
+# gives no base, and a line that would have it log a CHECK is bad.
+check_bases() {
+    local at
+    run 0 check base_lie.evidence
+    [ "$(cat out)" = 'exposed 1' ] || fail 'the evidence of a lie after a base' out
+    cp base_lie.evidence changed.evidence
+    at=$(LC_ALL=C grep -abo hello base_lie.evidence | tail -n 1)
+    printf i | dd of=changed.evidence bs=1 seek="${at%%:*}" conv=notrunc status=none
+    [ "$(cmp -l base_lie.evidence changed.evidence | wc -l)" -eq 1 ] || fail 'more than a byte was changed' said
+    run 1 check changed.evidence
+    [ "$(cat out)" = 'no evidence' ] || fail 'evidence with another state in its base' out
+    grep -v '^#' "$stories/bases/client.script" > in
+    run 1 run -
+    said_is 'line 7: bad'
+    cmp -s out "$stories/bases/client.printed" || fail 'a client gives no base: it printed' out
+    echo "evidence that rests on a base holds for that state alone, and a client gives no base"
+}
+
+# refused_base WORDS FILE..: a run that begins with these bases ends with these words after a file's name.
+refused_base() {
+    local words=$1 name
+    local -a options=()
+    shift
+    for name in "$@"; do options+=(--base "$name"); done
+    run 1 run "${options[@]}" again.script
+    grep -qx "nfsacc: .*$words" said || fail "it didn't say: $words" said
+    [ ! -s out ] || fail "lines ran after $words" out
+}
+
+# Bases that a run writes are judged by `nfsacc base`, and another run's first witness begins with one. There the server has
+# the same log again, or another one, which is a fork with what the base shows. Bases that aren't good, or of another server.
+check_base_files() {
+    : > in
+    run 0 run --base-out base "$stories/bases/joins.script"
+    cmp -s out "$stories/bases/joins.printed" || fail 'a run that writes bases printed' out
+    [ "$(echo base.*)" = base.1.5 ] || fail 'other bases than one were written' out
+    run 0 base base.1.5
+    [ "$(cat out)" = 'base 1 5' ] || fail 'a base' out
+    { head -n 7 "$stories/bases/joins.script"; printf '%s\n' 'learn 1 3' 'learn 1 8' 'audit 1' 'answer 1' 'ask 1'; } > again.script
+    run 0 run --base base.1.5 again.script
+    [ "$(tail -n 6 out | tr '\n' ,)" = 'refused 15,noted,asked 6 8,accepted,1 trusted 0,closed ok,' ] ||
+        fail 'a run that begins with a base' out
+    { echo '#'; cat again.script; echo 'evidence 1 base_fork.evidence'; } > other.script
+    run 0 run --base base.1.5 other.script
+    [ "$(tail -n 4 out | tr '\n' ,)" = 'accepted,1 exposed 0,written,closed ok,' ] || fail 'another log than that of the base' out
+    run 0 check base_fork.evidence
+    [ "$(cat out)" = 'exposed 1' ] || fail 'the evidence of another log than that of the base' out
+    head -c -1 base.1.5 > cut
+    run 1 base cut
+    [ "$(cat out)" = 'no base' ] || fail 'a base without its last byte' out
+    refused_base 'refused 2' cut
+    refused_base 'start fault 1' base.1.5 base.1.5
+    sed 's/^node 1 server 4/node 1 server 5/' again.script > taller.script
+    mv taller.script again.script
+    refused_base 'start fault 2' base.1.5
+    echo 'a witness begins with a base that another run wrote, if it is good and of a member, and sees where the log is another'
 }
 
 # Lines that are bad, as the first one and after others; one of a megabyte; thousands that are passed over before one.
@@ -277,6 +337,8 @@ check_answers_at_once() {
 
 for program in "${made[@]}"; do
     check_stories
+    check_bases
+    check_base_files
     check_bad_lines
     check_ends
     check_roster
