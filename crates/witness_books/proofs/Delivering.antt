@@ -18,6 +18,7 @@ use Rattle.node_book.specs.witness_spec.Events as events
 use Rattle.node_book.specs.witness_spec.Replies.{Reply, refused, is_want_of_memory}
 use Rattle.node_book.specs.witness_spec.Steps.{Step, OwnStep}
 use Rattle.node_book.specs.witness_spec.Steps as steps
+use Rattle.node_book.specs.witness_spec.Starting.{Beginning}
 use Rattle.node_book.specs.witness_spec.Watched.{watched}
 use Rattle.node_book.specs.witness_spec.Whose.{is_key_of, same_roster, step_of, signed_step, sent_step}
 use Rattle.node_book.specs.witness_spec.Whose.{closed_step}
@@ -122,47 +123,47 @@ alike_spelled ms bytes event spell =
       wants_as = λ _. tt;
     }
 
-module _ (ms : List Member) (one two : Event) (alike : AreAlike ms one two) where
+module _ (g : Beginning) (one two : Event) (alike : AreAlike g.roster one two) where
   -- what is owed to one is owed to the other
-  pub owed_alike : (history : History) (reply : Reply) → IsOwed ms history one reply
-      → IsOwed ms history two reply
+  pub owed_alike : (history : History) (reply : Reply) → IsOwed g history one reply
+      → IsOwed g history two reply
   owed_alike history reply owed =
-      subst (OwesTo ms history two reply) alike.whose_is (by (whose ms one) owed)
+      subst (OwesTo g history two reply) alike.whose_is (by (whose g.roster one) owed)
     where
-      by : (step : Result OwnStep Refusal) → OwesTo ms history one reply step
-          → OwesTo ms history two reply step
+      by : (step : Result OwnStep Refusal) → OwesTo g history one reply step
+          → OwesTo g history two reply step
       by (Err f) is = is ∙ alike.refused_as f
       by (Ok o) owes = owes
 
   -- a node's own steps are the same
   own_alike : (history : History) (reply : Reply) (node : ℕ)
-      → own ms node ((one, reply) ∷ history) ≡ own ms node ((two, reply) ∷ history)
+      → own g.roster node ((one, reply) ∷ history) ≡ own g.roster node ((two, reply) ∷ history)
   own_alike history reply node =
       ap (λ (step : Result OwnStep Refusal).
-      (if is_want_of_memory reply then [] else own_step node step reply) ++ own ms node history)
+      (if is_want_of_memory reply then [] else own_step node step reply) ++ own g.roster node history)
       alike.whose_is
 
   -- books stand for one where they stand for the other
   stand_alike : (history : History) (reply : Reply) (members : List Member) (books : List BookParts)
-      → StandEach ms ((one, reply) ∷ history) members books
-      → StandEach ms ((two, reply) ∷ history) members books
+      → StandEach g ((one, reply) ∷ history) members books
+      → StandEach g ((two, reply) ∷ history) members books
   stand_alike history reply [] [] stand = tt
   stand_alike history reply [] (b ∷ books) stand = absurd stand
   stand_alike history reply (m ∷ members) [] stand = absurd stand
   stand_alike history reply (m ∷ members) (b ∷ books) stand = (
-    subst (λ past. StandsFor (watched ms m) past b) (own_alike history reply m.node) stand.0,
+    subst (λ past. StandsFor (watched g m) past b) (own_alike history reply m.node) stand.0,
     stand_alike history reply members books stand.1,
   )
 
   -- a step of one is a step of the other
-  pub taken_alike : (old new : List BookParts) (reply : Reply) → IsEvent two → StepsTo ms old one reply new
-      → StepsTo ms old two reply new
+  pub taken_alike : (old new : List BookParts) (reply : Reply) → IsEvent two → StepsTo g old one reply new
+      → StepsTo g old two reply new
   taken_alike old new reply is_event steps history is stands =
       let made = steps history is stands in
-      ((is_event, by made.0.1, is), stand_alike history reply ms new made.1)
+      ((is_event, by made.0.1, is), stand_alike history reply g.roster new made.1)
     where
-      by : IsOwed ms history one reply ⊎ IsWanting one reply
-          → IsOwed ms history two reply ⊎ IsWanting two reply
+      by : IsOwed g history one reply ⊎ IsWanting one reply
+          → IsOwed g history two reply ⊎ IsWanting two reply
       by (inl owed) = inl (owed_alike history reply owed)
       by (inr wants) =
           inr (record { may = alike.wants_as wants.may; is = wants.is ∙ alike.refused_as NoMemory })

@@ -1,4 +1,5 @@
 pub mod Rosters
+pub mod Starts
 pub mod Routes
 pub mod Places
 pub mod Stepping

@@ -9,6 +9,7 @@ use Rattle.node_book.specs.witness_spec.Events.{JobParts, Event, IsEvent}
 use Rattle.node_book.specs.witness_spec.Events as events
 use Rattle.node_book.specs.witness_spec.Replies.{Reply, refused, is_want_of_memory}
 use Rattle.node_book.specs.witness_spec.Steps as steps
+use Rattle.node_book.specs.witness_spec.Starting.{Beginning}
 use Rattle.node_book.specs.witness_spec.Watched.{Watched, watched}
 use Rattle.node_book.specs.witness_spec.Histories.{own_of, IsWanting, BookParts}
 use Rattle.node_book.specs.witness_spec.Contract.{StepsTo, IsNotedStep}
@@ -21,7 +22,8 @@ use Rattle.node_book.specs.witness_book_laws.Replying.{BookOwes}
 use Rattle.node_book.specs.witness_book_laws.Together.{book_at, with_book_at}
 use Rattle.node_book.specs.witness_book_laws.Ready.{AreReady}
 use Rattle.node_book.specs.witness_book_laws.ReadyLaws.{ReadyBooksStep}
-use Rattle.node_book.proofs.witness_book_laws.AllBooks.{its, its_book}
+use Rattle.node_book.proofs.witness_book_laws.AllBooks.{its, its_beginning, its_book}
+use Rattle.node_book.proofs.witness_book_laws.Histories.{in_roster}
 use Rattle.node_book.proofs.witness_book_laws.AnyBook.{any_owes}
 use Rattle.node_book.specs.Replies.{reply_in}
 use Rattle.node_book.specs.Stepping.{NotedSteps}
@@ -39,31 +41,31 @@ abbrev pub Notes : Type 0
 Notes = Option (ReplyOf JobParts JobParts × ReplyOf JobParts JobParts)
 
 -- Books lead to others by a noted step, and these can make their steps.
-pub record GoesNoting (ms : List Member) (old : List Book) (event : Event) (reply : Reply) (notes : Notes)
+pub record GoesNoting (g : Beginning) (old : List Book) (event : Event) (reply : Reply) (notes : Notes)
     (new : List Book) : Type 0 where
   -- they lead to them
-  pub noted : IsNotedStep ms (map parts_of old) event reply (map parts_of new)
+  pub noted : IsNotedStep g (map parts_of old) event reply (map parts_of new)
   -- these can make their steps
-  pub ready : AreReady ms new
+  pub ready : AreReady g new
   -- what the notes say
   pub say : AreNotesOf reply notes
 
 -- ---- a member's step
 
 -- what a member's book owes doesn't say that memory ran out
-pub owed_enough : (ms : List Member) (m : Member) (old : List Book) (book : Book) (event : Event)
-    (step : steps.Step) (reply : Reply) → IsRoster ms → AreReady ms old → IsEvent event
-    → IsStepOf ms event m step → book_at ms old m.node ≡ Some book → BookOwes book step reply
+pub owed_enough : (g : Beginning) (m : Member) (old : List Book) (book : Book) (event : Event)
+    (step : steps.Step) (reply : Reply) → IsRoster g.roster → AreReady g old → IsEvent event
+    → IsStepOf g.roster event m step → book_at g.roster old m.node ≡ Some book → BookOwes book step reply
     → is_want_of_memory reply ≡ false
-owed_enough ms m old book event step reply roster ready is of there owes =
-    let w : Watched = watched ms m in
+owed_enough g m old book event step reply roster ready is of there owes =
+    let w : Watched = watched g m in
     let history = ready.kept.are.history in
-    let fits = (its w old book event step reply roster ready.kept is of.whose_is there owes).1 in
-    let its_own = its_book w old book event step reply roster ready.kept is of.whose_is there owes in
+    let fits = (its g m old book event step reply roster ready.kept is of.whose_is there owes).1 in
+    let its_own = its_book g m old book event step reply roster ready.kept is of.whose_is there owes in
+    let member = in_roster g m ready.kept.begins (its_member g.roster event m step of) in
     good_want reply
     (owed_good w (own_of w history) step reply
-    ((any_owes w history book (its_member ms event m step of) ready.kept.are.is fits its_own step reply).1
-    owes))
+    ((any_owes g w history book member (its_beginning g m) ready.kept.are.is fits its_own step reply).1 owes))
 
 -- the laws
 pub record Laws : Type 0 where
@@ -79,52 +81,52 @@ pub laws_of : ReadyBooksStep → StepsAreNoted → OutOfMemoryLeavesBooks → La
 laws_of step noted want = record { step = step; noted = noted; want = want }
 
 -- a member's step with notes is one of all books
-pub noting_goes : Laws → (ms : List Member) (m : Member) (old new : List Book) (event : Event)
-    (step : steps.Step) (reply : ReplyOf JobParts JobParts) (notes : Notes) → IsRoster ms → AreReady ms old
-    → IsEvent event → IsStepOf ms event m step
-    → OneDoes ms m.node old (λ b after. NotedSteps b step reply notes after) new
-    → GoesNoting ms old event (reply_in reply) notes new
-noting_goes laws ms m old new event step reply notes roster ready is of one = by notes one.does
+pub noting_goes : Laws → (g : Beginning) (m : Member) (old new : List Book) (event : Event)
+    (step : steps.Step) (reply : ReplyOf JobParts JobParts) (notes : Notes) → IsRoster g.roster → AreReady g old
+    → IsEvent event → IsStepOf g.roster event m step
+    → OneDoes g.roster m.node old (λ b after. NotedSteps b step reply notes after) new
+    → GoesNoting g old event (reply_in reply) notes new
+noting_goes laws g m old new event step reply notes roster ready is of one = by notes one.does
   where
     by : (notes : Notes) → NotedSteps one.book step reply notes one.after
-        → GoesNoting ms old event (reply_in reply) notes new
+        → GoesNoting g old event (reply_in reply) notes new
     by None out =
         let refusal : reply_in reply ≡ refused event refusals.NoMemory =
         out.refused ∙ sym (of.refused_as refusals.NoMemory) in
-        let want : GoesNoting ms old event (reply_in reply) None old =
+        let want : GoesNoting g old event (reply_in reply) None old =
         record {
-          noted = laws.want ms (map parts_of old) event (reply_in reply) refusal;
+          noted = laws.want g (map parts_of old) event (reply_in reply) refusal;
           ready = ready;
           say = ap is_want_of_memory refusal ∙ want_refused event;
         } in
-        subst (GoesNoting ms old event (reply_in reply) None)
-        (sym (one.are ∙ ap (λ b. with_book_at ms m.node b old) out.stays
-        ∙ with_same ms m.node old one.book one.there)) want
+        subst (GoesNoting g old event (reply_in reply) None)
+        (sym (one.are ∙ ap (λ b. with_book_at g.roster m.node b old) out.stays
+        ∙ with_same g.roster m.node old one.book one.there)) want
     by (Some pair) made =
-        let goes = made_goes laws.step ms m old new one.book one.after event step (reply_in reply) roster
+        let goes = made_goes laws.step g m old new one.book one.after event step (reply_in reply) roster
         ready is of one.there made.2 one.are in
-        let enough = owed_enough ms m old one.book event step (reply_in reply) roster ready is of
+        let enough = owed_enough g m old one.book event step (reply_in reply) roster ready is of
         one.there made.2.owes in
         record {
-          noted = laws.noted ms (map parts_of old) (map parts_of new) event (reply_in reply) enough
+          noted = laws.noted g (map parts_of old) (map parts_of new) event (reply_in reply) enough
               goes.steps;
           ready = goes.ready;
           say = record { enough = enough; is_one = made.0; is_two = made.1 };
         }
 
 -- where memory was enough, a noted step is a step
-noted_is_step : (ms : List Member) (old new : List BookParts) (event : Event) (reply : Reply)
-    → is_want_of_memory reply ≡ false → IsNotedStep ms old event reply new → StepsTo ms old event reply new
-noted_is_step ms old new event reply enough noted history h stands =
+noted_is_step : (g : Beginning) (old new : List BookParts) (event : Event) (reply : Reply)
+    → is_want_of_memory reply ≡ false → IsNotedStep g old event reply new → StepsTo g old event reply new
+noted_is_step g old new event reply enough noted history h stands =
     let all = noted.noted history enough h stands in
     ((all.0, inl all.1, h), all.2)
 
 -- so it keeps the headline
-pub noted_keeps : StepsKeepHeadline → (ms : List Member) (old new : List BookParts) (event : Event)
-    (reply : Reply) → IsNotedStep ms old event reply new → is_want_of_memory reply ≡ false
-    → KeepsHeadline ms old (event ∷ []) (reply ∷ []) new
-noted_keeps law ms old new event reply noted enough =
-    law ms old new event reply (noted_is_step ms old new event reply enough noted)
+pub noted_keeps : StepsKeepHeadline → (g : Beginning) (old new : List BookParts) (event : Event)
+    (reply : Reply) → IsNotedStep g old event reply new → is_want_of_memory reply ≡ false
+    → KeepsHeadline g old (event ∷ []) (reply ∷ []) new
+noted_keeps law g old new event reply noted enough =
+    law g old new event reply (noted_is_step g old new event reply enough noted)
 
 -- ---- what is refused before it is a step
 
@@ -144,31 +146,31 @@ for_memory_of (events.Forward node) refusal = refl
 for_memory_of (events.Ask node question) refusal = refl
 
 -- so does what is refused before it is a step
-for_memory_is : (ms : List Member) (event : Event) (reply : Reply)
-    → IsNobodys ms event reply ⊎ (AreBytes event × IsWanting event reply)
+for_memory_is : (g : Beginning) (event : Event) (reply : Reply)
+    → IsNobodys g.roster event reply ⊎ (AreBytes event × IsWanting event reply)
     → for_memory reply ≡ refused event refusals.NoMemory
-for_memory_is ms event reply (inl nobodys) = ap for_memory nobodys.is ∙ for_memory_of event nobodys.why
-for_memory_is ms event reply (inr wants) = ap for_memory wants.1.is ∙ for_memory_of event refusals.NoMemory
+for_memory_is g event reply (inl nobodys) = ap for_memory nobodys.is ∙ for_memory_of event nobodys.why
+for_memory_is g event reply (inr wants) = ap for_memory wants.1.is ∙ for_memory_of event refusals.NoMemory
 
 -- a refusal with its notes leaves the books
-pub refusal_goes : Laws → LeftOutLeavesBooks → WantLeavesBooks → (ms : List Member) (books : List Book)
-    (event : Event) (refusal reply : Reply) (notes : Notes) → AreReady ms books → IsEvent event
-    → IsNobodys ms event refusal ⊎ (AreBytes event × IsWanting event refusal)
+pub refusal_goes : Laws → LeftOutLeavesBooks → WantLeavesBooks → (g : Beginning) (books : List Book)
+    (event : Event) (refusal reply : Reply) (notes : Notes) → AreReady g books → IsEvent event
+    → IsNobodys g.roster event refusal ⊎ (AreBytes event × IsWanting event refusal)
     → NotesRefusal refusal reply notes
-    → GoesNoting ms books event reply notes books
-refusal_goes laws out want ms books event refusal reply None ready is why given =
-    let same : reply ≡ refused event refusals.NoMemory = given ∙ for_memory_is ms event refusal why in
+    → GoesNoting g books event reply notes books
+refusal_goes laws out want g books event refusal reply None ready is why given =
+    let same : reply ≡ refused event refusals.NoMemory = given ∙ for_memory_is g event refusal why in
     record {
-      noted = laws.want ms (map parts_of books) event reply same;
+      noted = laws.want g (map parts_of books) event reply same;
       ready = ready;
       say = ap is_want_of_memory same ∙ want_refused event;
     }
-refusal_goes laws out want ms books event refusal reply (Some notes) ready is why given =
-    let steps = refused_steps out want ms books event refusal is why in
-    let goes : GoesNoting ms books event refusal (Some notes) books =
+refusal_goes laws out want g books event refusal reply (Some notes) ready is why given =
+    let steps = refused_steps out want g books event refusal is why in
+    let goes : GoesNoting g books event refusal (Some notes) books =
     record {
-      noted = laws.noted ms (map parts_of books) (map parts_of books) event refusal given.1.enough steps;
+      noted = laws.noted g (map parts_of books) (map parts_of books) event refusal given.1.enough steps;
       ready = ready;
       say = given.1;
     } in
-    subst (λ r. GoesNoting ms books event r (Some notes) books) (sym given.0) goes
+    subst (λ r. GoesNoting g books event r (Some notes) books) (sym given.0) goes

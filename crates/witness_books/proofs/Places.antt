@@ -5,13 +5,16 @@ use Rattle.std.proofs.Common.{Option, Some, get_or, set, IsSome, refl, sym, ap, 
 use Rattle.std.proofs.lemmas.Option.{same_Some}
 use Rattle.authenticator.specs.Roster.{member_of}
 use Rattle.authenticator.specs.declared.member.Member.{Member}
+use Rattle.node_book.specs.witness_spec.Starting.{Beginning}
 use Rattle.node_book.specs.witness_spec.Watched.{watched}
 use Rattle.node_book.specs.witness_spec.Steps.{Step}
 use Rattle.node_book.specs.witness_book_laws.Books.{Book}
 use Rattle.node_book.specs.witness_book_laws.Together.{book_at, with_book_at, FitEach}
 use Rattle.node_book.specs.witness_book_laws.Ready.{IsReady, AreReady, IsOfLog}
 use Rattle.node_book.specs.witness_book_laws.ReadyLaws.{ReadyBooksAreReady}
-use Rattle.witness_books.specs.Places.{place_from, OneDoes}
+use Rattle.node_book.proofs.witness_book_laws.AllBooks.{its_beginning}
+use Rattle.node_book.proofs.witness_book_laws.Histories.{in_roster}
+use Rattle.witness_books.specs.Places.{place_from, CanStep, OneDoes}
 
 -- The book of a number is so many places after the first.
 pub record IsAt (first : ℕ) (ms : List Member) (node : ℕ) (books : List Book) (place : ℕ) : Type 0 where
@@ -27,12 +30,12 @@ pub record IsAt (first : ℕ) (ms : List Member) (node : ℕ) (books : List Book
   pub with : (new : Book) → with_book_at ms node new books ≡ set books steps new
 
 -- the place of a member is that of its book
-pub is_at : (first : ℕ) (ms : List Member) (node : ℕ) (books : List Book) (place : ℕ) → FitEach ms books
-    → place_from first ms node ≡ Some place → IsAt first ms node books place
-is_at first [] node books place fit h = absurd (cc)
-is_at first (m ∷ ms) node [] place fit h = absurd fit
-is_at first (m ∷ ms) node (b ∷ books) place fit h =
-    by (m.node == node) refl h (λ k. is_at (first + 1) ms node books place fit.2 k)
+pub is_at : (first : ℕ) (ms : List Member) (node : ℕ) (books : List Book) (place : ℕ)
+    → length books ≡ length ms → place_from first ms node ≡ Some place → IsAt first ms node books place
+is_at first [] node books place each h = absurd (cc)
+is_at first (m ∷ ms) node [] place each h = let no : ⊥ = omega (arith, each) in absurd no
+is_at first (m ∷ ms) node (b ∷ books) place each h =
+    by (m.node == node) refl h (λ k. is_at (first + 1) ms node books place (omega (arith, each)) k)
   where
     by : (x : Bool) → (m.node == node) ≡ x
         → ◌≡◌ {A = Option ℕ} (cond x (Some first) (place_from (first + 1) ms node)) (Some place)
@@ -75,7 +78,30 @@ has_place first (n ∷ ms) node m h = by (n.node == node) refl h (λ k. has_plac
     by false e k rest =
         let r = rest k in (r.0, ap (λ x. cond x (Some first) (place_from (first + 1) ms node)) e ∙ r.1)
 
--- ---- in the books that can make their steps
+-- ---- where a member's book can make a step
+
+-- there is a book for each member
+each_book : (g : Beginning) (ms : List Member) (books : List Book) → FitEach g ms books
+    → length books ≡ length ms
+each_book g [] [] fit = refl
+each_book g [] (b ∷ books) fit = absurd fit
+each_book g (m ∷ ms) [] fit = absurd fit
+each_book g (m ∷ ms) (b ∷ books) fit = ap (λ n. suc n) (each_book g ms books fit.2)
+
+-- a member's book can make a step that is of its log
+pub can_step : ReadyBooksAreReady → (g : Beginning) (m : Member) (books : List Book) (step : Step)
+    → AreReady g books → member_of g.roster m.node ≡ Some m → IsOfLog m.log_version step
+    → CanStep g.roster m.node books step
+can_step law g m books step ready member of =
+    let w = watched g m in
+    let is = in_roster g m ready.kept.begins member in
+    record {
+      each = each_book g g.roster books ready.kept.fit;
+      ready = λ b there. (law g w books b ready is (its_beginning g m) there).0;
+      of_log = λ b there.
+          let its = (law g w books b ready is (its_beginning g m) there).1 in
+          subst (λ v. IsOfLog v step) (sym its.version) of;
+    }
 
 -- The book of a number is at a place.
 pub record IsHere (ms : List Member) (node : ℕ) (books : List Book) (place : ℕ) : Type 0 where
@@ -87,13 +113,11 @@ pub record IsHere (ms : List Member) (node : ℕ) (books : List Book) (place : �
   pub with : (new : Book) → with_book_at ms node new books ≡ set books place new
 
 -- where the place was found
-pub is_here : (ms all : List Member) (node : ℕ) (books : List Book) (found : Option ℕ) (place : ℕ)
-    → AreReady ms books → all ≡ ms → found ≡ place_from 0 all node → found ≡ Some place
+pub is_here : (ms all : List Member) (node : ℕ) (books : List Book) (step : Step) (found : Option ℕ) (place : ℕ)
+    → CanStep ms node books step → all ≡ ms → found ≡ place_from 0 all node → found ≡ Some place
     → IsHere ms node books place
-is_here ms all node books found place ready same is h =
-    let r =
-    is_at 0 ms node books place ready.kept.fit
-    (sym (is ∙ ap (λ l. place_from 0 l node) same) ∙ h) in
+is_here ms all node books step found place can same is h =
+    let r = is_at 0 ms node books place can.each (sym (is ∙ ap (λ l. place_from 0 l node) same) ∙ h) in
     let at = r.is in
     let steps : r.steps ≡ place = omega (arith, at) in
     record {
@@ -121,17 +145,15 @@ here_does ms node books place b after Does here is does = record {
   are = sym (here.with after);
 }
 
--- it can make a step
-pub here_ready : ReadyBooksAreReady → (ms : List Member) (m : Member) (books : List Book) (place : ℕ)
-    (b : Book) → AreReady ms books → member_of ms m.node ≡ Some m → IsHere ms m.node books place
-    → b ≡ get_or books place b → IsReady b
-here_ready law ms m books place b ready member here is =
-    (law (watched ms m) books b ready member (here.there b ∙ ap (λ x. Some x) (sym is))).0
+-- it can make the step
+pub here_ready : (ms : List Member) (node : ℕ) (books : List Book) (step : Step) (place : ℕ) (b : Book)
+    → CanStep ms node books step → IsHere ms node books place → b ≡ get_or books place b → IsReady b
+here_ready ms node books step place b can here is =
+    can.ready b (here.there b ∙ ap (λ x. Some x) (sym is))
 
--- a step of the member is of the book's log
-pub here_of_log : ReadyBooksAreReady → (ms : List Member) (m : Member) (books : List Book) (place : ℕ)
-    (b : Book) (step : Step) → AreReady ms books → member_of ms m.node ≡ Some m → IsOfLog m.log_version step
-    → IsHere ms m.node books place → b ≡ get_or books place b → IsOfLog b.log_version step
-here_of_log law ms m books place b step ready member of here is =
-    let its = (law (watched ms m) books b ready member (here.there b ∙ ap (λ x. Some x) (sym is))).1 in
-    subst (λ v. IsOfLog v step) (sym its.version) of
+-- the step is of the book's log
+pub here_of_log : (ms : List Member) (node : ℕ) (books : List Book) (step : Step) (place : ℕ) (b : Book)
+    → CanStep ms node books step → IsHere ms node books place → b ≡ get_or books place b
+    → IsOfLog b.log_version step
+here_of_log ms node books step place b can here is =
+    can.of_log b (here.there b ∙ ap (λ x. Some x) (sym is))

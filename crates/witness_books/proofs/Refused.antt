@@ -1,15 +1,14 @@
--- A refused step leaves the books; and books at first are those of the contract.
--- Serves: Books::new, Books::step, Books::noted_step.
+-- A refused step leaves the books.
+-- Serves: Books::step, Books::noted_step.
 use Rattle.std.proofs.Common.{◌≡◌, inl, inr, ℕ, true, true≢false, List, [], ◌∷◌, map}
 use Rattle.std.proofs.Common.{Option, Some, None, refl, sym, ap, ◌∙◌}
 use Rattle.authenticator.specs.declared.member.Member.{Member}
-use Rattle.node_book.specs.witness_spec.Contract.{opening_book, opening_books}
 use Rattle.node_book.specs.witness_spec.Replies.{Reply, Noted, Already, Opened, Accepted, Closed, Asked, Job}
 use Rattle.node_book.specs.witness_spec.Replies.{Filed}
 use Rattle.node_book.specs.witness_spec.Replies.{Returned, Forwarded, Empty, Told, OpenList, EvidenceIs}
 use Rattle.node_book.specs.witness_spec.Replies.{Refused, FileRefused, PutBackRefused}
 use Rattle.node_book.specs.witness_spec.Steps as steps
-use Rattle.node_book.specs.witness_book_laws.Books.{Book, book_opening, parts_of}
+use Rattle.node_book.specs.witness_book_laws.Books.{Book}
 use Rattle.node_book.specs.witness_book_laws.Going.{book_after}
 use Rattle.node_book.specs.witness_book_laws.Together.{with_book_at}
 use Rattle.node_book.specs.witness_spec.Events.{JobParts}
@@ -19,11 +18,6 @@ use Rattle.node_book.specs.declared.reply.ReplyOf.{ReplyOf}
 use Rattle.witness_books.specs.Books.{is_refusal}
 use Rattle.witness_books.specs.Places.{OneDoes}
 use Rattle.witness_books.proofs.Stepping.{with_same}
-
--- the books at first are those of the contract
-pub opening_are : (ms : List Member) → map parts_of (map book_opening ms) ≡ opening_books ms
-opening_are [] = refl
-opening_are (m ∷ ms) = ap (λ bs. opening_book m ∷ bs) (opening_are ms)
 
 -- a refused step leaves the book
 refused_stays : (b : Book) (step : steps.Step) (reply : Reply) → is_refusal reply ≡ true

@@ -9,6 +9,7 @@ use Rattle.node_book.specs.witness_spec.Refusals as refusals
 use Rattle.node_book.specs.witness_spec.Events.{JobParts, Event, IsEvent}
 use Rattle.node_book.specs.witness_spec.Events as events
 use Rattle.node_book.specs.witness_spec.Replies.{Reply}
+use Rattle.node_book.specs.witness_spec.Starting.{Beginning}
 use Rattle.node_book.specs.witness_spec.Whose.{whose}
 use Rattle.node_book.specs.witness_spec.Histories.{History, IsOwed, BookParts}
 use Rattle.node_book.specs.witness_spec.Contract.{StepsTo}
@@ -55,13 +56,13 @@ SpelledIsWhose =
 -- To both the same reply is owed after any history.
 abbrev pub SpelledIsOwed : Type 0
 SpelledIsOwed =
-    (ms : List Member) (bytes : List ℕ) (event : Event) (history : History) (reply : Reply)
-    → Spell ms bytes event
-    → IsOwed ms history (events.Deliver bytes) reply ↔ IsOwed ms history event reply
+    (g : Beginning) (bytes : List ℕ) (event : Event) (history : History) (reply : Reply)
+    → Spell g.roster bytes event
+    → IsOwed g history (events.Deliver bytes) reply ↔ IsOwed g history event reply
 
 -- So books are led by both to the same books, with the same reply.
 abbrev pub SpelledIsTaken : Type 0
 SpelledIsTaken =
-    (ms : List Member) (old new : List BookParts) (bytes : List ℕ) (event : Event) (reply : Reply)
-    → IsEvent (events.Deliver bytes) → IsEvent event → Spell ms bytes event
-    → StepsTo ms old (events.Deliver bytes) reply new ↔ StepsTo ms old event reply new
+    (g : Beginning) (old new : List BookParts) (bytes : List ℕ) (event : Event) (reply : Reply)
+    → IsEvent (events.Deliver bytes) → IsEvent event → Spell g.roster bytes event
+    → StepsTo g old (events.Deliver bytes) reply new ↔ StepsTo g old event reply new

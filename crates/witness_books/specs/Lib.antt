@@ -4,6 +4,7 @@ pub use Rattle.node_book.specs as node_book
 pub mod Memory
 pub mod Routing
 pub mod Books
+pub mod Starts
 pub mod Places
 pub mod Notes
 pub mod Witnessed

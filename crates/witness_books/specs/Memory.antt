@@ -5,6 +5,7 @@ use Rattle.node_book.specs.witness_spec.Refusals.{Refusal}
 use Rattle.node_book.specs.witness_spec.Events.{Event}
 use Rattle.node_book.specs.witness_spec.Events as events
 use Rattle.node_book.specs.witness_spec.Replies.{Reply, is_want_of_memory}
+use Rattle.node_book.specs.witness_spec.Starting.{Beginning}
 use Rattle.node_book.specs.witness_spec.Steps.{OwnStep}
 use Rattle.node_book.specs.witness_spec.Whose.{whose}
 use Rattle.node_book.specs.witness_spec.Histories.{History, IsOwed, IsHistory, BookParts, Stands}
@@ -30,28 +31,28 @@ abbrev pub RunsOutWhereItMay : List Member → Event → Reply → Type 0
 RunsOutWhereItMay ms event reply = is_want_of_memory reply ≡ true → MayRunOut ms event
 
 -- More is owed to an event after a history than a refusal or Already.
-pub record IsOwedMore (ms : List Member) (history : History) (event : Event) : Type 0 where
+pub record IsOwedMore (g : Beginning) (history : History) (event : Event) : Type 0 where
   -- what is owed
   pub owed : Reply
   -- after that history
-  pub owes : IsOwed ms history event owed
+  pub owes : IsOwed g history event owed
   -- it is neither
   pub is_more : is_refusal_or_already owed ≡ false
 
 -- The reply says that memory ran out only at bytes, or where more is owed.
-abbrev pub RunsOutForMore : List Member → History → Event → Reply → Type 0
-RunsOutForMore ms history event reply =
-    is_want_of_memory reply ≡ true → AreBytes event ⊎ IsOwedMore ms history event
+abbrev pub RunsOutForMore : Beginning → History → Event → Reply → Type 0
+RunsOutForMore g history event reply =
+    is_want_of_memory reply ≡ true → AreBytes event ⊎ IsOwedMore g history event
 
 -- The same of each of some events, the oldest first: after the history and those before it.
-abbrev pub EachRunsOutForMore : List Member → History → List Event → List Reply → Type 0
-EachRunsOutForMore ms history [] replies = Unit {0}
-EachRunsOutForMore ms history (e ∷ events) [] = Unit {0}
-EachRunsOutForMore ms history (e ∷ events) (r ∷ replies) =
-    RunsOutForMore ms history e r × EachRunsOutForMore ms ((e, r) ∷ history) events replies
+abbrev pub EachRunsOutForMore : Beginning → History → List Event → List Reply → Type 0
+EachRunsOutForMore g history [] replies = Unit {0}
+EachRunsOutForMore g history (e ∷ events) [] = Unit {0}
+EachRunsOutForMore g history (e ∷ events) (r ∷ replies) =
+    RunsOutForMore g history e r × EachRunsOutForMore g ((e, r) ∷ history) events replies
 
 -- The same whatever the history was for which the books stood.
-abbrev pub RunOutForMore : List Member → (old : List BookParts) → List Event → List Reply → Type 0
-RunOutForMore ms old events replies =
-    (history : History) → IsHistory ms history → Stands ms old history
-    → EachRunsOutForMore ms history events replies
+abbrev pub RunOutForMore : Beginning → (old : List BookParts) → List Event → List Reply → Type 0
+RunOutForMore g old events replies =
+    (history : History) → IsHistory g history → Stands g old history
+    → EachRunsOutForMore g history events replies

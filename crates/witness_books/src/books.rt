@@ -1,66 +1,123 @@
 //! The books of all members.
 
-ghost use Rattle.std.specs.Prelude.{◌≡◌, ◌∷◌, [], false, true, IfErr, IfOk, Some, map};
+ghost use Rattle.std.specs.Prelude.{◌≡◌, ◌∷◌, [], None, false, true, IfErr, IfOk, Some, map};
 ghost use Rattle.authenticator.specs.Roster.{IsRoster, member_of};
-ghost use Rattle.node_book.specs.witness_spec.Contract.{AreBooks, IsNotedStep, StepsTo, opening_books};
+ghost use Rattle.node_book.specs.Rows.{known_in};
+ghost use Rattle.node_book.specs.witness_spec.Contract.{AreBooks, IsNotedStep, StepsTo, starting_books};
+ghost use Rattle.node_book.specs.witness_spec.Histories.{Stands};
 ghost use Rattle.node_book.specs.witness_spec.Replies.{is_want_of_memory};
-ghost use Rattle.node_book.specs.witness_book_laws.Books.{book_opening};
-ghost use Rattle.node_book.specs.witness_book_laws.Ready.{AreReady, IsOfLog};
+ghost use Rattle.node_book.specs.witness_spec.Starting.{IsBeginning, from_the_first};
+ghost use Rattle.node_book.specs.witness_book_laws.Books.{book_starting};
 ghost use Rattle.node_book.specs.Events.{event_in, step_in};
 ghost use Rattle.node_book.specs.Replies.{reply_in};
 ghost use Rattle.node_book.specs.Stepping.{NotedSteps, Steps};
-ghost use Rattle.witness_books.specs.Books.{is_refusal, parts_in};
+ghost use Rattle.witness_books.specs.Books.{bases_in, beginning_of, is_refusal, parts_in};
 ghost use Rattle.witness_books.specs.Headline.{KeepsHeadline};
 ghost use Rattle.witness_books.specs.Memory.{RunOutForMore, RunsOutWhereItMay};
 ghost use Rattle.witness_books.specs.Notes.{AreNotes, AreNotesOf};
-ghost use Rattle.witness_books.specs.Places.{OneDoes, place_from};
+ghost use Rattle.witness_books.specs.Places.{CanStep, OneDoes, place_from};
+ghost use Rattle.witness_books.specs.Starts.{MayStart, StartFails, handed};
+ghost use Rattle.witness_books.specs.Witnessed.{AreStarted};
 
 use crate::laws::steps_keep_the_headline;
 use crate::note::{Note, event_twice, note_refusal};
 use crate::route::{Routed, refuse_event, route};
-use authenticator::{Member, Roster};
+use crate::start::{StartFault, books_at_first, check_start, share_bases};
+use authenticator::{Checked, Member, Roster};
+use challenge::Base;
 use node_book::{
-    Book, Event, PlainReply, Refusal, Reply, Step, books_are_ready, journals_are_histories,
-    left_out_changes_nothing, what_leaves_books,
+    Book, Event, PlainReply, Refusal, Reply, Step, books_are_ready, books_can_stand,
+    journals_are_histories, left_out_changes_nothing, what_leaves_books,
 };
 use std::alloc::{AllocError, AllocFailed, Global};
 use std::marker::Model;
+use std::sync::Arc;
 
-/// What a witness keeps of the members of a roster (PeerReview, SOSP 2007): a book of each.
+/// What a witness keeps of the members of a roster (PeerReview, SOSP 2007): a book of each. The audit of a
+/// member begins at its log's first entry, or at a base that was handed in with the roster.
 #[derive(Drop)]
 pub struct Books {
     roster: Roster,
+    bases: Vec<Arc<Base>>,
     books: Vec<Book>,
 }
 
 impl Model for Books {
-    ghost use Rattle.witness_books.specs.Books.{BooksParts, KeepsBooks, books_code};
+    ghost use Rattle.witness_books.specs.Books.{BooksParts, KeepsBooks, bases_in, books_code};
 
     ghost Value = { BooksParts };
 
     ghost coded = { books_code };
 
-    ghost view = { λ b. record { roster = b.roster; books = b.books.items } };
+    ghost view = { λ b. record {
+      roster = b.roster;
+      bases = bases_in b.bases.items;
+      books = b.books.items;
+    } };
 
-    ghost invariant = { λ b. KeepsBooks (record { roster = b.roster; books = b.books.items }) };
+    ghost invariant = { λ b. KeepsBooks (record {
+      roster = b.roster;
+      bases = bases_in b.bases.items;
+      books = b.books.items;
+    }) };
 }
 
 impl Books {
-    /// The books of a roster's members before any step. Where a growth was refused the roster comes back.
-    #[tactic(auto, using(crate::proofs::Refused::opening_are))]
+    /// The books of a roster's members before any step, each from its log's first entry. Where a growth was
+    /// refused the roster comes back.
     pub fn new(alloc: Global, roster: Roster) -> Result<Books, AllocFailed<Roster>>
         ensures roster { IfOk result (λ b. b.roster ≡ roster) }
-        ensures books { IfOk result (λ b. b.books ≡ map book_opening roster) }
-        ensures opening { IfOk result (λ b. parts_in b ≡ opening_books roster) }
+        ensures bases { IfOk result (λ b. b.bases ≡ []) }
+        ensures books { IfOk result (λ b. b.books ≡ map (λ m. book_starting m None) roster) }
+        ensures started { IfOk result AreStarted }
+        ensures opening { IfOk result (λ b. parts_in b ≡ starting_books (from_the_first roster)) }
         ensures back { IfErr result (λ e. e.value ≡ roster) }
     {
-        match books_at_first(alloc, &roster) {
+        let bases = Vec::new(alloc);
+        match books_at_first(alloc, &roster, &bases) {
             Ok(books) => {
                 books_are_ready();
-                Ok(Books { roster, books })
+                Ok(Books {
+                    roster,
+                    bases,
+                    books,
+                })
             }
             Err(AllocError) => Err(AllocFailed { value: roster }),
         }
+    }
+
+    /// The books of a roster's members before any step: of a member that has a base among these from that
+    /// base, of each other one from its log's first entry. A base may have been checked under another roster.
+    /// `TwoBases` comes where two of them are of one node, else `OtherRoot` where one is of a node that is no
+    /// member here, or whose root and height here aren't those under which the base was checked, or whose log
+    /// or kind isn't that of the base; `NoMemory` comes only where a growth was refused. To tell the kind, each
+    /// base's state is read, and let go. After a fault nothing comes back: the roster and the bases are let
+    /// go.
+    pub fn start(
+        alloc: Global,
+        roster: Roster,
+        bases: Vec<Checked<Base>>,
+    ) -> Result<Books, StartFault>
+        ensures roster { IfOk result (λ b. b.roster ≡ roster) }
+        ensures bases { IfOk result (λ b. b.bases ≡ map (λ c. known_in c.value) bases.items) }
+        ensures books { IfOk result AreStarted }
+        ensures opening { IfOk result (λ b. parts_in b ≡ starting_books (beginning_of b)) }
+        ensures stands { IfOk result (λ b. Stands (beginning_of b) (parts_in b) []) }
+        ensures ok { IfOk result (λ _. MayStart roster (map (λ c. handed c.value c.member) bases.items)) }
+        ensures fault { IfErr result
+            (StartFails roster (map (λ c. handed c.value c.member) bases.items)) }
+    {
+        check_start(alloc, &roster, &bases)?;
+        let bases = share_bases(alloc, bases)?;
+        let books = books_at_first(alloc, &roster, &bases)?;
+        books_are_ready();
+        books_can_stand();
+        Ok(Books {
+            roster,
+            bases,
+            books,
+        })
     }
 
     /// The roster whose members have these books.
@@ -70,10 +127,19 @@ impl Books {
         &self.roster
     }
 
-    /// They stand for a history, as their type keeps it: does nothing, and tells a caller's proof.
+    /// The bases from which they began, in the order in which they were handed in.
+    pub fn bases(&self) -> &[Arc<Base>]
+        ensures { bases_in result.now ≡ self.now.bases }
+    {
+        &self.bases
+    }
+
+    /// They began with good bases and stand for a history, as their type keeps it: does nothing, and tells a
+    /// caller's proof.
     pub fn stand(&self)
         ensures roster { IsRoster self.now.roster }
-        ensures stand { AreBooks self.now.roster (parts_in self.now) }
+        ensures begins { IsBeginning (beginning_of self.now) }
+        ensures stand { AreBooks (beginning_of self.now) (parts_in self.now) }
     {
         let _ = &self.roster;
     }
@@ -86,14 +152,14 @@ impl Books {
     /// acknowledgement is handed in; of what is nobody's step only at bytes, which it may come to whatever is
     /// owed. What is refused changes nothing: a job or a done value comes back with the refusal.
     pub fn step(&mut self, alloc: Global, event: Event) -> Reply
-        ensures roster { self.new.roster ≡ self.old.roster }
-        ensures steps { StepsTo self.old.roster (parts_in self.old) (event_in event) (reply_in result)
+        ensures beginning { beginning_of self.new ≡ beginning_of self.old }
+        ensures steps { StepsTo (beginning_of self.old) (parts_in self.old) (event_in event) (reply_in result)
             (parts_in self.new) }
-        ensures headline { KeepsHeadline self.old.roster (parts_in self.old) (event_in event ∷ [])
+        ensures headline { KeepsHeadline (beginning_of self.old) (parts_in self.old) (event_in event ∷ [])
             (reply_in result ∷ []) (parts_in self.new) }
         ensures stays { is_refusal (reply_in result) ≡ true → self.new ≡ self.old }
         ensures memory { RunsOutWhereItMay self.old.roster (event_in event) (reply_in result) }
-        ensures more { RunOutForMore self.old.roster (parts_in self.old) (event_in event ∷ [])
+        ensures more { RunOutForMore (beginning_of self.old) (parts_in self.old) (event_in event ∷ [])
             (reply_in result ∷ []) }
     {
         steps_keep_the_headline();
@@ -102,12 +168,12 @@ impl Books {
 
     /// One event, with its reply.
     fn make_step(&mut self, alloc: Global, event: Event) -> Reply
-        ensures roster { self.new.roster ≡ self.old.roster }
-        ensures steps { StepsTo self.old.roster (parts_in self.old) (event_in event) (reply_in result)
+        ensures beginning { beginning_of self.new ≡ beginning_of self.old }
+        ensures steps { StepsTo (beginning_of self.old) (parts_in self.old) (event_in event) (reply_in result)
             (parts_in self.new) }
         ensures stays { is_refusal (reply_in result) ≡ true → self.new ≡ self.old }
         ensures memory { RunsOutWhereItMay self.old.roster (event_in event) (reply_in result) }
-        ensures more { RunOutForMore self.old.roster (parts_in self.old) (event_in event ∷ [])
+        ensures more { RunOutForMore (beginning_of self.old) (parts_in self.old) (event_in event ∷ [])
             (reply_in result ∷ []) }
     {
         books_are_ready();
@@ -127,11 +193,11 @@ impl Books {
     /// exactly where the reply is `NoMemory`; any other reply is one that `step` owes, refused as there, and
     /// keeps the headline. What is refused changes nothing.
     pub fn noted_step(&mut self, alloc: Global, event: Event) -> (Reply, Option<(Note, Note)>)
-        ensures roster { self.new.roster ≡ self.old.roster }
-        ensures noted { IsNotedStep self.old.roster (parts_in self.old) (event_in event) (reply_in result.0)
-            (parts_in self.new) }
+        ensures beginning { beginning_of self.new ≡ beginning_of self.old }
+        ensures noted { IsNotedStep (beginning_of self.old) (parts_in self.old) (event_in event)
+            (reply_in result.0) (parts_in self.new) }
         ensures headline { is_want_of_memory (reply_in result.0) ≡ false →
-            KeepsHeadline self.old.roster (parts_in self.old) (event_in event ∷ [])
+            KeepsHeadline (beginning_of self.old) (parts_in self.old) (event_in event ∷ [])
             (reply_in result.0 ∷ []) (parts_in self.new) }
         ensures notes { AreNotes (event_in event) (reply_in result.0) result.1 }
         ensures stays { is_refusal (reply_in result.0) ≡ true → self.new ≡ self.old }
@@ -142,9 +208,9 @@ impl Books {
 
     /// One event, with its reply and two notes of both.
     fn make_noted_step(&mut self, alloc: Global, event: Event) -> (Reply, Option<(Note, Note)>)
-        ensures roster { self.new.roster ≡ self.old.roster }
-        ensures noted { IsNotedStep self.old.roster (parts_in self.old) (event_in event) (reply_in result.0)
-            (parts_in self.new) }
+        ensures beginning { beginning_of self.new ≡ beginning_of self.old }
+        ensures noted { IsNotedStep (beginning_of self.old) (parts_in self.old) (event_in event)
+            (reply_in result.0) (parts_in self.new) }
         ensures notes { AreNotes (event_in event) (reply_in result.0) result.1 }
         ensures stays { is_refusal (reply_in result.0) ≡ true → self.new ≡ self.old }
     {
@@ -168,9 +234,9 @@ impl Books {
         alloc: Global,
         event: Event,
     ) -> (Reply, Option<(PlainReply, PlainReply)>)
-        ensures roster { self.new.roster ≡ self.old.roster }
-        ensures noted { IsNotedStep self.old.roster (parts_in self.old) (event_in event) (reply_in result.0)
-            (parts_in self.new) }
+        ensures beginning { beginning_of self.new ≡ beginning_of self.old }
+        ensures noted { IsNotedStep (beginning_of self.old) (parts_in self.old) (event_in event)
+            (reply_in result.0) (parts_in self.new) }
         ensures notes { AreNotesOf (reply_in result.0) result.1 }
         ensures stays { is_refusal (reply_in result.0) ≡ true → self.new ≡ self.old }
     {
@@ -184,26 +250,6 @@ impl Books {
             }
         }
     }
-}
-
-/// The books of a roster's members before any step. `AllocError` comes only where a growth was refused.
-fn books_at_first(alloc: Global, roster: &Roster) -> Result<Vec<Book>, AllocError>
-    ensures books { IfOk result (λ b. b.items ≡ map book_opening roster.now) }
-    ensures roster { IfOk result (λ _. IsRoster roster.now) }
-{
-    roster.is_roster();
-    opening_each(alloc, roster.members())
-}
-
-/// The books of members before any step. `AllocError` comes only where a growth was refused.
-fn opening_each(alloc: Global, members: &[Member]) -> Result<Vec<Book>, AllocError>
-    ensures { IfOk result (λ b. b.items ≡ map book_opening members.now) }
-{
-    let mut books = Vec::with_capacity(alloc, members.len())?;
-    for member in members {
-        books.push(Book::opening(alloc, member)?)?;
-    }
-    Ok(books)
 }
 
 /// The place of the member with this number.
@@ -226,13 +272,11 @@ fn step_of(
     member: &Member,
     step: Step,
 ) -> Reply
-    requires ready { AreReady roster.now books.old.items }
     requires member { member_of roster.now member.now.node ≡ Some member.now }
-    requires of_log { IsOfLog member.now.log_version (step_in step) }
+    requires can { CanStep roster.now member.now.node books.old.items (step_in step) }
     ensures { OneDoes roster.now member.now.node books.old.items
         (λ old new. Steps old (step_in step) (reply_in result) new) books.new.items }
 {
-    books_are_ready();
     let place = place_of(roster.members(), member.node).unwrap();
     books[place].step(alloc, step)
 }
@@ -245,13 +289,11 @@ fn noted_step_of(
     member: &Member,
     step: Step,
 ) -> (Reply, Option<(PlainReply, PlainReply)>)
-    requires ready { AreReady roster.now books.old.items }
     requires member { member_of roster.now member.now.node ≡ Some member.now }
-    requires of_log { IsOfLog member.now.log_version (step_in step) }
+    requires can { CanStep roster.now member.now.node books.old.items (step_in step) }
     ensures { OneDoes roster.now member.now.node books.old.items
         (λ old new. NotedSteps old (step_in step) result.0 result.1 new) books.new.items }
 {
-    books_are_ready();
     let place = place_of(roster.members(), member.node).unwrap();
     books[place].noted_step(alloc, step)
 }

@@ -4,16 +4,16 @@ ghost use Rattle.witness_books.specs.Given.{AcksAreTaken, AnswersAreTaken, Steps
 ghost use Rattle.witness_books.specs.Given.{WhatIsOwedIsGiven};
 ghost use Rattle.witness_books.specs.Delivering.{SpelledIsOwed, SpelledIsTaken, SpelledIsWhose};
 ghost use Rattle.witness_books.specs.Headline.{RunsKeepHeadline};
-ghost use Rattle.witness_books.specs.Witnessed.{OpeningIsJournal, WitnessesAgree};
+ghost use Rattle.witness_books.specs.Witnessed.{StartIsJournal, WitnessesAgree};
 
 use node_book::{
     books_can_stand, evidence_proves, evidence_where_exposed, exposed_exactly_if,
     honest_is_never_exposed, journals_are_histories, runs_are_histories,
 };
 
-/// Two witnesses of one roster, from their first events on, agree on a member where its steps, in all that
-/// was handed to each, are the same and in the same order: the replies to these are the same, and both say
-/// the same of the member, whatever else was handed to one of them.
+/// Two witnesses of one roster, from their first events on, agree on a member that has the same base at both,
+/// or none, where its steps, in all that was handed to each, are the same and in the same order: the replies
+/// to these are the same, and both say the same of the member, whatever else was handed to one of them.
 pub fn witnesses_agree()
     ensures { WitnessesAgree }
 {
@@ -55,8 +55,8 @@ pub fn what_is_owed_is_given()
 {}
 
 /// Books before any step stand for the journal of nothing, from which a noted step goes on.
-pub fn opening_is_a_journal()
-    ensures { OpeningIsJournal }
+pub fn start_is_a_journal()
+    ensures { StartIsJournal }
 {
     journals_are_histories();
 }

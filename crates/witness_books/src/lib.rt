@@ -7,6 +7,7 @@ pub mod laws;
 mod note;
 mod route;
 mod runs;
+mod start;
 
 pub use authenticator::Roster;
 pub use books::Books;
@@ -16,3 +17,4 @@ pub use note::Note;
 pub use replay_jobs::{Back, JobVerdict, ReplayDone, ReplayJob, SharedSegment};
 pub use route::refuse_event;
 pub use runs::run;
+pub use start::StartFault;

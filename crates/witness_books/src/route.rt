@@ -80,7 +80,7 @@ fn give(owner: Result<Member, Refusal>, step: Step) -> Routed
 }
 
 /// Whether the keys of two members are the same: root and height.
-fn has_key(own: &Member, other: &Member) -> bool
+pub(crate) fn has_key(own: &Member, other: &Member) -> bool
     ensures { result ≡ is_key_of own.now (key_of other.now) }
 {
     is_same_hash(&own.root, &other.root) && own.height == other.height

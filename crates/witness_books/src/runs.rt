@@ -5,10 +5,10 @@ ghost use Rattle.std.specs.List.{AllZip};
 ghost use Rattle.node_book.specs.witness_spec.Contract.{RunsTo};
 ghost use Rattle.node_book.specs.Events.{event_in};
 ghost use Rattle.node_book.specs.Replies.{reply_in};
-ghost use Rattle.witness_books.specs.Books.{parts_in};
+ghost use Rattle.witness_books.specs.Books.{beginning_of, parts_in};
 ghost use Rattle.witness_books.specs.Headline.{KeepsHeadline};
 ghost use Rattle.witness_books.specs.Memory.{RunOutForMore, RunsOutWhereItMay};
-ghost use Rattle.witness_books.specs.Witnessed.{AreOpening, IsWitnessed};
+ghost use Rattle.witness_books.specs.Witnessed.{AreStarted, IsWitnessed};
 
 use crate::books::Books;
 use crate::laws::runs_keep_the_headline;
@@ -21,17 +21,17 @@ use std::alloc::{AllocError, Global};
 /// memory runs out later is answered so (`Books::step`), and those after it are steps all the same. From the
 /// books before any step, the events with their replies are a history, and the books stand for it.
 pub fn run(alloc: Global, books: &mut Books, events: Vec<Event>) -> Result<Vec<Reply>, Vec<Event>>
-    ensures roster { books.new.roster ≡ books.old.roster }
-    ensures runs { IfOk result (λ replies. RunsTo books.old.roster (parts_in books.old)
+    ensures beginning { beginning_of books.new ≡ beginning_of books.old }
+    ensures runs { IfOk result (λ replies. RunsTo (beginning_of books.old) (parts_in books.old)
         (map event_in events.items) (map reply_in replies.items) (parts_in books.new)) }
-    ensures headline { IfOk result (λ replies. KeepsHeadline books.old.roster (parts_in books.old)
+    ensures headline { IfOk result (λ replies. KeepsHeadline (beginning_of books.old) (parts_in books.old)
         (map event_in events.items) (map reply_in replies.items) (parts_in books.new)) }
     ensures memory { IfOk result (λ replies. AllZip
         (λ event reply. RunsOutWhereItMay books.old.roster (event_in event) (reply_in reply))
         events.items replies.items) }
-    ensures more { IfOk result (λ replies. RunOutForMore books.old.roster (parts_in books.old)
+    ensures more { IfOk result (λ replies. RunOutForMore (beginning_of books.old) (parts_in books.old)
         (map event_in events.items) (map reply_in replies.items)) }
-    ensures witnessed { IfOk result (λ replies. AreOpening books.old → IsWitnessed books.old.roster
+    ensures witnessed { IfOk result (λ replies. AreStarted books.old → IsWitnessed (beginning_of books.old)
         (map event_in events.items) (map reply_in replies.items) books.new) }
     ensures back { IfErr result (λ e. e ≡ events) }
     ensures stays { OnErr result (books.new ≡ books.old) }
@@ -53,13 +53,13 @@ fn run_all(
 ) -> Vec<Reply>
     requires none { replies.items ≡ [] }
     requires room { vec_len replies + vec_len events ≤ vec_capacity replies }
-    ensures roster { books.new.roster ≡ books.old.roster }
-    ensures runs { RunsTo books.old.roster (parts_in books.old) (map event_in events.items)
+    ensures beginning { beginning_of books.new ≡ beginning_of books.old }
+    ensures runs { RunsTo (beginning_of books.old) (parts_in books.old) (map event_in events.items)
         (map reply_in result.items) (parts_in books.new) }
     ensures memory { AllZip
         (λ event reply. RunsOutWhereItMay books.old.roster (event_in event) (reply_in reply))
         events.items result.items }
-    ensures more { RunOutForMore books.old.roster (parts_in books.old) (map event_in events.items)
+    ensures more { RunOutForMore (beginning_of books.old) (parts_in books.old) (map event_in events.items)
         (map reply_in result.items) }
 {
     runs_are_histories();

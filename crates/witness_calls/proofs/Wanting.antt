@@ -24,6 +24,7 @@ other_refusal f.NotAsked h = refl
 other_refusal f.NoJob h = refl
 other_refusal f.WrongJob h = refl
 other_refusal f.BookFull h = refl
+other_refusal f.BelowBase h = refl
 other_refusal f.NoMemory h = absurd (h refl)
 
 -- what isn't a refusal isn't want of memory

@@ -8,9 +8,9 @@ ghost use Rattle.witness_calls.specs.Closing.{IsFaulty, IsOneRun, passes_in};
 use witness_service::{Closed, Pass, ReceiptFault, WitnessService};
 
 /// Closes a witness with all its passes. `Ok` has its journal and these passes: what each of them was
-/// answered stands there once, in its order, and no other step does; so all steps make one history, under the
-/// roster with which the witness was opened. Else it is a fault, with all of these: `NotInJournal` where the
-/// passes don't fit. Takes no memory.
+/// answered stands there once, in its order, and no other step does; so all steps make one history, from the
+/// roster and the bases with which the witness was opened. Else it is a fault, with all of these:
+/// `NotInJournal` where the passes don't fit. Takes no memory.
 pub fn close(service: WitnessService, passes: Vec<Pass>) -> Result<Closed, ReceiptFault>
     ensures closed { IfOk result (IsClosed service passes.items) }
     ensures run { IfOk result IsOneRun }

@@ -1,6 +1,10 @@
 //! A witness, opened.
 
-ghost use Rattle.std.specs.Prelude.{◌≡◌, [], All, IfOk, vec_len};
+ghost use Rattle.std.specs.Prelude.{◌≡◌, [], All, IfErr, IfOk, map, vec_len};
+ghost use Rattle.node_book.specs.Rows.{known_in};
+ghost use Rattle.node_book.specs.witness_spec.Starting.{from_the_first};
+ghost use Rattle.witness_books.specs.Books.{beginning_of};
+ghost use Rattle.witness_books.specs.Starts.{MayStart, StartFails, handed};
 
 use authenticator::{Checked, Roster};
 use challenge::Base;
@@ -14,6 +18,7 @@ pub fn open_witness(
     roster: &Roster,
     passes: usize,
 ) -> Result<(WitnessService, Vec<Pass>), AllocError>
+    ensures beginning { IfOk result (λ opened. opened.0.beginning ≡ from_the_first roster.now) }
     ensures count { IfOk result (λ opened. vec_len opened.1 ≡ passes) }
     ensures empty { IfOk result (λ opened. All (λ p. p.claims ≡ []) opened.1.items) }
 {
@@ -26,19 +31,29 @@ pub fn open_witness(
     }
 }
 
-/// The same of a witness that begins with these bases, each of another member; of the members without a base it
-/// begins at the first entry. The faults are those of `Books::start`; `NoMemory` comes only where memory was
-/// refused.
+/// The same of a witness that begins with these bases, which were checked under this roster or another one. It
+/// fails as `Books::start` does, which looks at the bases first; `NoMemory` comes also where memory was refused
+/// for the copy of the roster or for the passes, or where a base's owners can't be counted further. After a
+/// fault the bases are let go.
 pub fn start_witness(
     alloc: Global,
     roster: &Roster,
     bases: Vec<Checked<Base>>,
     passes: usize,
 ) -> Result<(WitnessService, Vec<Pass>), StartFault>
+    ensures beginning { IfOk result (λ opened. opened.0.beginning ≡ record {
+      roster = roster.now;
+      bases = map (λ c. known_in c.value) bases.items;
+    }) }
     ensures count { IfOk result (λ opened. vec_len opened.1 ≡ passes) }
     ensures empty { IfOk result (λ opened. All (λ p. p.claims ≡ []) opened.1.items) }
+    ensures ok { IfOk result
+        (λ _. MayStart roster.now (map (λ c. handed c.value c.member) bases.items)) }
+    ensures fault { IfErr result
+        (StartFails roster.now (map (λ c. handed c.value c.member) bases.items)) }
 {
-    let books = Books::start(alloc, roster.try_clone(alloc)?, bases)?;
+    let roster = roster.try_clone(alloc)?;
+    let books = Books::start(alloc, roster, bases)?;
     match WitnessService::open(alloc, books, passes) {
         Ok(opened) => Ok(opened),
         Err(_) => Err(StartFault::NoMemory),

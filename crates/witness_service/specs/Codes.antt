@@ -4,7 +4,9 @@ use Rattle.std.specs.Coded.{Coded, code_by, coded×, coded_ℕ, coded_list}
 use Rattle.authenticator.specs.declared.member.Member.{Member}
 use Rattle.authenticator.specs.contracts.member.Member as members
 use Rattle.witness_books.specs.Books.{BooksParts, books_code}
+use Rattle.witness_books.specs.node_book.BookCodes.{base_code}
 use Rattle.witness_books.specs.node_book.NoteCodes.{note_code}
+use Rattle.witness_books.specs.witness_spec.Starting.{KnownBase}
 use Rattle.witness_books.specs.witness_spec.Events.{Event}
 use Rattle.witness_books.specs.witness_spec.Replies.{Reply}
 use Rattle.witness_service.specs.Claims.{Claim, Held}
@@ -31,5 +33,6 @@ journal_code =
 -- of what a service says
 abbrev pub service_code : Coded ServiceParts
 service_code =
-    code_by (List Member) (coded_list members.the_row.coded) (λ s. s.roster)
-    (λ ms. record { roster = ms }) (λ _. refl)
+    code_by (List Member × List KnownBase) (coded× (coded_list members.the_row.coded) (coded_list base_code))
+    (λ s. (s.beginning.roster, s.beginning.bases))
+    (λ p. record { beginning = record { roster = p.0; bases = p.1 } }) (λ _. refl)

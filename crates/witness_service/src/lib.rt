@@ -2,6 +2,7 @@
 #![tactic(auto)]
 
 mod admission;
+mod beginning;
 mod cache;
 mod checking;
 mod closing;
@@ -17,5 +18,5 @@ pub use pass::{Pass, Receipt};
 pub use shared::{Closed, ReceiptFault, WitnessService};
 pub use witness_books::{
     Back, Books, Event, EventOf, Indication, JobVerdict, Note, Question, Refusal, ReplayDone,
-    ReplayJob, Reply, ReplyOf, SharedSegment, run,
+    ReplayJob, Reply, ReplyOf, SharedSegment, StartFault, run,
 };

@@ -12,28 +12,27 @@ unwrap-place-requires c =
 pub index_mut-requires : goal.index_mut-requires
 index_mut-requires c =
     let here = is_here c.args.roster.now c.members.result.now c.args.member.now.node c.args.books.now.items
-    c.place_of.result c.unwrap-place.result c.requires.ready c.members.ensures c.place_of.ensures
-    c.unwrap-place.ensures in
+    (step_in c.args.step) c.place_of.result c.unwrap-place.result c.requires.can c.members.ensures
+    c.place_of.ensures c.unwrap-place.ensures in
     let inside = here.inside in
     search (rules, inside)
 
 pub noted_step-requires-clause-ready : goal.noted_step-requires-clause-ready
 noted_step-requires-clause-ready c =
-    here_ready c.books_are_ready.ensures.ready c.args.roster.now c.args.member.now c.args.books.now.items
-    c.unwrap-place.result c.index_mut.result.now c.requires.ready c.requires.member
+    here_ready c.args.roster.now c.args.member.now.node c.args.books.now.items (step_in c.args.step)
+    c.unwrap-place.result c.index_mut.result.now c.requires.can
     (is_here c.args.roster.now c.members.result.now c.args.member.now.node c.args.books.now.items
-    c.place_of.result c.unwrap-place.result c.requires.ready c.members.ensures c.place_of.ensures
-    c.unwrap-place.ensures)
+    (step_in c.args.step) c.place_of.result c.unwrap-place.result c.requires.can c.members.ensures
+    c.place_of.ensures c.unwrap-place.ensures)
     c.index_mut.ensures.value
 
 pub noted_step-requires-clause-of_log : goal.noted_step-requires-clause-of_log
 noted_step-requires-clause-of_log c =
-    here_of_log c.books_are_ready.ensures.ready c.args.roster.now c.args.member.now c.args.books.now.items
-    c.unwrap-place.result c.index_mut.result.now (step_in c.args.step) c.requires.ready c.requires.member
-    c.requires.of_log
+    here_of_log c.args.roster.now c.args.member.now.node c.args.books.now.items (step_in c.args.step)
+    c.unwrap-place.result c.index_mut.result.now c.requires.can
     (is_here c.args.roster.now c.members.result.now c.args.member.now.node c.args.books.now.items
-    c.place_of.result c.unwrap-place.result c.requires.ready c.members.ensures c.place_of.ensures
-    c.unwrap-place.ensures)
+    (step_in c.args.step) c.place_of.result c.unwrap-place.result c.requires.can c.members.ensures
+    c.place_of.ensures c.unwrap-place.ensures)
     c.index_mut.ensures.value
 
 -- the book at the place that was found makes the member's step, with its notes; the others stay
@@ -43,6 +42,6 @@ returns c =
     c.index_mut.result.now c.noted_step.new.self
     (λ old new. NotedSteps old (step_in c.args.step) c.noted_step.result.0 c.noted_step.result.1 new)
     (is_here c.args.roster.now c.members.result.now c.args.member.now.node c.args.books.now.items
-    c.place_of.result c.unwrap-place.result c.requires.ready c.members.ensures c.place_of.ensures
-    c.unwrap-place.ensures)
+    (step_in c.args.step) c.place_of.result c.unwrap-place.result c.requires.can c.members.ensures
+    c.place_of.ensures c.unwrap-place.ensures)
     c.index_mut.ensures.value c.noted_step.ensures

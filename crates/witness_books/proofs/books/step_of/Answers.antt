@@ -13,28 +13,27 @@ unwrap-place-requires c =
 pub index_mut-requires : goal.index_mut-requires
 index_mut-requires c =
     let here = is_here c.args.roster.now c.members.result.now c.args.member.now.node c.args.books.now.items
-    c.place_of.result c.unwrap-place.result c.requires.ready c.members.ensures c.place_of.ensures
-    c.unwrap-place.ensures in
+    (step_in c.args.step) c.place_of.result c.unwrap-place.result c.requires.can c.members.ensures
+    c.place_of.ensures c.unwrap-place.ensures in
     let inside = here.inside in
     search (rules, inside)
 
 pub step-requires-clause-ready : goal.step-requires-clause-ready
 step-requires-clause-ready c =
-    here_ready c.books_are_ready.ensures.ready c.args.roster.now c.args.member.now c.args.books.now.items
-    c.unwrap-place.result c.index_mut.result.now c.requires.ready c.requires.member
+    here_ready c.args.roster.now c.args.member.now.node c.args.books.now.items (step_in c.args.step)
+    c.unwrap-place.result c.index_mut.result.now c.requires.can
     (is_here c.args.roster.now c.members.result.now c.args.member.now.node c.args.books.now.items
-    c.place_of.result c.unwrap-place.result c.requires.ready c.members.ensures c.place_of.ensures
-    c.unwrap-place.ensures)
+    (step_in c.args.step) c.place_of.result c.unwrap-place.result c.requires.can c.members.ensures
+    c.place_of.ensures c.unwrap-place.ensures)
     c.index_mut.ensures.value
 
 pub step-requires-clause-of_log : goal.step-requires-clause-of_log
 step-requires-clause-of_log c =
-    here_of_log c.books_are_ready.ensures.ready c.args.roster.now c.args.member.now c.args.books.now.items
-    c.unwrap-place.result c.index_mut.result.now (step_in c.args.step) c.requires.ready c.requires.member
-    c.requires.of_log
+    here_of_log c.args.roster.now c.args.member.now.node c.args.books.now.items (step_in c.args.step)
+    c.unwrap-place.result c.index_mut.result.now c.requires.can
     (is_here c.args.roster.now c.members.result.now c.args.member.now.node c.args.books.now.items
-    c.place_of.result c.unwrap-place.result c.requires.ready c.members.ensures c.place_of.ensures
-    c.unwrap-place.ensures)
+    (step_in c.args.step) c.place_of.result c.unwrap-place.result c.requires.can c.members.ensures
+    c.place_of.ensures c.unwrap-place.ensures)
     c.index_mut.ensures.value
 
 -- the book at the place that was found makes the member's step; the others stay
@@ -44,6 +43,6 @@ returns c =
     c.index_mut.result.now c.step.new.self
     (λ old new. Steps old (step_in c.args.step) (reply_in c.step.result) new)
     (is_here c.args.roster.now c.members.result.now c.args.member.now.node c.args.books.now.items
-    c.place_of.result c.unwrap-place.result c.requires.ready c.members.ensures c.place_of.ensures
-    c.unwrap-place.ensures)
+    (step_in c.args.step) c.place_of.result c.unwrap-place.result c.requires.can c.members.ensures
+    c.place_of.ensures c.unwrap-place.ensures)
     c.index_mut.ensures.value c.step.ensures

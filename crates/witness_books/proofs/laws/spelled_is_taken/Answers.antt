@@ -7,13 +7,13 @@ pub returns-clause-whose : goal.returns-clause-whose
 returns-clause-whose c ms bytes event spell = (spelled_alike ms bytes event spell).whose_is
 
 pub returns-clause-owed : goal.returns-clause-owed
-returns-clause-owed c ms bytes event history reply spell = (
-  owed_alike ms (events.Deliver bytes) event (spelled_alike ms bytes event spell) history reply,
-  owed_alike ms event (events.Deliver bytes) (alike_spelled ms bytes event spell) history reply,
+returns-clause-owed c g bytes event history reply spell = (
+  owed_alike g (events.Deliver bytes) event (spelled_alike g.roster bytes event spell) history reply,
+  owed_alike g event (events.Deliver bytes) (alike_spelled g.roster bytes event spell) history reply,
 )
 
 pub returns-clause-taken : goal.returns-clause-taken
-returns-clause-taken c ms old new bytes event reply is_bytes is_event spell = (
-  taken_alike ms (events.Deliver bytes) event (spelled_alike ms bytes event spell) old new reply is_event,
-  taken_alike ms event (events.Deliver bytes) (alike_spelled ms bytes event spell) old new reply is_bytes,
+returns-clause-taken c g old new bytes event reply is_bytes is_event spell = (
+  taken_alike g (events.Deliver bytes) event (spelled_alike g.roster bytes event spell) old new reply is_event,
+  taken_alike g event (events.Deliver bytes) (alike_spelled g.roster bytes event spell) old new reply is_bytes,
 )

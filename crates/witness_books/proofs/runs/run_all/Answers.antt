@@ -25,7 +25,7 @@ steps-preserved c =
           c.step-reply.new.self c.args.events.items (into_iter_items c.steps.rest)
           (into_iter_items c.next.new.self) c.steps.replies.items c.push_reserved.new.self.items
           c.in-Some.event c.step-reply.result c.steps.invariant.run c.in-Some.ensures.items
-          c.push_reserved.ensures.items c.step-reply.ensures.roster c.step-reply.ensures.steps
+          c.push_reserved.ensures.items c.step-reply.ensures.beginning c.step-reply.ensures.steps
           c.step-reply.ensures.memory c.step-reply.ensures.more;
       room = omega (arith, room, rest, len, capacity);
     }
