@@ -11,7 +11,9 @@ use Rattle.std.specs.List.{AllByRecursion}
 use Rattle.witness_service.specs.Claims.{Claim, Held, claims_of}
 use Rattle.witness_service.specs.declared.shared.ReceiptFault.{ReceiptFault}
 use Rattle.witness_calls.specs.Closing.{IsFaulty}
-use Rattle.scripts.specs.Ends.{Closes, IsEnd, IsWatch, LeavesScript, Plays, Watch, Watches, Writes, WritesLines}
+use Rattle.witness_spec.specs.Starting.{KnownBase}
+use Rattle.scripts.specs.Ends.{AreJoined, Began, Closes, IsEnd, IsOneBase, IsWatch, LeavesScript, Plays, Watch}
+use Rattle.scripts.specs.Ends.{Watches, Writes, WritesLines}
 use Rattle.scripts.specs.Ends.{end_by, fault_after, first_fault, joined_line, joined_text, last_line, watch_text}
 use Rattle.scripts.specs.Turns.{Does, IsLine, IsTurn, Leaves, Runs, TakesTurn, Turn, WritesTurns, added_by}
 use Rattle.scripts.specs.Turns.{none_line, texts_of}
@@ -100,11 +102,14 @@ runs_same a b c x y z runs same claims =
     (subst (λ (l : List Claim). Runs a b x l) (sym claims) runs)
 
 -- all lines of a witness ran, and it closed
-pub watched : (a b c : Option (List ℕ)) (old claims : List Claim) (end : ScriptEnd) → old ≡ [] → Runs a b old claims
-    → IsEnd end → Closes claims end → Appends b c (last_line end) → Watches a c end
-watched a b c old claims end none runs is closes wrote = record {
-  watch = record { turns = runs.turns; closing = end };
+pub watched : (bases : List KnownBase) (a b c : Option (List ℕ)) (old claims : List Claim) (end : ScriptEnd)
+    → old ≡ [] → Runs a b old claims → IsEnd end → Began bases end → Closes claims end
+    → Appends b c (last_line end) → Watches bases a c end
+watched bases a b c old claims end none runs is began closes wrote = record {
+  watch = record { bases = bases; turns = runs.turns; closing = end };
+  begins = refl;
   is = record {
+    began = began;
     each = runs.each;
     end = is;
     pass = subst (λ (l : List Claim). Closes l end) (runs.added ∙ ap (λ l. l ++ added_by runs.turns) none) closes;
@@ -115,16 +120,47 @@ watched a b c old claims end none runs is closes wrote = record {
 
 -- ---- one after the other
 
--- Witnesses closed one after the other, another one began after each, and what is printed of them was written.
-pub record Joins (before after : Option (List ℕ)) (fault : Option ReceiptFault) : Type 0 where
+-- After some witnesses the next one begins so: the first one with these bases, each later one with one base.
+abbrev IsNext : List KnownBase → List Watch → List KnownBase → Type 0
+IsNext bases [] given = given ≡ bases
+IsNext bases (w ∷ watches) given = IsOneBase given
+
+-- Witnesses closed one after the other, another one began after each, the last one with these bases, and what is
+-- printed of them was written.
+pub record Joins (bases : List KnownBase) (before after : Option (List ℕ)) (fault : Option ReceiptFault)
+    (given : List KnownBase) : Type 0 where
   earlier : List Watch
   each : AllByRecursion IsWatch earlier
+  joined : AreJoined bases earlier
+  next : IsNext bases earlier given
   wrote : Appends before after (joined_text earlier)
   is_fault : fault ≡ first_fault None earlier
 
 -- none did yet
-pub no_joins : (before : Option (List ℕ)) → Joins before before None
-no_joins before = record { earlier = []; each = tt; wrote = Appends-nil before; is_fault = refl }
+pub no_joins : (bases : List KnownBase) (before : Option (List ℕ)) → Joins bases before before None bases
+no_joins bases before = record {
+  earlier = [];
+  each = tt;
+  joined = tt;
+  next = refl;
+  wrote = Appends-nil before;
+  is_fault = refl;
+}
+
+one_more : (ws : List Watch) (w : Watch) → AllByRecursion (λ x. IsOneBase x.bases) ws → IsOneBase w.bases
+    → AllByRecursion (λ x. IsOneBase x.bases) (ws ++ w ∷ [])
+one_more [] w each one = (one, tt)
+one_more (x ∷ ws) w each one = (each.0, one_more ws w each.1 one)
+
+joined_more : (bases : List KnownBase) (ws : List Watch) (w : Watch) → AreJoined bases ws → IsNext bases ws w.bases
+    → AreJoined bases (ws ++ w ∷ [])
+joined_more bases [] w joined next = (next, tt)
+joined_more bases (x ∷ ws) w joined next = (joined.0, one_more ws w joined.1 next)
+
+next_more : (bases : List KnownBase) (ws : List Watch) (w : Watch) (given : List KnownBase) → IsOneBase given
+    → IsNext bases (ws ++ w ∷ []) given
+next_more bases [] w given one = one
+next_more bases (x ∷ ws) w given one = one
 
 each_more : (ws : List Watch) (w : Watch) → AllByRecursion IsWatch ws → IsWatch w
     → AllByRecursion IsWatch (ws ++ w ∷ [])
@@ -137,9 +173,11 @@ fault_more known [] w = refl
 fault_more known (x ∷ ws) w = fault_more (fault_after known x.closing) ws w
 
 -- one more did
-pub joins_more : (a b c d : Option (List ℕ)) (fault : Option ReceiptFault) (end : ScriptEnd)
-    → Joins a b fault → Watches b c end → Appends c d joined_line → Joins a d (fault_after fault end)
-joins_more a b c d fault end joins one wrote =
+pub joins_more : (bases : List KnownBase) (a b c d : Option (List ℕ)) (fault : Option ReceiptFault)
+    (end : ScriptEnd) (given next : List KnownBase)
+    → Joins bases a b fault given → Watches given b c end → Appends c d joined_line → IsOneBase next
+    → Joins bases a d (fault_after fault end) next
+joins_more bases a b c d fault end given next joins one wrote has =
     let earlier : List Watch = joins.earlier ++ one.watch ∷ [] in
     let text : joined_text earlier ≡ joined_text joins.earlier ++ (watch_text one.watch ++ joined_line) =
     flat_map-append (λ w. watch_text w ++ joined_line) joins.earlier (one.watch ∷ [])
@@ -147,6 +185,9 @@ joins_more a b c d fault end joins one wrote =
     record {
       earlier = earlier;
       each = each_more joins.earlier one.watch joins.each one.is;
+      joined = joined_more bases joins.earlier one.watch joins.joined
+          (subst (IsNext bases joins.earlier) (sym one.begins) joins.next);
+      next = next_more bases joins.earlier one.watch next has;
       wrote = subst (λ (l : List ℕ). Appends a d l) (sym text)
           (Appends-trans a b d (joined_text joins.earlier) (watch_text one.watch ++ joined_line) joins.wrote
           (Appends-trans b c d (watch_text one.watch) joined_line one.wrote wrote));
@@ -155,11 +196,14 @@ joins_more a b c d fault end joins one wrote =
     }
 
 -- the last one closed
-plays : (a b c : Option (List ℕ)) (fault : Option ReceiptFault) (closing end : ScriptEnd) → Joins a b fault
-    → Watches b c closing → end ≡ end_by fault closing → Plays a c end
-plays a b c fault closing end joins one is = record {
+plays : (bases : List KnownBase) (a b c : Option (List ℕ)) (fault : Option ReceiptFault) (given : List KnownBase)
+    (closing end : ScriptEnd)
+    → Joins bases a b fault given → Watches given b c closing → end ≡ end_by fault closing → Plays bases a c end
+plays bases a b c fault given closing end joins one is = record {
   earlier = joins.earlier;
   last = one.watch;
+  joined = joined_more bases joins.earlier one.watch joins.joined
+      (subst (IsNext bases joins.earlier) (sym one.begins) joins.next);
   each = joins.each;
   is_last = one.is;
   wrote = Appends-trans a b c (joined_text joins.earlier) (watch_text one.watch) joins.wrote one.wrote;
@@ -185,43 +229,59 @@ end_is None closing none is = is
 end_is (Some fault) closing is one = is
 
 -- so the script's end is the first fault, or how the last one closed
-pub ended_so : (a b c : Option (List ℕ)) (fault : Option ReceiptFault) (closing end : ScriptEnd) → Joins a b fault
-    → Watches b c closing → end ≡ end_by fault closing → IsEnd end
-ended_so a b c fault closing end joins one is =
+pub ended_so : (bases : List KnownBase) (a b c : Option (List ℕ)) (fault : Option ReceiptFault)
+    (given : List KnownBase) (closing end : ScriptEnd)
+    → Joins bases a b fault given → Watches given b c closing → end ≡ end_by fault closing → IsEnd end
+ended_so bases a b c fault given closing end joins one is =
     subst IsEnd (sym is)
     (end_is fault closing
     (subst (λ (o : Option ReceiptFault). IfSome o IsFaulty) (sym joins.is_fault)
     (fault_is None joins.earlier tt joins.each)) (subst IsEnd one.closes one.is.end))
 
 -- and all was written
-pub ended : (a b c : Option (List ℕ)) (fault : Option ReceiptFault) (closing end : ScriptEnd) → Joins a b fault
-    → Watches b c closing → end ≡ end_by fault closing → Writes a c end
-ended a b c fault closing (ends.Closed x) joins one is = plays a b c fault closing (ends.Closed x) joins one is
-ended a b c fault closing (ends.NotInJournal x) joins one is =
-    plays a b c fault closing (ends.NotInJournal x) joins one is
-ended a b c fault closing (ends.Bad line) joins one is =
-    absurd (ended_so a b c fault closing (ends.Bad line) joins one is)
+pub ended : (bases : List KnownBase) (a b c : Option (List ℕ)) (fault : Option ReceiptFault)
+    (given : List KnownBase) (closing end : ScriptEnd)
+    → Joins bases a b fault given → Watches given b c closing → end ≡ end_by fault closing → Writes bases a c end
+ended bases a b c fault given closing (ends.Closed x) joins one is =
+    plays bases a b c fault given closing (ends.Closed x) joins one is
+ended bases a b c fault given closing (ends.NotInJournal x) joins one is =
+    plays bases a b c fault given closing (ends.NotInJournal x) joins one is
+ended bases a b c fault given closing (ends.Bad line) joins one is =
+    absurd (ended_so bases a b c fault given closing (ends.Bad line) joins one is)
 
--- Where lines of the last one were run and then a bad one came, what is printed of all lines before it was written.
-pub lines_left : (a b c : Option (List ℕ)) (fault : Option ReceiptFault) → Joins a b fault → WritesTurns b c
-    → WritesLines a c
-lines_left a b c fault joins turns = record {
+-- Where lines of the last one were run and then a bad one came, what is printed of all lines before it was
+-- written.
+pub lines_left : (bases : List KnownBase) (a b c : Option (List ℕ)) (fault : Option ReceiptFault)
+    (given : List KnownBase) → Joins bases a b fault given → WritesTurns b c → WritesLines bases a c
+lines_left bases a b c fault given joins turns = record {
   earlier = joins.earlier;
   each = joins.each;
+  joined = joins.joined;
   turns = turns.turns;
   each_turn = turns.each;
   wrote = Appends-trans a b c (joined_text joins.earlier) (texts_of turns.turns) joins.wrote turns.wrote;
 }
 
 -- whatever stopped the next line
-pub any_lines_left : {A : Type 0} (r : Result A Stop) (a c : Option (List ℕ)) → WritesLines a c
-    → IfErr r (LeavesScript a c)
-any_lines_left (Ok x) a c wrote = tt
-any_lines_left (Err stop) a c wrote = λ bad. wrote
+pub any_lines_left : {A : Type 0} (r : Result A Stop) (bases : List KnownBase) (a c : Option (List ℕ))
+    → WritesLines bases a c → IfErr r (LeavesScript bases a c)
+any_lines_left (Ok x) bases a c wrote = tt
+any_lines_left (Err stop) bases a c wrote = λ bad. wrote
+
+-- what stopped it, where lines of the last one were run
+pub stopped : {A B : Type 0} (q : Result A Stop) (bases : List KnownBase) (a b c : Option (List ℕ))
+    (fault : Option ReceiptFault) (given : List KnownBase)
+    → Joins bases a b fault given → IfErr q (Leaves b c) → (r : Result B Stop)
+    → ((stop : Stop) → r ≡ Err stop → q ≡ Err stop) → IfErr r (LeavesScript bases a c)
+stopped q bases a b c fault given joins left (Ok x) same = tt
+stopped q bases a b c fault given joins left (Err stop) same = λ bad.
+    lines_left bases a b c fault given joins
+    (subst (λ (o : Result _ Stop). IfErr o (Leaves b c)) (same stop refl) left bad)
 
 -- nothing was written
-pub no_lines : (before : Option (List ℕ)) → WritesLines before before
-no_lines before = lines_left before before before None (no_joins before) (no_turns before)
+pub no_lines : (bases : List KnownBase) (before : Option (List ℕ)) → WritesLines bases before before
+no_lines bases before =
+    lines_left bases before before before None bases (no_joins bases before) (no_turns before)
 
 -- the claims of the one pass that was handed in
 pub of_one : (handed : List Held) (pass : Held) (given : List (List Claim)) → given ≡ claims_of handed
