@@ -3,7 +3,7 @@
 ghost use Rattle.std.specs.Prelude.{◌≡◌, ◌==◌, ◌↔◌, All, IfErr, IfOk, IsTrue, map};
 ghost use Rattle.std.specs.List.{AllByRecursion, list_any};
 ghost use Rattle.authenticator.specs.Roster.{IsRoster};
-ghost use Rattle.challenge.specs.KnownBases.{IsSound, parts_of};
+ghost use Rattle.challenge.specs.KnownBases.{parts_of};
 ghost use Rattle.node_book.specs.evidence_spec.Base.{IsBaseOf};
 ghost use Rattle.node_book.specs.Rows.{BaseIsOfLog, base_in, known_in};
 ghost use Rattle.node_book.specs.witness_spec.Starting.{IsBeginning, IsOfSome, node_of};
@@ -134,7 +134,7 @@ fn is_of_roster(alloc: Global, roster: &Roster, base: &Checked<Base>) -> Result<
     ensures known { IfOk result (λ b. IsTrue b → IsOfSome roster.now (known_in base.now.value)) }
 {
     let value = base.value();
-    is_sound(value);
+    value.is_sound();
     let Some(member) = roster.member(value.showing().node()) else {
         return Ok(false);
     };
@@ -149,14 +149,6 @@ fn is_base_of(alloc: Global, base: &Base, member: &Member) -> Result<bool, Alloc
 {
     let state = base.state().state(alloc)?;
     Ok(base.log_version() == member.log_version && state_kind(&state) == member.kind)
-}
-
-/// It ends in its closing, and its state is the one there, as its type keeps it: does nothing, and tells a
-/// caller's proof.
-fn is_sound(base: &Base)
-    ensures { IsSound (parts_of base.now) base.now.state }
-{
-    let _ = base;
 }
 
 /// The bases alone, to be shared. `AllocError` comes only where a growth was refused.
