@@ -31,23 +31,16 @@ pub fn open_witness(
     }
 }
 
-<<<<<<< HEAD
 /// The same of a witness that begins with these bases, which were checked under this roster or another one. It
 /// fails as `Books::start` does, which looks at the bases first; `NoMemory` comes also where memory was refused
 /// for the copy of the roster or for the passes, or where a base's owners can't be counted further. After a
 /// fault the bases are let go.
-=======
-/// The same of a witness that begins with these bases, each of another member; of the members without a base it
-/// begins at the first entry. The faults are those of `Books::start`; `NoMemory` comes only where memory was
-/// refused.
->>>>>>> 538fdb01f5e10a3bb9a2fd515733ae981edd7fdc
 pub fn start_witness(
     alloc: Global,
     roster: &Roster,
     bases: Vec<Checked<Base>>,
     passes: usize,
 ) -> Result<(WitnessService, Vec<Pass>), StartFault>
-<<<<<<< HEAD
     ensures beginning { IfOk result (λ opened. opened.0.beginning ≡ record {
       roster = roster.now;
       bases = map (λ c. known_in c.value) bases.items;
@@ -61,12 +54,6 @@ pub fn start_witness(
 {
     let roster = roster.try_clone(alloc)?;
     let books = Books::start(alloc, roster, bases)?;
-=======
-    ensures count { IfOk result (λ opened. vec_len opened.1 ≡ passes) }
-    ensures empty { IfOk result (λ opened. All (λ p. p.claims ≡ []) opened.1.items) }
-{
-    let books = Books::start(alloc, roster.try_clone(alloc)?, bases)?;
->>>>>>> 538fdb01f5e10a3bb9a2fd515733ae981edd7fdc
     match WitnessService::open(alloc, books, passes) {
         Ok(opened) => Ok(opened),
         Err(_) => Err(StartFault::NoMemory),
