@@ -1,7 +1,10 @@
-//! Bases that nodes give: where a witness may begin that wasn't there from a log's first entry on, and the files
-//! that they go to.
+//! Bases that nodes give: where a witness may begin that wasn't there from a log's first entry on, and the
+//! files that they go to.
 
-ghost use Rattle.std.specs.Prelude.{◌≡◌};
+ghost use Rattle.std.specs.Prelude.{◌≡◌, IfNone, IfOk, IfSome};
+ghost use Rattle.challenge.specs.KnownBases.{IsGoodText, parts_of};
+ghost use Rattle.node_logs.specs.Bases.{GivesBase};
+ghost use Rattle.scripts.specs.Bases.{GivesGood, IsGiven, IsNotGiven, IsWithout};
 
 use crate::acts::Run;
 use crate::line::Place;
@@ -43,7 +46,8 @@ impl BaseFiles {
         })
     }
 
-    /// Waits for what a server signs after a CHECK, in the place of an earlier one, whose base it gives no more.
+    /// Waits for what a server signs after a CHECK, in the place of an earlier one, whose base it gives no
+    /// more.
     pub(crate) fn wait_for(&mut self, server: u32, number: u64) -> Result<(), AllocError> {
         if self.prefix.is_none() {
             return Ok(());
@@ -64,11 +68,41 @@ impl BaseFiles {
 
 /// The text of the base that a node gives at a number; none where there is no base, or its text would be too
 /// long. A client gives none.
-fn base_text(alloc: Global, node: &NodeLog, at: u64) -> Result<Option<Vec<u8>>, AllocError> {
+fn base_text(alloc: Global, node: &NodeLog, at: u64) -> Result<Option<Vec<u8>>, AllocError>
+    ensures given { IfOk result (λ found. IfSome found (λ text. GivesBase node.now at text.items)) }
+    ensures none { IfOk result (λ found. IfNone found (IsWithout node.now at)) }
+{
     match node.base(alloc, at) {
         Ok(text) => Ok(Some(text)),
         Err(BaseFault::OutOfRange | BaseFault::TooLong) => Ok(None),
         Err(BaseFault::NoMemory) => Err(AllocError),
+    }
+}
+
+/// The base of a text that a node of the roster gave. It is good, so any refusal is want of memory.
+fn checked_base(alloc: Global, roster: &Roster, text: &[u8]) -> Result<Checked<Base>, Stop>
+    ensures { IfOk result (λ c. IsGoodText roster.now text.now (parts_of c.value) c.member c.value.state) }
+{
+    match check_base(alloc, roster, text) {
+        Ok(base) => Ok(base),
+        Err(_) => Err(Stop::NoMemory),
+    }
+}
+
+/// The base that a node gives at a number, checked; none where it gives none.
+fn given_base(
+    alloc: Global,
+    roster: &Roster,
+    node: &NodeLog,
+    at: u64,
+) -> Result<Option<Checked<Base>>, Stop>
+    ensures given { IfOk result (λ found. IfSome found (λ c.
+        GivesGood roster.now node.now at c.value c.member)) }
+    ensures none { IfOk result (λ found. IfNone found (IsWithout node.now at)) }
+{
+    match base_text(alloc, node, at)? {
+        Some(text) => Ok(Some(checked_base(alloc, roster, &text)?)),
+        None => Ok(None),
     }
 }
 
@@ -89,16 +123,16 @@ fn file_text(alloc: Global, roster: &Roster, base: &[u8]) -> Result<Vec<u8>, All
 }
 
 impl<R: Threads + Wait + Sync, S: Shelf> Run<'_, '_, R, S> {
-    /// The base that a node gives at a number, checked; none where it gives none.
-    pub(crate) fn base_at(&self, place: Place) -> Result<Option<Checked<Base>>, Stop> {
-        let node = self.parties.node(place.node).ok_or(Stop::Bad)?;
-        let Some(text) = base_text(self.alloc, node, u64::from(place.number))? else {
-            return Ok(None);
-        };
-        match check_base(self.alloc, self.roster, &text) {
-            Ok(base) => Ok(Some(base)),
-            // A node of the roster gives good bases, so memory was refused.
-            Err(_) => Err(Stop::NoMemory),
+    /// `join N K`: the base that the node gives at that number, checked; none where it gives none.
+    pub(crate) fn base_at(&self, place: Place) -> Result<Option<Checked<Base>>, Stop>
+        ensures given { IfOk result (λ found. IfSome found (λ c.
+            IsGiven self.now.roster.now self.now.parties.now place.node place.number c.value c.member)) }
+        ensures none { IfOk result (λ found. IfNone found
+            (IsNotGiven self.now.parties.now place.node place.number)) }
+    {
+        match self.parties.node(place.node) {
+            Some(node) => given_base(self.alloc, self.roster, node, u64::from(place.number)),
+            None => Err(Stop::Bad),
         }
     }
 

@@ -1,6 +1,7 @@
 //! Messages between the nodes of a script.
 
 ghost use Rattle.std.specs.Prelude.{◌≡◌, IfOk, string_bytes};
+ghost use Rattle.scripts.specs.Nodes.{IsRefusalOf, IsToLie, SaysCheck, SaysSkip};
 ghost use Rattle.scripts.specs.Turns.{Does, IsHanded, IsMarked, IsRefusal, IsSilent, IsSkipped};
 
 use crate::acts::Run;
@@ -35,7 +36,9 @@ impl<R: Threads + Wait + Sync, S: Shelf> Run<'_, '_, R, S> {
 
     /// `lie S`: the server's next reply will be changed.
     pub(crate) fn lie(&mut self, server: u32) -> Result<String, Stop>
-        ensures { IfOk result (λ text. Does IsSilent self.old.caller (string_bytes text) self.new.caller) }
+        ensures silent { IfOk result (λ text.
+            Does IsSilent self.old.caller (string_bytes text) self.new.caller) }
+        ensures node { IfOk result (λ _. IsToLie self.old.parties.now server self.new.parties.now) }
     {
         if !self.parties.lie(server) {
             return Err(Stop::Bad);
@@ -43,23 +46,30 @@ impl<R: Threads + Wait + Sync, S: Shelf> Run<'_, '_, R, S> {
         self.line("ok")
     }
 
-    /// `mark S`: the server logs a CHECK. Where bases are written its base is, once something after it is signed.
+    /// `mark S`: the server logs a CHECK. Where bases are written its base is, once something after it is
+    /// signed.
     pub(crate) fn mark(&mut self, server: u32) -> Result<String, Stop>
-        ensures { IfOk result (λ text. Does IsMarked self.old.caller (string_bytes text) self.new.caller) }
+        ensures marked { IfOk result (λ text.
+            Does IsMarked self.old.caller (string_bytes text) self.new.caller) }
+        ensures node { IfOk result (λ text.
+            SaysCheck self.old.parties.now server (string_bytes text) self.new.parties.now) }
     {
-        let node = self.parties.server(server).ok_or(Stop::Bad)?;
-        match node.checkpoint(self.alloc) {
-            Ok(number) => {
+        match self.parties.checkpoint(self.alloc, server) {
+            Some(Ok(number)) => {
                 self.bases.wait_for(server, number.get())?;
                 Ok(marked_line(self.alloc, number.get())?)
             }
-            Err(refusal) => self.refuse(refusal),
+            Some(Err(refusal)) => self.refuse(refusal),
+            None => Err(Stop::Bad),
         }
     }
 
     /// `skip N BY`: the next entry of the node's log skips so many numbers.
     pub(crate) fn skip(&mut self, node: u32, by: u32) -> Result<String, Stop>
-        ensures { IfOk result (λ text. Does IsSkipped self.old.caller (string_bytes text) self.new.caller) }
+        ensures skipped { IfOk result (λ text.
+            Does IsSkipped self.old.caller (string_bytes text) self.new.caller) }
+        ensures node { IfOk result (λ text.
+            SaysSkip self.old.parties.now node by (string_bytes text) self.new.parties.now) }
     {
         match self.parties.skip(node, by) {
             Some(Ok(())) => self.line("ok"),
@@ -181,7 +191,8 @@ impl<R: Threads + Wait + Sync, S: Shelf> Run<'_, '_, R, S> {
 
     /// The line of a node's refusal.
     fn refuse(&self, refusal: Refusal) -> Result<String, Stop>
-        ensures { IfOk result (λ text. IsRefusal (string_bytes text)) }
+        ensures is { IfOk result (λ text. IsRefusal (string_bytes text)) }
+        ensures of { IfOk result (λ text. IsRefusalOf refusal (string_bytes text)) }
     {
         let number = refusal.number().ok_or(Stop::NoMemory)?;
         Ok(refused_line(self.alloc, number)?)

@@ -1,10 +1,11 @@
 //! The nodes of a script.
 
-ghost use Rattle.std.specs.Prelude.{◌<◌, ◌≤◌, IfSome, length};
+ghost use Rattle.std.specs.Prelude.{◌≡◌, ◌<◌, ◌≤◌, false, HoldsAt, IfNone, IfSome, IsTrue, length};
+ghost use Rattle.scripts.specs.Nodes.{HasNone, IsNodeOf, IsToLie, LetsSkip, LogsCheck};
 
 use crate::line::{NodeLine, Pair};
 use crate::stop::Stop;
-use authenticator::{Kind, Member, Roster};
+use authenticator::{Kind, Member, Number, Roster};
 use commitment::Refusal;
 use node_keys::{KeyedNode, Masters};
 use nodes::{ClientNode, Node, NodeLog, Role, ServerNode};
@@ -132,7 +133,9 @@ impl Parties {
     }
 
     /// The node with a number.
-    pub(crate) fn node(&self, number: u32) -> Option<&NodeLog> {
+    pub(crate) fn node(&self, number: u32) -> Option<&NodeLog>
+        ensures { IfSome result (λ node. IsNodeOf self.now number node.now) }
+    {
         if let Some(place) = place_in(&self.clients, number) {
             return Some(self.clients[place].node());
         }
@@ -159,7 +162,10 @@ impl Parties {
     }
 
     /// Tells the server with a number to lie, if there is one.
-    pub(crate) fn lie(&mut self, number: u32) -> bool {
+    pub(crate) fn lie(&mut self, number: u32) -> bool
+        ensures lies { IsTrue result → IsToLie self.old number self.new }
+        ensures none { result ≡ false → (self.new ≡ self.old) × HasNone self.old.servers.items number }
+    {
         match place_in(&self.servers, number) {
             Some(place) => {
                 self.servers[place].lie();
@@ -169,8 +175,25 @@ impl Parties {
         }
     }
 
+    /// Lets the server with a number log a CHECK, if there is one.
+    pub(crate) fn checkpoint(
+        &mut self,
+        alloc: Global,
+        number: u32,
+    ) -> Option<Result<Number, Refusal>>
+        ensures some { IfSome result (λ answer. LogsCheck self.old number answer self.new) }
+        ensures none { IfNone result ((self.new ≡ self.old) × HasNone self.old.servers.items number) }
+    {
+        let place = place_in(&self.servers, number)?;
+        Some(self.servers[place].checkpoint(alloc))
+    }
+
     /// Lets the next entry of the log of the node with a number skip so many numbers, if there is such a node.
-    pub(crate) fn skip(&mut self, number: u32, by: u32) -> Option<Result<(), Refusal>> {
+    pub(crate) fn skip(&mut self, number: u32, by: u32) -> Option<Result<(), Refusal>>
+        ensures some { IfSome result (λ answer. LetsSkip self.old number by answer self.new) }
+        ensures none { IfNone result ((self.new ≡ self.old)
+            × HasNone self.old.clients.items number × HasNone self.old.servers.items number) }
+    {
         if let Some(place) = place_in(&self.clients, number) {
             return Some(self.clients[place].skip(by));
         }
@@ -188,12 +211,9 @@ impl Parties {
 
 /// The place of the node with a number.
 fn place_in<R: Role>(nodes: &[Node<R>], number: u32) -> Option<usize>
-    ensures { IfSome result (λ place. place < length nodes.now) }
+    ensures some { IfSome result (λ place. place < length nodes.now) }
+    ensures node { IfSome result (λ place. HoldsAt (λ n. n.node ≡ number) nodes.now place) }
+    ensures none { IfNone result (HasNone nodes.now number) }
 {
-    for place in 0..nodes.len() {
-        if nodes[place].number() == number {
-            return Some(place);
-        }
-    }
-    None
+    nodes.iter().position(|node| node.number() == number)
 }

@@ -1,7 +1,8 @@
 //! Running a script.
 
-ghost use Rattle.std.specs.Prelude.{◌≡◌, [], false, IfErr, IfOk, IsOk};
+ghost use Rattle.std.specs.Prelude.{◌≡◌, [], false, IfErr, IfOk, IsOk, map};
 ghost use Rattle.std.specs.Io.KnownBytes.{IsAtEnd};
+ghost use Rattle.node_book.specs.Rows.{known_in};
 ghost use Rattle.scripts.specs.Ends.{IsEnd, IsReadToEnd, LeavesScript, Writes, end_by, fault_after};
 
 use crate::bases::BaseFiles;
@@ -70,7 +71,8 @@ pub fn run_script<R: Threads + Wait + Sync, I: Read, O: Write, S: Shelf>(
     bases: Vec<Checked<Base>>,
 ) -> Result<ScriptEnd, ScriptFault>
     ensures end { IfOk result IsEnd }
-    ensures turns { IfOk result (Writes (O.contents writer.old) (O.contents writer.new)) }
+    ensures turns { IfOk result (Writes (map (λ c. known_in c.value) bases.items)
+        (O.contents writer.old) (O.contents writer.new)) }
     ensures read { IfOk result (IsReadToEnd (I.remaining reader.new)) }
 {
     let mut cursor = Cursor::new(alloc);
@@ -96,8 +98,10 @@ fn run_all<R: Threads + Wait + Sync, I: Read, O: Write, S: Shelf>(
     bases: Vec<Checked<Base>>,
 ) -> Result<ScriptEnd, Stop>
     ensures end { IfOk result IsEnd }
-    ensures turns { IfOk result (Writes (O.contents writer.old) (O.contents writer.new)) }
-    ensures bad { IfErr result (LeavesScript (O.contents writer.old) (O.contents writer.new)) }
+    ensures turns { IfOk result (Writes (map (λ c. known_in c.value) bases.items)
+        (O.contents writer.old) (O.contents writer.new)) }
+    ensures bad { IfErr result (LeavesScript (map (λ c. known_in c.value) bases.items)
+        (O.contents writer.old) (O.contents writer.new)) }
     ensures read { IsOk result → IsAtEnd (I.remaining reader.new) }
 {
     let (listed, there) = read_nodes(rt, alloc, reader, cursor)?;
@@ -130,8 +134,10 @@ fn run_witnesses<R: Threads + Wait + Sync, I: Read, O: Write, S: Shelf>(
     requires end { there ≡ false → IsAtEnd (I.remaining reader.old) }
     requires new { first.pass.claims ≡ [] }
     ensures end { IfOk result IsEnd }
-    ensures turns { IfOk result (Writes (O.contents writer.old) (O.contents writer.new)) }
-    ensures bad { IfErr result (LeavesScript (O.contents writer.old) (O.contents writer.new)) }
+    ensures turns { IfOk result (Writes first.service.beginning.bases
+        (O.contents writer.old) (O.contents writer.new)) }
+    ensures bad { IfErr result (LeavesScript first.service.beginning.bases
+        (O.contents writer.old) (O.contents writer.new)) }
     ensures read { IsOk result → IsAtEnd (I.remaining reader.new) }
 {
     let mut witness = first;

@@ -1,8 +1,9 @@
 //! A witness of a script, from its opening to its closing.
 
-ghost use Rattle.std.specs.Prelude.{◌≡◌, ◌≢◌, [], false, IfErr, IfNone, IfOk, IfSome, OnOk};
+ghost use Rattle.std.specs.Prelude.{◌≡◌, ◌≢◌, [], ◌∷◌, false, IfErr, IfNone, IfOk, IfSome, OnOk, map};
 ghost use Rattle.std.specs.Io.KnownBytes.{Appends, IsAtEnd};
-ghost use Rattle.scripts.specs.Ends.{Closes, IsEnd, Watches, joined_line, last_line};
+ghost use Rattle.node_book.specs.Rows.{known_in};
+ghost use Rattle.scripts.specs.Ends.{Began, Closes, IsEnd, Watches, joined_line, last_line};
 ghost use Rattle.scripts.specs.Turns.{Leaves, Runs, TakesTurn};
 
 use crate::acts::Run;
@@ -46,7 +47,11 @@ impl Witness {
         roster: &Roster,
         bases: Vec<Checked<Base>>,
     ) -> Result<Witness, StartFault>
-        ensures { IfOk result (λ witness. witness.pass.claims ≡ []) }
+        ensures claims { IfOk result (λ witness. witness.pass.claims ≡ []) }
+        ensures began { IfOk result (λ witness. witness.service.beginning ≡ record {
+          roster = roster.now;
+          bases = map (λ c. known_in c.value) bases.items;
+        }) }
     {
         let (service, mut passes) = start_witness(alloc, roster, bases, 1)?;
         match passes.pop() {
@@ -63,6 +68,10 @@ pub(crate) fn join<O: Write, S>(
     writer: &mut O,
 ) -> Result<Witness, Stop>
     ensures claims { IfOk result (λ witness. witness.pass.claims ≡ []) }
+    ensures began { IfOk result (λ witness. witness.service.beginning ≡ record {
+      roster = company.now.roster.now;
+      bases = known_in base.value ∷ [];
+    }) }
     ensures wrote { IfOk result (λ _. Appends (O.contents writer.old) (O.contents writer.new) joined_line) }
     ensures bad { IfErr result (λ stop. stop ≢ Stop.Bad) }
 {
@@ -93,7 +102,8 @@ pub(crate) fn watch<R: Threads + Wait + Sync, I: Read, O: Write, S: Shelf>(
 ) -> Result<(ScriptEnd, Option<Checked<Base>>), Stop>
     requires end { there ≡ false → IsAtEnd (I.remaining reader.old) }
     requires new { witness.pass.claims ≡ [] }
-    ensures watched { IfOk result (λ r. Watches (O.contents writer.old) (O.contents writer.new) r.0) }
+    ensures watched { IfOk result (λ r. Watches witness.service.beginning.bases
+        (O.contents writer.old) (O.contents writer.new) r.0) }
     ensures bad { IfErr result (Leaves (O.contents writer.old) (O.contents writer.new)) }
     ensures read { IfOk result (λ r. IfNone r.1 (IsAtEnd (I.remaining reader.new))) }
 {
@@ -219,6 +229,7 @@ fn last_line(end: &ScriptEnd) -> &'static str
 /// Closes the witness. It has each receipt of the pass in its journal, and no step besides, or a fault.
 fn closed(alloc: Global, service: WitnessService, pass: Pass) -> Result<ScriptEnd, Stop>
     ensures end { IfOk result IsEnd }
+    ensures began { IfOk result (Began service.beginning.bases) }
     ensures pass { IfOk result (Closes pass.claims) }
     ensures err { IfErr result (λ stop. stop ≢ Stop.Bad) }
 {
@@ -240,6 +251,7 @@ fn close<O: Write>(
     writer: &mut O,
 ) -> Result<ScriptEnd, Stop>
     ensures end { IfOk result IsEnd }
+    ensures began { IfOk result (Began service.beginning.bases) }
     ensures pass { IfOk result (Closes pass.claims) }
     ensures wrote { IfOk result (λ end. Appends (O.contents writer.old) (O.contents writer.new)
         (last_line end)) }

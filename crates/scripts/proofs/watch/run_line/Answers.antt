@@ -2,7 +2,7 @@ use Rattle.std.proofs.Common.{◌≡◌, List, ℕ, Result, Ok, Err, string_byte
 use Rattle.std.specs.Prelude.{OnOk}
 use Rattle.scripts.specs.Turns.{Does, IsDone}
 use Rattle.scripts.proofs.Running.{turn_taken}
-use Rattle.scripts.proofs.script.run_line.Goals as goal
+use Rattle.scripts.proofs.watch.run_line.Goals as goal
 
 on_ok : {A E P Q : Type 0} (r : Result A E) → (P → Q) → OnOk r P → OnOk r Q
 on_ok (Ok x) so h = so h

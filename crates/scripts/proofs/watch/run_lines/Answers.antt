@@ -1,6 +1,6 @@
 use Rattle.std.proofs.Common.{refl}
 use Rattle.scripts.proofs.Running.{any_left, runs_left, runs_more}
-use Rattle.scripts.proofs.script.run_lines.Goals as goal
+use Rattle.scripts.proofs.watch.run_lines.Goals as goal
 
 -- the texts of the lines that ran were written, and nothing since
 pub returns-in_err-more-clause-bad : goal.returns-in_err-more-clause-bad

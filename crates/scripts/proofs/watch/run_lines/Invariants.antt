@@ -1,7 +1,7 @@
 use Rattle.std.proofs.Common.{◌≡◌, false}
 use Rattle.std.specs.Io.KnownBytes.{IsAtEnd}
 use Rattle.scripts.specs.Turns.{Runs}
-use Rattle.scripts.proofs.script.run_lines.Given as goal
+use Rattle.scripts.proofs.watch.run_lines.Given as goal
 
 -- the lines so far were run, and where none is there the script is at its end
 abbrev pub invariant-loop : goal.invariant-loop
