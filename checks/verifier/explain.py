@@ -39,6 +39,8 @@ PREMISES = ["the roster is the service's own: all of its members, each with its 
             'nobody forged a signature that the file shows: none verifies for a number and a hash that the node did '
             'not sign',
             'no two of the texts that were hashed have the same SHA-256 digest']
+BASE_PREMISE = ("the state at the base is the one whose digest the log has there, by the signature that closes the base's "
+                'showing; another signature closes the entries after it, and what the log has before the base is not looked at')
 
 
 @dataclass(frozen=True)
@@ -558,8 +560,9 @@ UNDATED = 'a signature has no date: nothing here says when the node signed'
 CLEARS_NOBODY = 'no evidence clears nobody: it does not say that a node is honest'
 
 
-def rests_on(rules: str) -> dict:
-    return {'rests_on': [{'premise': premise} for premise in [*PREMISES, 'the rules of docs/CHECKING.md' + rules]],
+def rests_on(rules: str, *further: str) -> dict:
+    return {'rests_on': [{'premise': premise}
+                         for premise in [*PREMISES, *further, 'the rules of docs/CHECKING.md' + rules]],
             'note': UNDATED}
 
 
@@ -610,8 +613,9 @@ def base_facts(roster: Roster, base: Base) -> dict:
 def based_facts(roster: Roster, based: Based, detail: Detail) -> dict:
     base, replay = based.base, based.replay
     log = Log(roster, replay, base)
-    contents = ('its entries after the base, which --entries lists; what is owed at an entry follows from the state of the '
-                'base and the entries before it, and --state K shows the state before entry K')
+    contents = ("its entries after the base, which --entries lists; what is owed at an entry follows from the base's state, in "
+                'place of the one that the node begins with, and from the entries between, and --state K shows the state '
+                'before entry K')
     said = {'charge': 'its log has a fault after a base', 'base': base_facts(roster, base), 'log': {
         'node': replay.node, 'first': str(replay.first), 'hash_before_it': replay.opening.hex(),
         'count': len(replay.entries), 'contents': contents, 'closing': closing_of(roster, replay.log, replay.closing)}}
@@ -702,9 +706,7 @@ def fault_finding(roster: Roster, replay: Replay, fault: Fault, number: int, bas
     said = {'fault': {'fault': int(fault), 'name': name, 'meaning': meaning, 'entry': str(number)},
             'entries': [log.entry(at) for at in log.concerned(fault)]}
     rules = ', which stand on RFC 1094, RFC 4506 and RFC 5531'
-    if base is not None:
-        rules += '; the state at the base is the one that the digest in the log says, and nothing before it is looked at'
-    return said | log.comparison(fault) | rests_on(rules)
+    return said | log.comparison(fault) | rests_on(rules, *([] if base is None else [BASE_PREMISE]))
 
 
 def not_signed(roster: Roster, node: int) -> str:

@@ -4,7 +4,7 @@
 use crate::evidence::{Content as Charged, Made as MadeEvidence, holds_of};
 use crate::made::{Content, packet_of};
 use authenticator::{Checked, Roster, Signs, Word};
-use challenge::{AuditedLog, Charge, Evidence, Fork, Showing};
+use challenge::{AuditedLog, BaseText, BasedReplay, Charge, Evidence, Fork, Showing};
 use envelopes::Envelope;
 use packets::{Packet, read_packet};
 use secure_log::log_entries::{Body, Entry, SignatureText, are_same_entries, copies_of};
@@ -197,11 +197,26 @@ fn audited_is_copied(alloc: Global, log: &AuditedLog) -> bool {
     }
 }
 
+fn base_is_copied(alloc: Global, base: &BaseText) -> bool {
+    match base.try_clone(alloc) {
+        Ok(copy) => copy.is_same(base),
+        Err(_) => false,
+    }
+}
+
+fn based_is_copied(alloc: Global, based: &BasedReplay) -> bool {
+    match based.try_clone(alloc) {
+        Ok(copy) => copy.is_same(based) && base_is_copied(alloc, based.base()),
+        Err(_) => false,
+    }
+}
+
 /// Whether what a charge holds is.
 fn charged_is_copied(alloc: Global, charge: &Charge) -> bool {
     match charge {
         Charge::Fork(fork) => fork_is_copied(alloc, fork),
         Charge::Replay(log) => audited_is_copied(alloc, log),
+        Charge::Based(based) => based_is_copied(alloc, based),
     }
 }
 
@@ -230,6 +245,7 @@ fn evidence_is_copied_whole(rt: HostRuntime) {
         Charged::TwoHashes,
         Charged::AtZero(1),
         Charged::Clock(1_000_000),
+        Charged::ClockAfterBase(1_000_000),
     ] {
         let copied = holds_of(rt.alloc(), content, made_is_copied);
         assert!(rt; copied, "{content:?}");

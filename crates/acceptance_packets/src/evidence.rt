@@ -1,6 +1,7 @@
 //! Evidence against node 2, made, written, read and examined. Each function is small, and gives none or
 //! false where memory is refused.
 
+use crate::bases::based;
 use crate::made::{keys_of_two, roster_of_two};
 use acceptance_helpers::signed;
 use authenticator::{Authenticator, LogVersion, Number, Roster};
@@ -22,6 +23,8 @@ pub enum Content {
     AtZero(u8),
     /// A log that has a reading of the clock at one second and so many microseconds alone.
     Clock(u32),
+    /// The same after a base, on which it doesn't follow.
+    ClockAfterBase(u32),
 }
 
 /// What an authenticator of a hash shows.
@@ -91,16 +94,25 @@ fn hash_of(alloc: Global, microseconds: u32) -> Option<[u8; 32]> {
     }
 }
 
-fn clock(alloc: Global, signer: &mut Signer, microseconds: u32) -> Option<Evidence> {
-    let entry = clock_entry(microseconds);
+/// The log of that entry, closed.
+fn clock_log(alloc: Global, signer: &mut Signer, microseconds: u32) -> Option<AuditedLog> {
     let hash = hash_of(alloc, microseconds)?;
     match signed(signer, 2, Number::new(1), hash) {
-        Some(closing) => {
-            let log = log_of_one(alloc, entry, &closing)?;
-            Evidence::new(2, Charge::Replay(log))
-        }
+        Some(closing) => log_of_one(alloc, clock_entry(microseconds), &closing),
         None => None,
     }
+}
+
+fn clock(alloc: Global, signer: &mut Signer, microseconds: u32) -> Option<Evidence> {
+    let log = clock_log(alloc, signer, microseconds)?;
+    Evidence::new(2, Charge::Replay(log))
+}
+
+fn clock_after_base(alloc: Global, signer: &mut Signer, microseconds: u32) -> Option<Evidence> {
+    let roster = roster_of_two(alloc, signer)?;
+    let log = clock_log(alloc, signer, microseconds)?;
+    let based = based(alloc, signer, &roster, log)?;
+    Evidence::new(2, Charge::Based(based))
 }
 
 fn evidence_of(alloc: Global, signer: &mut Signer, content: Content) -> Option<Evidence> {
@@ -108,6 +120,7 @@ fn evidence_of(alloc: Global, signer: &mut Signer, content: Content) -> Option<E
         Content::TwoHashes => two_hashes(alloc, signer),
         Content::AtZero(byte) => at_zero(alloc, signer, [byte; 32]),
         Content::Clock(microseconds) => clock(alloc, signer, microseconds),
+        Content::ClockAfterBase(microseconds) => clock_after_base(alloc, signer, microseconds),
     }
 }
 

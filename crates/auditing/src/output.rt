@@ -162,7 +162,7 @@ impl<E: Write, S: Shelf> AuditOutput<E, S> {
     }
 
     /// Puts a file in its place. What goes wrong is said and noted.
-    fn put_file(&mut self, name: &str, bytes: &[u8])
+    pub fn put_file(&mut self, name: &str, bytes: &[u8])
         ensures goes { Goes S.files self.old self.new }
         ensures put { self.new.trouble ≡ troubles.None →
             Puts (S.files self.old.shelf) name.now bytes.now (S.files self.new.shelf) }

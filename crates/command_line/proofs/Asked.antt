@@ -194,6 +194,8 @@ pub record IsRunAsked (rows : List Row) (a : RunAsked) : Type 0 where
   pub roster_out : a.roster_out ≡ first_of (codes "roster-out") rows
   -- what the names of files with bases begin with, if it is given
   pub base_out : a.base_out ≡ first_of (codes "base-out") rows
+  -- the file with the base at which the witness begins, if one is named
+  pub base : a.base ≡ first_of (codes "base") rows
 
 -- `run` asks for what its matches hold
 pub run_is : (words : List Text) (rows : List Row) (a : RunAsked) → fault_of commands words ≡ []
@@ -205,7 +207,7 @@ run_is words rows a none is asks =
     ∙ ap (λ (x : RunAsked). Some (Run x)) same
   where
     same : run_of rows (unwrap_or (first_of (codes "file") rows) []) ≡ a
-    same = rw (sym asks.file, sym asks.roster_out, sym asks.base_out) refl
+    same = rw (sym asks.file, sym asks.roster_out, sym asks.base_out, sym asks.base) refl
 
 -- the subcommands that have words of their own
 abbrev others : List Text

@@ -33,6 +33,10 @@ pub record IsAsked (rows : List Row) (a : ServeAsked) : Type 0 where
   pub idle : a.idle ≡ first_of (codes "idle") rows
   -- the version of the logs, if it is given
   pub log_version : a.log_version ≡ first_of (codes "log-version") rows
+  -- the folder that bases go to, if one is given
+  pub base_out : a.base_out ≡ first_of (codes "base-out") rows
+  -- the calls between two CHECKs, if they are given
+  pub check_every : a.check_every ≡ first_of (codes "check-every") rows
   -- whether progress is asked for, where the matches tell it
   pub progress : is_told (codes "progress") rows ≡ true → a.progress ≡ is_set (codes "progress") rows
 
@@ -72,5 +76,7 @@ serve_is words rows a none is asks =
       sym asks.control,
       sym asks.idle,
       sym asks.log_version,
+      sym asks.base_out,
+      sym asks.check_every,
       sym progress,
     ) refl

@@ -63,11 +63,11 @@ roster_command = with_rule (new_app (codes "roster")) file_argument
 abbrev pub base_command : App
 base_command = with_rule (new_app (codes "base")) file_argument
 
--- `run`, with the options `--roster-out` and `--base-out` and a file
+-- `run`, with the options `--roster-out`, `--base-out` and `--base` and a file
 abbrev pub run_command : App
 run_command =
-    with_rule (with_rule (with_rule (new_app (codes "run")) (file_option (codes "roster-out")))
-    (file_option (codes "base-out"))) file_argument
+    with_rule (with_rule (with_rule (with_rule (new_app (codes "run")) (file_option (codes "roster-out")))
+    (file_option (codes "base-out"))) (file_option (codes "base"))) file_argument
 
 -- `nfsacc`, with its subcommands `rpc`, `check`, `roster`, `base`, `run` and `serve`
 abbrev pub commands : App
@@ -89,12 +89,13 @@ pub record CheckAsked : Type 0 where
   pub json : Bool
   pub roster : Option Text
 
--- what `run` is asked: the name of a script's file, that of the file that the roster's text goes to, and what the
--- names of files with bases begin with
+-- what `run` is asked: the name of a script's file, that of the file that the roster's text goes to, what the names
+-- of files with bases begin with, and the name of the file with the base at which the witness begins
 pub record RunAsked : Type 0 where
   pub file : Text
   pub roster_out : Option Text
   pub base_out : Option Text
+  pub base : Option Text
 
 -- what a command line asks for
 pub data Asked : Type 0 where
@@ -126,6 +127,7 @@ asked_by (requests.Run r) = Run (record {
   file = r.file.now;
   roster_out = option_map (λ s. s.now) r.roster_out;
   base_out = option_map (λ s. s.now) r.base_out;
+  base = option_map (λ s. s.now) r.base;
 })
 asked_by (requests.Serve r) = Serve (record {
   port = r.port.now;
@@ -139,6 +141,8 @@ asked_by (requests.Serve r) = Serve (record {
   control = option_map (λ s. s.now) r.control;
   idle = option_map (λ s. s.now) r.idle;
   log_version = option_map (λ s. s.now) r.log_version;
+  base_out = option_map (λ s. s.now) r.base_out;
+  check_every = option_map (λ s. s.now) r.check_every;
   progress = r.progress;
 })
 
@@ -187,6 +191,7 @@ run_of rows file = record {
   file = file;
   roster_out = first_of (codes "roster-out") rows;
   base_out = first_of (codes "base-out") rows;
+  base = first_of (codes "base") rows;
 }
 
 -- what `run` is asked

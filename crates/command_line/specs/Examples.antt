@@ -36,10 +36,14 @@ under_r = Some (Check (record (of_file (codes "f")) { json = true; roster = Some
 
 -- `run` of the file `f`, with the roster's text in the file `g`, or with bases in files that begin with `b`
 abbrev run_to_g : Option Asked
-run_to_g = Some (Run (record { file = codes "f"; roster_out = Some (codes "g"); base_out = None }))
+run_to_g = Some (Run (record { file = codes "f"; roster_out = Some (codes "g"); base_out = None; base = None }))
 
 abbrev run_to_b : Option Asked
-run_to_b = Some (Run (record { file = codes "f"; roster_out = None; base_out = Some (codes "b") }))
+run_to_b = Some (Run (record { file = codes "f"; roster_out = None; base_out = Some (codes "b"); base = None }))
+
+-- or with a witness that begins at the base in the file `b`
+abbrev run_from_b : Option Asked
+run_from_b = Some (Run (record { file = codes "f"; roster_out = None; base_out = None; base = Some (codes "b") }))
 
 -- command lines that ask for something, and those that ask for nothing
 abbrev pub lines : List (Text × Option Asked)
@@ -56,8 +60,9 @@ lines =
     ∷ (codes "nfsacc check --roster=r f --json", under_r)
     ∷ (codes "nfsacc roster f", Some (Roster (codes "f")))
     ∷ (codes "nfsacc base f", Some (Base (codes "f")))
-    ∷ (codes "nfsacc run -", Some (Run (record { file = codes "-"; roster_out = None; base_out = None })))
+    ∷ (codes "nfsacc run -", Some (Run (record { file = codes "-"; roster_out = None; base_out = None; base = None })))
     ∷ (codes "nfsacc run --base-out b f", run_to_b)
+    ∷ (codes "nfsacc run --base b f", run_from_b)
     ∷ (codes "nfsacc run f --roster-out g", run_to_g)
     ∷ (codes "nfsacc run --roster-out=g f", run_to_g)
     ∷ (codes "nfsacc", None)

@@ -18,11 +18,11 @@ word_option name = record (new_rule name) { long = Some name; value_names = 1 }
 abbrev pub serve_options : App
 serve_options =
     with_rule (with_rule (with_rule (with_rule (with_rule (with_rule
-    (with_rule (with_rule (with_rule (with_rule (new_app (codes "serve")) (word_option (codes "address")))
+    (with_rule (with_rule (with_rule (with_rule (with_rule (with_rule (new_app (codes "serve")) (word_option (codes "address")))
     (word_option (codes "server-height")))
     (word_option (codes "client-height"))) (word_option (codes "master"))) (word_option (codes "roster-out")))
     (word_option (codes "evidence"))) (word_option (codes "control"))) (word_option (codes "idle")))
-    (word_option (codes "log-version")))
+    (word_option (codes "log-version"))) (word_option (codes "base-out"))) (word_option (codes "check-every")))
     (record (new_rule (codes "progress")) { long = Some (codes "progress"); action = Some SetTrue })
 
 abbrev pub serve_command : App
@@ -42,6 +42,8 @@ pub record ServeAsked : Type 0 where
   pub control : Option Text
   pub idle : Option Text
   pub log_version : Option Text
+  pub base_out : Option Text
+  pub check_every : Option Text
   pub progress : Bool
 
 -- the same, by its port, its count and what was found for its options
@@ -58,6 +60,8 @@ asked_with rows port count = record {
   control = first_of (codes "control") rows;
   idle = first_of (codes "idle") rows;
   log_version = first_of (codes "log-version") rows;
+  base_out = first_of (codes "base-out") rows;
+  check_every = first_of (codes "check-every") rows;
   progress = option_map_or (bytes_eq (codes "true")) (one_of (codes "progress") rows) false;
 }
 

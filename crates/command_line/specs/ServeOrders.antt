@@ -70,6 +70,8 @@ pub record Orders (r : ServeRequest) (o : ServeOrder) : Type 0 where
   pub idle : WritesIf 1 86400 (option_map (λ s. s.now) r.idle) o.options.idle
   pub log_version : WritesOr 1 2 1 (option_map (λ s. s.now) r.log_version)
       (log_number o.options.log_version)
+  pub base_out : o.options.base_out ≡ r.base_out
+  pub check_every : WritesIf 1 16384 (option_map (λ s. s.now) r.check_every) o.options.check_every
   pub progress : o.options.progress ≡ r.progress
 
 -- an option isn't given, or its word is a number from the one to the other
@@ -96,9 +98,14 @@ pub record HasSilence (r : ServeRequest) : Type 0 where
   pub idle : IsWithinOr 1 86400 (option_map (λ s. s.now) r.idle)
 
 -- and so is the version of the logs, if it is given
-pub record HasNumbers (r : ServeRequest) : Type 0 where
+pub record HasVersion (r : ServeRequest) : Type 0 where
   pub silence : HasSilence r
   pub log_version : IsWithinOr 1 2 (option_map (λ s. s.now) r.log_version)
+
+-- and so are the calls between two CHECKs, if they are given
+pub record HasNumbers (r : ServeRequest) : Type 0 where
+  pub version : HasVersion r
+  pub check_every : IsWithinOr 1 16384 (option_map (λ s. s.now) r.check_every)
 
 -- why it makes none: the first check that fails
 abbrev pub Refuses : ServeRequest → ServeRefusal → Type 0
@@ -112,6 +119,8 @@ Refuses r refusals.ClientHeight =
 Refuses r refusals.Idle = HasHeights r × IsNotWithin 1 86400 (option_map (λ s. s.now) r.idle)
 Refuses r refusals.LogVersion =
     HasSilence r × IsNotWithin 1 2 (option_map (λ s. s.now) r.log_version)
+Refuses r refusals.CheckEvery =
+    HasVersion r × IsNotWithin 1 16384 (option_map (λ s. s.now) r.check_every)
 Refuses r refusals.Address = HasNumbers r × IsNoAddress (option_map (λ s. s.now) r.address)
 Refuses r refusals.Unguarded =
     HasNumbers r × (r.master ≡ None) × IsOutside (option_map (λ s. s.now) r.address)

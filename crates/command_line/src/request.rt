@@ -62,6 +62,8 @@ pub struct RunRequest<'a> {
     pub roster_out: Option<&'a str>,
     /// What the names of the files that bases go to begin with, if it is given.
     pub base_out: Option<&'a str>,
+    /// The name of the file with the base at which the first witness begins, if one is named.
+    pub base: Option<&'a str>,
 }
 
 /// What the help of `run` ends with.
@@ -111,6 +113,9 @@ Statuses: 0 a base, 1 no base, 2 the command line, 3 no memory, 4 a device";
 
 const BASE_OUT_HELP: &str =
     "Writes the roster and the base of each CHECK that a line `mark` logs to PREFIX.N.K";
+
+const BASE_IN_HELP: &str =
+    "Lets the first witness begin at the base in this file, which stands after a roster there";
 
 /// A file that must be named.
 fn file_argument<'a>(alloc: Global, help: &'a str) -> Arg<'a>
@@ -210,6 +215,7 @@ fn run_command<'a>(alloc: Global) -> Result<Command<'a>, AllocError>
         .after_help(RUN_EXAMPLE)
         .arg(file_option(alloc, "roster-out", ROSTER_OUT_HELP))?
         .arg(prefix_option(alloc, "base-out", BASE_OUT_HELP))?
+        .arg(file_option(alloc, "base", BASE_IN_HELP))?
         .arg(file_argument(alloc, "The script; `-` reads it from standard input"))
 }
 
@@ -293,11 +299,13 @@ fn run_request<'a>(matches: &ArgMatches<'a>) -> RunRequest<'a>
         ≡ first_of (codes "roster-out") (rows_in matches.now) }
     ensures base_out { option_map (λ s. s.now) result.base_out
         ≡ first_of (codes "base-out") (rows_in matches.now) }
+    ensures base { option_map (λ s. s.now) result.base ≡ first_of (codes "base") (rows_in matches.now) }
 {
     RunRequest {
         file: text_of(matches, "file"),
         roster_out: matches.get_str("roster-out"),
         base_out: matches.get_str("base-out"),
+        base: matches.get_str("base"),
     }
 }
 
@@ -337,8 +345,9 @@ fn request_by_rules(alloc: Global, words: &[String]) -> Result<Request<'_>, Erro
 /// The request that the words of a command line make, the program's name first: `rpc` alone, or with `--`
 /// after it, is `Rpc`; `check` with a file's name is `Check`, with or without `--explain`, `--entries`,
 /// `--json`, `--state` with a word and `--roster` with another name, in any order; `roster` with a file's
-/// name is `Roster`, `base` with one `Base`; `run` with a file's name is `Run`, with `--roster-out` and another
-/// name, and `--base-out` and what names begin with, before it or after it, or without; `serve` with two words is `Serve`, with its options before, between or after them.
+/// name is `Roster`, `base` with one `Base`; `run` with a file's name is `Run`, with `--roster-out`, `--base-out`
+/// and `--base`, each with another name, before it or after it, or without; `serve` with two words is `Serve`,
+/// with its options before, between or after them.
 /// After `--` each word is a name. It comes exactly where clap's rules find no fault in the words, memory
 /// aside, and has what they say the words hold.
 /// The error says what is wrong with other words, or is the help or the version that they ask for: its kind

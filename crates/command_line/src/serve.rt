@@ -35,6 +35,10 @@ pub struct ServeRequest<'a> {
     pub idle: Option<&'a str>,
     /// The version of the logs, if it is named.
     pub log_version: Option<&'a str>,
+    /// The name of the folder that bases go to, if one is named.
+    pub base_out: Option<&'a str>,
+    /// After how many calls the server logs a CHECK, if that is given.
+    pub check_every: Option<&'a str>,
     /// Whether it is told how far the keys and the audits are.
     pub progress: bool,
 }
@@ -56,6 +60,12 @@ const MASTER_HELP: &str =
 
 const ROSTER_OUT_HELP: &str =
     "Writes the text of the nodes' roster to this file, before it listens";
+
+const BASE_OUT_HELP: &str =
+    "Writes the roster and the base of each CHECK of the server to node-1.K.base in this folder";
+
+const CHECK_EVERY_HELP: &str =
+    "Logs a CHECK at the server after each N calls, 1 to 16384; none where it isn't given";
 
 const EVIDENCE_HELP: &str = "Writes node-N.evidence to this folder as soon as node N is exposed";
 
@@ -149,6 +159,8 @@ fn serve_options<'a>(alloc: Global) -> Result<Command<'a>, AllocError>
         .arg(word_option(alloc, "control", "DIR", CONTROL_HELP))?
         .arg(word_option(alloc, "idle", "SECONDS", IDLE_HELP))?
         .arg(word_option(alloc, "log-version", "V", LOG_VERSION_HELP))?
+        .arg(word_option(alloc, "base-out", "DIR", BASE_OUT_HELP))?
+        .arg(word_option(alloc, "check-every", "N", CHECK_EVERY_HELP))?
         .arg(flag(alloc, "progress", PROGRESS_HELP))
 }
 
@@ -180,6 +192,10 @@ pub(crate) fn serve_request<'a>(matches: &ArgMatches<'a>) -> ServeRequest<'a>
     ensures idle { option_map (λ s. s.now) result.idle ≡ first_of (codes "idle") (rows_in matches.now) }
     ensures log_version { option_map (λ s. s.now) result.log_version
         ≡ first_of (codes "log-version") (rows_in matches.now) }
+    ensures base_out { option_map (λ s. s.now) result.base_out
+        ≡ first_of (codes "base-out") (rows_in matches.now) }
+    ensures check_every { option_map (λ s. s.now) result.check_every
+        ≡ first_of (codes "check-every") (rows_in matches.now) }
     ensures progress { is_told (codes "progress") (rows_in matches.now) ≡ true
         → result.progress ≡ is_set (codes "progress") (rows_in matches.now) }
 {
@@ -195,6 +211,8 @@ pub(crate) fn serve_request<'a>(matches: &ArgMatches<'a>) -> ServeRequest<'a>
         control: word_of(matches, "control"),
         idle: word_of(matches, "idle"),
         log_version: word_of(matches, "log-version"),
+        base_out: word_of(matches, "base-out"),
+        check_every: word_of(matches, "check-every"),
         progress: flag_of(matches, "progress"),
     }
 }

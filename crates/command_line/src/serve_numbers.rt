@@ -53,6 +53,9 @@ pub enum ServeRefusal {
     /// The version of the logs is neither 1 nor 2.
     #[error("--log-version is 1 or 2")]
     LogVersion,
+    /// The calls between two CHECKs are no decimal number from 1 to 16,384.
+    #[error("--check-every is a number of calls from 1 to 16384")]
+    CheckEvery,
     /// The address is none.
     #[error("--address is an IP address")]
     Address,
@@ -69,6 +72,9 @@ const MOST_HEIGHT: u32 = 15;
 
 /// The most seconds that a connection may be silent, where a number is given: a day.
 const MOST_IDLE: u32 = 86400;
+
+/// The most calls between two CHECKs, where a number is given: as many as a server has keys for.
+const MOST_CALLS: u32 = 16384;
 
 /// A number from the one to the other, if a word is its decimal digits.
 pub(crate) fn number_within(word: &str, least: u32, most: u32) -> Option<u32>
@@ -100,20 +106,24 @@ fn height_of(word: Option<&str>, other: u32) -> Option<u32>
     }
 }
 
-/// The seconds in an option's word, if it is given.
-fn idle_of(word: Option<&str>) -> Result<Option<u32>, ServeRefusal>
-    ensures bounds { IfOk result (λ o. IfSome o (λ n. (1 ≤ n) × (n ≤ 86400))) }
-    ensures ok { IfOk result (WritesIf 1 86400 (option_map (λ s. s.now) word.entry)) }
-    ensures within { IsOk result → IsWithinOr 1 86400 (option_map (λ s. s.now) word.entry) }
-    ensures err { IfErr result (λ e. (e ≡ ServeRefusal.Idle)
-        × IsNotWithin 1 86400 (option_map (λ s. s.now) word.entry)) }
+/// The number from 1 on in an option's word, if it is given; this refusal where the word is none up to `most`.
+fn count_of(
+    word: Option<&str>,
+    most: u32,
+    refusal: ServeRefusal,
+) -> Result<Option<u32>, ServeRefusal>
+    ensures bounds { IfOk result (λ o. IfSome o (λ n. (1 ≤ n) × (n ≤ most))) }
+    ensures ok { IfOk result (WritesIf 1 most (option_map (λ s. s.now) word.entry)) }
+    ensures within { IsOk result → IsWithinOr 1 most (option_map (λ s. s.now) word.entry) }
+    ensures err { IfErr result (λ e. (e ≡ refusal)
+        × IsNotWithin 1 most (option_map (λ s. s.now) word.entry)) }
 {
     let Some(word) = word else {
         return Ok(None);
     };
-    match number_within(word, 1, MOST_IDLE) {
-        Some(seconds) => Ok(Some(seconds)),
-        None => Err(ServeRefusal::Idle),
+    match number_within(word, 1, most) {
+        Some(number) => Ok(Some(number)),
+        None => Err(refusal),
     }
 }
 
@@ -165,7 +175,7 @@ fn is_guarded(address: &IpAddr, master: Option<&str>) -> bool
 
 /// The order that a request makes: with its numbers read, and what isn't named as it is by itself. It is
 /// refused where a number is none or out of range, of the port, the count, the two heights, the seconds of
-/// silence and the version of the logs the first; then where the address is none, or is one that others reach
+/// silence, the version of the logs and the calls between two CHECKs the first; then where the address is none, or is one that others reach
 /// though no file of secret bytes is named.
 pub fn serve_order<'a>(request: &ServeRequest<'a>) -> Result<ServeOrder<'a>, ServeRefusal>
     ensures order { IfOk result (Orders request.now) }
@@ -176,8 +186,9 @@ pub fn serve_order<'a>(request: &ServeRequest<'a>) -> Result<ServeOrder<'a>, Ser
     let connections = number_within(request.count, 1, MOST_CONNECTIONS).ok_or(ServeRefusal::Count)?;
     let server_height = height_of(request.server_height, 12).ok_or(ServeRefusal::ServerHeight)?;
     let client_height = height_of(request.client_height, 10).ok_or(ServeRefusal::ClientHeight)?;
-    let idle = idle_of(request.idle)?;
+    let idle = count_of(request.idle, MOST_IDLE, ServeRefusal::Idle)?;
     let log_version = log_version_of(request.log_version)?;
+    let check_every = count_of(request.check_every, MOST_CALLS, ServeRefusal::CheckEvery)?;
     Ok(ServeOrder {
         port: port as u16,
         address: address_of(request)?,
@@ -193,6 +204,8 @@ pub fn serve_order<'a>(request: &ServeRequest<'a>) -> Result<ServeOrder<'a>, Ser
             evidence: request.evidence,
             progress: request.progress,
             idle,
+            base_out: request.base_out,
+            check_every,
             log_version,
         },
     })

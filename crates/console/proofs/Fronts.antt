@@ -1,5 +1,5 @@
 -- What the first words of bytes tell of all bytes that begin so.
--- Serves: may_accuse, may_hold.
+-- Serves: may_accuse, may_hold; judge_base by way of BaseFiles.
 use Rattle.std.proofs.Common.{◌≡◌, ◌∙◌, ℕ, zero, suc, ◌+◌, ◌*◌, ◌<◌, ◌≤◌, Bool, true, false, cond}
 use Rattle.std.proofs.Common.{ltb, List}
 use Rattle.std.proofs.Common.{[], ◌∷◌, ◌++◌, ◌==◌, length, drop, Ok, Err, Some, None, refl, sym, ap, ap₂}
@@ -197,7 +197,7 @@ roster_read bytes x e =
 
 -- ---- bytes that hold nothing
 
-none_unless : {A : Type 0} (o : Option A) → ((v : A) → o ≡ Some v → ⊥) → o ≡ None
+pub none_unless : {A : Type 0} (o : Option A) → ((v : A) → o ≡ Some v → ⊥) → o ≡ None
 none_unless (Some v) never = absurd (never v refl)
 none_unless None never = refl
 

@@ -1,5 +1,5 @@
 -- How many bytes the parts of a file of evidence take at most.
--- Serves: may_accuse and may_hold by way of Fronts.
+-- Serves: may_accuse and may_hold by way of Fronts; judge_base by way of BaseFiles.
 use Rattle.std.proofs.Common.{◌≡◌, ◌∙◌, ℕ, zero, suc, ◌+◌, ◌-◌, ◌*◌, ◌/◌, ◌%◌, ◌≤◌, Bool, true, false, cond}
 use Rattle.std.proofs.Common.{ltb}
 use Rattle.std.proofs.Common.{eqb, List, [], ◌∷◌, length, take, drop, Ok, Err, Some, None, sym, ap, arith}
@@ -28,6 +28,7 @@ use Rattle.authenticator.specs.Roster.{member_item, members_item, roster_item, v
 use Rattle.authenticator.specs.Roster.{is_height, is_log, is_roster_word}
 use Rattle.authenticator.specs.declared.roster.TheConstants.{SECOND_FORM}
 use Rattle.authenticator.specs.declared.member.LogVersion.TheVariants.{One, Two}
+use Rattle.challenge.specs.evidence_spec.Base.{base_item, begun_item}
 use Rattle.challenge.specs.evidence_spec.Showing.{link_item, showing_item}
 use Rattle.challenge.specs.evidence_spec.Evidence.{based_item, begun_replay, fork_item, is_charge, charge_item}
 use Rattle.challenge.specs.evidence_spec.Evidence.{evidence_item}
@@ -132,7 +133,7 @@ pair_up a b m n left right bytes x e =
     let same = ap (λ (r : (Value a × Value b) × List ℕ). length r.1) (ok_is ((p.0.0, q.0.0), q.0.1) x q.2) in
     omega (arith, left bytes p.0 p.1, right p.0.1 q.0 q.1, same)
 
-items_up : {A : Type 0} (read : List ℕ → Read A) (n : ℕ) → TakesUpTo n read
+pub items_up : {A : Type 0} (read : List ℕ → Read A) (n : ℕ) → TakesUpTo n read
     → (count : ℕ) → TakesUpTo (count * n) (items_at read count)
 unfolding items_at
 items_up {A} read n up zero bytes x e =
@@ -308,24 +309,39 @@ worded_fork_up =
     (within_pair 197220 197224 worded_showing_up
     (record { takes = optional_up (read_at (showing_item Two)) 197220 worded_showing_up.takes }))
 
--- what stands after a base's version, and the segment after it
-begun_up : IsWithin 1983825108 (begun_replay One)
+-- what stands after a base's version
+begun_up : IsWithin 67273328 (begun_item One)
 begun_up =
-    within_pair 67273328 1916551780
-    (within_pair 164452 67108876 showing_up
-    (within_pair 8 67108868 number_up (record { takes = opaque_up 67108864 })))
-    log_up
+    within_pair 164452 67108876 showing_up
+    (within_pair 8 67108868 number_up (record { takes = opaque_up 67108864 }))
 
-worded_begun_up : IsWithin 1984382164 (begun_replay Two)
+worded_begun_up : IsWithin 67306096 (begun_item Two)
 worded_begun_up =
-    within_pair 67306096 1917076068
-    (within_pair 197220 67108876 worded_showing_up
-    (within_pair 8 67108868 number_up (record { takes = opaque_up 67108864 })))
-    worded_log_up
+    within_pair 197220 67108876 worded_showing_up
+    (within_pair 8 67108868 number_up (record { takes = opaque_up 67108864 }))
+
+bases_up : (is_one : Bool) → IsWithin 67306096 (cond is_one (begun_item One) (begun_item Two))
+bases_up true = within 67273328 67306096 (lit≤ tt) begun_up
+bases_up false = worded_begun_up
+
+-- a base takes 67,306,100 bytes at most
+pub base_up : IsWithin 67306100 base_item
+base_up =
+    record {
+      takes = choice_up is_log (λ n. cond (eqb n 1) (begun_item One) (begun_item Two)) 67306096
+          (λ n known. (bases_up (eqb n 1)).takes);
+    }
+
+-- and the segment after it
+begun_replay_up : IsWithin 1983825108 (begun_replay One)
+begun_replay_up = within_pair 67273328 1916551780 begun_up log_up
+
+worded_begun_replay_up : IsWithin 1984382164 (begun_replay Two)
+worded_begun_replay_up = within_pair 67306096 1917076068 worded_begun_up worded_log_up
 
 versions_up : (is_one : Bool) → IsWithin 1984382164 (cond is_one (begun_replay One) (begun_replay Two))
-versions_up true = within 1983825108 1984382164 (lit≤ tt) begun_up
-versions_up false = worded_begun_up
+versions_up true = within 1983825108 1984382164 (lit≤ tt) begun_replay_up
+versions_up false = worded_begun_replay_up
 
 -- a base with a segment takes 1,984,382,168 bytes at most
 based_up : IsWithin 1984382168 based_item
@@ -356,7 +372,7 @@ evidence_up =
 
 -- ---- rosters
 
-test_up : (test : ℕ → Bool) → IsWithin 4 (word_where test)
+pub test_up : (test : ℕ → Bool) → IsWithin 4 (word_where test)
 test_up test = record { takes = at_most 4 (tested_at 4 test) (tested_just 4 test) }
 
 member_up : IsWithin 44 member_item

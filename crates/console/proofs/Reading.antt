@@ -1,15 +1,8 @@
 -- What is left of a reader.
--- Serves: read_contents, check.
+-- Serves: read_contents, read_front, check.
 use Rattle.std.proofs.Common.{◌≡◌, ◌∙◌, ℕ, List, [], ◌++◌, Some, None, ap, subst, sym}
 use Rattle.std.specs.Prelude.{Option, IfSome}
-use Rattle.std.specs.Io.KnownBytes.{Consumes, Keeps}
-
--- a reader that gave nothing has what it had
-pub same_bytes : (a b : Option (List ℕ)) → Consumes a b [] → Keeps a b
-same_bytes None None nothing = tt
-same_bytes None (Some y) nothing = tt
-same_bytes (Some x) None nothing = absurd nothing
-same_bytes (Some x) (Some y) nothing = sym nothing
+use Rattle.std.specs.Io.KnownBytes.{Consumes}
 
 -- what holds of all that begins with what was taken holds of what a reader had
 pub front_of : (a b : Option (List ℕ)) (taken view : List ℕ) (P : List ℕ → Type 0) → Consumes a b taken

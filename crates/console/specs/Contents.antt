@@ -1,5 +1,5 @@
 -- What is read of a file.
-use Rattle.std.specs.Prelude.{◌≡◌, ◌==◌, ◌≤◌, ℕ, if◌then◌else◌, List, length, drop, Ok}
+use Rattle.std.specs.Prelude.{◌≡◌, ◌==◌, ◌<◌, ◌≤◌, ◌⊎◌, ℕ, if◌then◌else◌, List, ◌++◌, length, drop, Ok}
 use Rattle.xdr.specs.Reading.{number_at}
 use Rattle.authenticator.specs.declared.roster.TheConstants.{SECOND_FORM}
 use Rattle.console.specs.Checking.{HoldsNone}
@@ -32,3 +32,13 @@ pub record IsWordAt (bytes : List ℕ) (at n : ℕ) : Type 0 where
 abbrev pub IsContents : Contents → List ℕ → Type 0
 IsContents (Whole bytes) input = bytes.items ≡ input
 IsContents (Front bytes) input = HoldsNone input
+
+-- More than so many bytes, with which all begin.
+pub record IsMoreThan (most : ℕ) (bytes input : List ℕ) : Type 0 where
+  pub rest : List ℕ
+  pub many : most < length bytes
+  pub begins : input ≡ bytes ++ rest
+
+-- What was read of a file is all of it, or more than so many bytes.
+abbrev pub IsFront : (most : ℕ) → (bytes input : List ℕ) → Type 0
+IsFront most bytes input = (bytes ≡ input) ⊎ IsMoreThan most bytes input

@@ -1,10 +1,11 @@
 //! Files as bytes.
 
-ghost use Rattle.std.specs.Prelude.{◌≡◌, ◌≤◌, ◌++◌, ℕ, List, IfErr, IfOk, IfSome, IsErrOf, OnOk, false};
+ghost use Rattle.std.specs.Prelude.{◌≡◌, ◌≤◌, ◌++◌, ℕ, List, IfErr, IfOk, IfSome, IsErrOf, OnOk, Option, false};
+ghost use Rattle.std.specs.Io.KnownBytes.{Consumes, IsAtEnd};
 ghost use Rattle.rpc.specs.Records.Count.{Rises};
 ghost use Rattle.challenge.specs.evidence_spec.Evidence.{is_charge};
 ghost use Rattle.console.specs.Checking.{HoldsNone, IsRead};
-ghost use Rattle.console.specs.Contents.{IsContents, IsWordAt, count_place, member_size};
+ghost use Rattle.console.specs.Contents.{IsContents, IsFront, IsWordAt, count_place, member_size};
 ghost use Rattle.console.specs.declared.fault.CheckFault.TheVariants.{NoMemory, Write};
 
 use crate::fault::CheckFault;
@@ -106,6 +107,32 @@ fn may_hold(front: &[u8]) -> bool
     }
 }
 
+/// Appends to some bytes what a reader gives by one read; false at its end. `Read` comes where the read
+/// failed, and then the reader's count rose; `NoMemory` where memory was refused.
+fn read_piece<R: Read>(
+    reader: &mut Counting<R>,
+    piece: &mut [u8; PIECE],
+    bytes: &mut Vec<u8>,
+) -> Result<bool, CheckFault>
+    ensures taken { OnOk result ((had : Option (List ℕ)) →
+        Consumes had (R.remaining reader.old.inner) bytes.old.items →
+        Consumes had (R.remaining reader.new.inner) bytes.new.items) }
+    ensures end { IfOk result (λ more. more ≡ false → IsAtEnd (R.remaining reader.new.inner)) }
+    ensures kept { OnOk result (reader.new.count ≡ reader.old.count) }
+    ensures memory { IsErrOf result NoMemory → reader.new.count ≡ reader.old.count }
+    ensures read { IfErr result (λ e. IsRead e → Rises reader.old.count reader.new.count) }
+    ensures written { IsErrOf result Write → ⊥ }
+{
+    match reader.read(piece) {
+        Ok(0) => Ok(false),
+        Ok(len) => {
+            bytes.extend_from_slice(&piece[..len])?;
+            Ok(true)
+        }
+        Err(error) => Err(CheckFault::Read(error)),
+    }
+}
+
 /// What a reader gives up to its end, or up to the first piece with which no roster and no evidence can have
 /// so many bytes or such first words. `Read` comes where a read failed, and then the reader's count rose;
 /// `NoMemory` where memory was refused.
@@ -126,10 +153,36 @@ pub(crate) fn read_contents<R: Read>(
         if !may_hold(&bytes) {
             return Ok(Contents::Front(bytes));
         }
-        match reader.read(&mut piece) {
-            Ok(0) => return Ok(Contents::Whole(bytes)),
-            Ok(len) => bytes.extend_from_slice(&piece[..len])?,
-            Err(error) => return Err(CheckFault::Read(error)),
+        if !read_piece(reader, &mut piece, &mut bytes)? {
+            return Ok(Contents::Whole(bytes));
+        }
+    }
+    // So many bytes no memory holds.
+    Err(CheckFault::NoMemory)
+}
+
+/// What a reader gives up to its end, or up to the first piece with which it is more than so many bytes.
+/// `Read` comes where a read failed, and then the reader's count rose; `NoMemory` where memory was refused.
+pub(crate) fn read_front<R: Read>(
+    alloc: Global,
+    most: usize,
+    reader: &mut Counting<R>,
+) -> Result<Vec<u8>, CheckFault>
+    ensures found { IfOk result (λ bytes.
+        IfSome (R.remaining reader.old.inner) (λ input. IsFront most bytes.items input)) }
+    ensures kept { OnOk result (reader.new.count ≡ reader.old.count) }
+    ensures memory { IsErrOf result NoMemory → reader.new.count ≡ reader.old.count }
+    ensures read { IfErr result (λ e. IsRead e → Rises reader.old.count reader.new.count) }
+    ensures written { IsErrOf result Write → ⊥ }
+{
+    let mut bytes = Vec::new(alloc);
+    let mut piece = [0; PIECE];
+    for _ in 0..u64::MAX {
+        if bytes.len() > most {
+            return Ok(bytes);
+        }
+        if !read_piece(reader, &mut piece, &mut bytes)? {
+            return Ok(bytes);
         }
     }
     // So many bytes no memory holds.

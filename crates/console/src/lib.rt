@@ -1,12 +1,15 @@
 //! The commands of `nfsacc`.
 #![tactic(auto)]
 
+mod bases;
 mod checking;
 mod fault;
 mod input;
 mod rosters;
 
-pub use authenticator::Roster;
+pub use authenticator::{Checked, Refusal, Roster};
+pub use bases::{BaseJudgement, check_base, read_base};
+pub use challenge::Base;
 pub use checking::{Format, Judgement, Reason, check, judge};
 pub use explain::{Detail, Lack};
 pub use fault::CheckFault;

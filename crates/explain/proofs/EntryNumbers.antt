@@ -1,6 +1,6 @@
 -- Where entries of a log stand, and their words.
--- Serves: Log::skipped, Log::number, Log::count_below, Log::place_of, state_before.
-use Rattle.std.proofs.Common.{◌≡◌, ◌∙◌, ℕ, zero, suc, ◌+◌, ◌*◌, ◌-◌, ◌<◌, ◌≤◌, ◌^◌, Bool, true, false, eqb, leb}
+-- Serves: Log::skipped, Log::number, Log::count_below, Log::place_of, state_after.
+use Rattle.std.proofs.Common.{◌≡◌, ◌∙◌, ℕ, zero, suc, ◌+◌, ◌-◌, ◌<◌, ◌≤◌, ◌^◌, Bool, true, false, eqb, leb}
 use Rattle.std.proofs.Common.{List, [], ◌∷◌, length, take, refl, sym, subst, leb-true, arith}
 use Rattle.std.specs.Prelude.{Option, Some, None, slice_index_or}
 use Rattle.std.specs.List.{AllByRecursion}
@@ -13,7 +13,7 @@ use Rattle.secure_log.specs.declared.log_entries.entry.Entry.{Entry}
 use Rattle.secure_log.specs.LogEntries.Chain.{Logged, hash_after, logged_link, logged_links}
 use Rattle.secure_log.specs.LogEntries.Words.{MaySkip, logged}
 use Rattle.challenge.specs.replay.replay_spec.Placed.{HasWord, logged_place, places_from}
-use Rattle.explain.specs.Numbers.{AreBelow, IsNumber, StandsAt, number_at, skipped_in}
+use Rattle.explain.specs.Numbers.{AreBelow, AreLow, IsNumber, StandsAt, number_at, skipped_in}
 
 -- ---- how many numbers are skipped
 
@@ -83,36 +83,59 @@ is_another None number its low is differs same = omega (arith, low, is, same)
 
 -- ---- words
 
--- an entry that may be skipped to has a word, also where it is counted from a lower number
-word_here : (v : LogVersion) (before first n : ℕ) (opening : List ℕ) (e : Entry) → first ≤ before + 1
-    → first < 2 ^ 64 - 1
-    → MaySkip v (logged_link (before + 1 + n) (record { skipped = n; entry = e }))
+-- an entry that may be skipped to has a word: in a log of version 1 where its number is low
+word_of_one : (first number n : ℕ) (opening : List ℕ) (e : Entry) → first < 2 ^ 64 - 1
+    → MaySkip One (logged_link number (record { skipped = n; entry = e }))
     → HasWord (logged_place (first + n) opening (record { skipped = n; entry = e }))
-word_here One before first n opening e le low may = omega (arith, word_is n (first + n), may, low)
-word_here Two before first n opening e le low may = omega (arith, word_is n (first + n), may.0, may.1, le)
+word_of_one first number n opening e low may = omega (arith, word_is n (first + n), may, low)
 
--- at most 64 numbers are skipped
-few_skipped : (v : LogVersion) (number n : ℕ) (e : Entry)
-    → MaySkip v (logged_link number (record { skipped = n; entry = e })) → n ≤ 64
-few_skipped One number n e may = omega (arith, may)
-few_skipped Two number n e may = omega (arith, may.0)
+-- in one of version 2 also where it is counted from a lower number
+word_of_two : (before first n : ℕ) (opening : List ℕ) (e : Entry) → first ≤ before + 1
+    → MaySkip Two (logged_link (before + 1 + n) (record { skipped = n; entry = e }))
+    → HasWord (logged_place (first + n) opening (record { skipped = n; entry = e }))
+word_of_two before first n opening e le may = omega (arith, word_is n (first + n), may.0, may.1, le)
 
--- so has each of the first entries of a log, where they are counted from a low number
-pub words_from : (v : LogVersion) (before first : ℕ) (opening : List ℕ) (skips : List ℕ) (es : List Entry) (count : ℕ)
-    → first ≤ before + 1 → first + length es * 65 < 2 ^ 64 - 1
-    → AllByRecursion (MaySkip v) (logged_links before (logged skips es))
+-- so has each of the first entries of a log of version 1, where their numbers are low
+words_of_one : (before first : ℕ) (opening : List ℕ) (skips : List ℕ) (es : List Entry) (count : ℕ)
+    → first + count < 2 ^ 64 → AllByRecursion (MaySkip One) (logged_links before (logged skips es))
     → AllByRecursion HasWord (places_from first opening (logged skips (take count es)))
-words_from v before first opening skips es zero le low may = tt
-words_from v before first opening skips [] (suc count) le low may = tt
-words_from v before first opening [] (e ∷ es) (suc count) le low may = (
-  word_here v before first 0 opening e le (omega (arith, low)) may.0,
-  words_from v (before + 1 + 0) (first + 0 + 1)
+words_of_one before first opening skips es zero low may = tt
+words_of_one before first opening skips [] (suc count) low may = tt
+words_of_one before first opening [] (e ∷ es) (suc count) low may = (
+  word_of_one first (before + 1 + 0) 0 opening e (omega (arith, low)) may.0,
+  words_of_one (before + 1 + 0) (first + 0 + 1)
       (hash_after opening (logged_link (first + 0) (record { skipped = 0; entry = e }))) [] es count
-      (omega (arith, le)) (omega (arith, low)) may.1,
+      (omega (arith, low)) may.1,
 )
-words_from v before first opening (n ∷ skips) (e ∷ es) (suc count) le low may = (
-  word_here v before first n opening e le (omega (arith, low)) may.0,
-  words_from v (before + 1 + n) (first + n + 1)
+words_of_one before first opening (n ∷ skips) (e ∷ es) (suc count) low may = (
+  word_of_one first (before + 1 + n) n opening e (omega (arith, low)) may.0,
+  words_of_one (before + 1 + n) (first + n + 1)
       (hash_after opening (logged_link (first + n) (record { skipped = n; entry = e }))) skips es count
-      (omega (arith, le)) (omega (arith, low, few_skipped v (before + 1 + n) n e may.0)) may.1,
+      (omega (arith, low, may.0)) may.1,
 )
+
+-- and of each of version 2
+words_of_two : (before first : ℕ) (opening : List ℕ) (skips : List ℕ) (es : List Entry) (count : ℕ)
+    → first ≤ before + 1 → AllByRecursion (MaySkip Two) (logged_links before (logged skips es))
+    → AllByRecursion HasWord (places_from first opening (logged skips (take count es)))
+words_of_two before first opening skips es zero le may = tt
+words_of_two before first opening skips [] (suc count) le may = tt
+words_of_two before first opening [] (e ∷ es) (suc count) le may = (
+  word_of_two before first 0 opening e le may.0,
+  words_of_two (before + 1 + 0) (first + 0 + 1)
+      (hash_after opening (logged_link (first + 0) (record { skipped = 0; entry = e }))) [] es count
+      (omega (arith, le)) may.1,
+)
+words_of_two before first opening (n ∷ skips) (e ∷ es) (suc count) le may = (
+  word_of_two before first n opening e le may.0,
+  words_of_two (before + 1 + n) (first + n + 1)
+      (hash_after opening (logged_link (first + n) (record { skipped = n; entry = e }))) skips es count
+      (omega (arith, le)) may.1,
+)
+
+-- the first entries of a log have words where their numbers are low
+pub words_from : (v : LogVersion) (before first : ℕ) (opening : List ℕ) (skips : List ℕ) (es : List Entry) (count : ℕ)
+    → first ≤ before + 1 → AreLow v first count → AllByRecursion (MaySkip v) (logged_links before (logged skips es))
+    → AllByRecursion HasWord (places_from first opening (logged skips (take count es)))
+words_from One before first opening skips es count le low may = words_of_one before first opening skips es count low may
+words_from Two before first opening skips es count le low may = words_of_two before first opening skips es count le may

@@ -1,6 +1,8 @@
 -- The numbers of a log's entries.
 use Rattle.std.specs.Prelude.{◌≡◌, ◌≤◌, ◌<◌, ◌+◌, ◌^◌, ℕ, zero, suc, List, [], ◌∷◌, length}
 use Rattle.std.specs.Prelude.{Option, Some, None}
+use Rattle.authenticator.specs.declared.member.LogVersion.{LogVersion}
+use Rattle.authenticator.specs.declared.member.LogVersion.TheVariants.{One, Two}
 use Rattle.secure_log.specs.LogEntries.Chain.{Logged}
 
 -- a number of 64 bits is this one; where there is none, this one has more
@@ -33,3 +35,9 @@ pub record AreBelow (first : ℕ) (log : List Logged) (number count : ℕ) : Typ
 pub record StandsAt (first : ℕ) (log : List Logged) (number at : ℕ) : Type 0 where
   pub inside : at < length log
   pub its : number_at first log at ≡ number
+
+-- So many numbers from one on are low enough for a log of this version: in version 1 all are below the greatest of
+-- 64 bits. In version 2 what entries may skip says it.
+abbrev pub AreLow : LogVersion → (first count : ℕ) → Type 0
+AreLow One first count = first + count < 2 ^ 64
+AreLow Two first count = Unit {0}

@@ -113,11 +113,12 @@ fn add_contents(facts: &mut Facts, log: &Log<'_>) {
     let mut draft = facts.draft();
     if log.base.is_some() {
         draft.words(
-            "its entries after the base, which --entries lists; what is owed at an entry follows from the ",
+            "its entries after the base, which --entries lists; what is owed at an entry follows from ",
         );
         draft.words(
-            "state of the base and the entries before it, and --state K shows the state before entry K",
+            "the base's state, in place of the one that the node begins with, and from the ",
         );
+        draft.words("entries between, and --state K shows the state before entry K");
     } else if log.audited.first().get() == 1 {
         draft.words("all entries from 1 to ");
         draft.number(log.last_number());
@@ -159,17 +160,12 @@ fn add_finding(facts: &mut Facts, roster: &Roster, evidence: &Evidence, finding:
         }
         Finding::Fault(fault, number) => match evidence.charge() {
             Charge::Replay(log) => {
-                add_found_fault(
-                    facts,
-                    &Log::new(roster, log),
-                    fault,
-                    number.get(),
-                    LOG_RULES,
-                );
+                let log = Log::new(roster, log);
+                add_found_fault(facts, &log, fault, number.get(), &[LOG_RULES]);
             }
             Charge::Based(based) => {
                 let log = Log::after(roster, based);
-                add_found_fault(facts, &log, fault, number.get(), BASE_RULES);
+                add_found_fault(facts, &log, fault, number.get(), &[BASE_PREMISE, LOG_RULES]);
             }
             Charge::Fork(_) => {}
         },
@@ -181,20 +177,20 @@ fn add_finding(facts: &mut Facts, roster: &Roster, evidence: &Evidence, finding:
 const LOG_RULES: &str =
     "the rules of docs/CHECKING.md, which stand on RFC 1094, RFC 4506 and RFC 5531";
 
-/// What one after a base rests on.
-const BASE_RULES: &str =
-    "the rules of docs/CHECKING.md, which stand on RFC 1094, RFC 4506 and RFC 5531; the state at the base is the one that the digest in the log says, and nothing before it is looked at";
+/// What one after a base rests on, too.
+const BASE_PREMISE: &str =
+    "the state at the base is the one whose digest the log has there, by the signature that closes the base's showing; another signature closes the entries after it, and what the log has before the base is not looked at";
 
-/// Adds a fault that a replay finds in the log of a node, by these rules.
+/// Adds a fault that a replay finds in the log of a node, and what that rests on.
 fn add_found_fault(
     facts: &mut Facts,
     log: &Log<'_>,
     fault: ReplayFault,
     number: u64,
-    rules: &'static str,
+    premises: &[&str],
 ) {
     add_fault(facts, log, fault, number);
-    add_premises(facts, rules);
+    add_premises(facts, premises);
 }
 
 /// Adds two marks at one number; of one showing alone the hash that a log begins after, and its own.
@@ -205,7 +201,7 @@ fn add_two_marks(facts: &mut Facts, fork: &Fork, at: u64, one: Mark, other: Mark
         add_mark(facts, "first showing", one);
         add_mark(facts, "second showing", other);
         facts.end();
-        add_premises(facts, one_mark_rule(fork.log_version));
+        add_premises(facts, &[one_mark_rule(fork.log_version)]);
     } else {
         facts.group("hash before entry 1");
         add_mark(facts, "owed", other);
@@ -213,7 +209,7 @@ fn add_two_marks(facts: &mut Facts, fork: &Fork, at: u64, one: Mark, other: Mark
         facts.end();
         add_premises(
             facts,
-            "the rules of docs/CHECKING.md: a log begins after 32 zero bytes",
+            &["the rules of docs/CHECKING.md: a log begins after 32 zero bytes"],
         );
     }
 }

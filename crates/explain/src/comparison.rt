@@ -1,6 +1,7 @@
 //! What was owed at a faulty entry, and what was given.
 
 ghost use Rattle.std.specs.Prelude.{◌≡◌, IfOk, IfSome, true};
+ghost use Rattle.explain.specs.Numbers.{AreLow};
 ghost use Rattle.explain.specs.Starts.{KnowsFew};
 
 use crate::entry::{add_signed_digest, add_verdict, call_before, kind_name, reply_group};
@@ -10,7 +11,7 @@ use crate::roster::node_fact;
 use challenge::{BaseText, MAX_KNOWN, Outcome, ReplayFault, opening_state, replay_outcome};
 use checkpoint::{Machine, SentMessage, Stage, State, StateFault, read_state, state_digest};
 use secure_log::log_entries::{Entry, Receipt, receipt_hash};
-use secure_log::{Number, Roster, Word};
+use secure_log::{LogVersion, Roster, Word};
 use std::alloc::{AllocError, Global};
 
 /// Adds what was owed at a faulty entry, and what was given.
@@ -21,9 +22,6 @@ pub(crate) fn add_comparison(facts: &mut Facts, log: &Log<'_>, fault: ReplayFaul
         Err(AllocError) => facts.refuse(),
     }
 }
-
-/// More than the numbers that the entries of evidence take up: 65 for each of 65,536, and one more.
-const MOST_NUMBERS: u64 = 4_259_841;
 
 /// The state before a place of a member's log, if the entries before it have no fault.
 pub(crate) fn state_before(
@@ -69,8 +67,19 @@ fn knows_few(state: &State) -> bool
     state.received().len() <= MAX_KNOWN as usize && state.sends().len() <= MAX_KNOWN as usize
 }
 
-/// The state before a place of a log that begins after a state, if the entries before it have no fault. None, too,
-/// where their numbers would come near 2^64.
+/// Whether each of so many entries of a log has a word: in a log of version 1 it is the entry's number, which is
+/// to be below the greatest of 64 bits.
+fn have_words(log: &Log<'_>, count: usize) -> bool
+    ensures { result ≡ true → AreLow log.now.audited.now.log_version log.now.audited.now.first count }
+{
+    match log.version() {
+        LogVersion::One => count as u64 <= u64::MAX - log.audited.first().get(),
+        LogVersion::Two => true,
+    }
+}
+
+/// The state before a place of a log that begins after a state, if the entries before it have no fault. None,
+/// too, where one of them has no word: no log has such entries.
 fn state_after(
     alloc: Global,
     log: &Log<'_>,
@@ -79,15 +88,24 @@ fn state_after(
 ) -> Result<Option<State>, AllocError>
     requires { KnowsFew start.state }
 {
-    let first = log.audited.first();
-    if first.get() > u64::MAX - MOST_NUMBERS {
+    log.audited.fits();
+    let entries = log.entries();
+    let count = at.min(entries.len());
+    if !have_words(log, count) {
         return Ok(None);
     }
-    log.audited.fits();
+    let first = log.audited.first();
     let opening = log.audited.opening();
     let skips = log.audited.skips();
-    let entries = &log.entries()[..at.min(log.entries().len())];
-    match replay_outcome(alloc, log.roster, start, first, &opening, skips, entries)? {
+    match replay_outcome(
+        alloc,
+        log.roster,
+        start,
+        first,
+        &opening,
+        skips,
+        &entries[..count],
+    )? {
         Outcome::Sound(state) => Ok(Some(state)),
         Outcome::Fault(..) => Ok(None),
     }

@@ -14,6 +14,9 @@ const HEIGHT: u32 = 16;
 /// The most entries of a log.
 const ENTRIES: u32 = 65536;
 
+/// The most bytes of a base's state.
+const STATE: u32 = 67_108_864;
+
 /// The greatest number of a place, or word of an entry: any but the greatest of 64 bits.
 const PLACE: u64 = u64::MAX - 1;
 
@@ -105,18 +108,20 @@ impl<'a> Passing<'a> {
         self.has_stopped = self.has_stopped || self.reader.fixed::<N>().is_err();
     }
 
-    fn body(&mut self) {
-        self.has_stopped = self.has_stopped || self.reader.opaque(MAX_BODY).is_err();
+    /// Passes at most so many bytes after their length.
+    fn opaque(&mut self, most: u32) {
+        self.has_stopped = self.has_stopped || self.reader.opaque(most).is_err();
     }
 
     fn case(&mut self) {
         self.roster();
         self.word(0, u32::MAX);
-        match self.word(1, 4) {
+        match self.word(1, 5) {
             1 => self.fork(),
             2 => self.log(),
             3 => self.fork_with_gaps(),
             4 => self.log_with_gaps(),
+            5 => self.log_after_base(),
             _ => {}
         }
     }
@@ -253,6 +258,29 @@ impl<'a> Passing<'a> {
         self.authenticator();
     }
 
+    /// Passes a base, and a log of its version.
+    fn log_after_base(&mut self) {
+        match self.word(1, 2) {
+            1 => {
+                self.showing();
+                self.base_state();
+                self.log();
+            }
+            2 => {
+                self.showing_with_gaps();
+                self.base_state();
+                self.log_with_gaps();
+            }
+            _ => {}
+        }
+    }
+
+    /// Passes the number of a base, and the bytes of its state.
+    fn base_state(&mut self) {
+        self.number(0, PLACE);
+        self.opaque(STATE);
+    }
+
     fn entry(&mut self) {
         match self.word(1, 5) {
             1 => self.send(),
@@ -266,14 +294,14 @@ impl<'a> Passing<'a> {
 
     fn send(&mut self) {
         self.word(0, u32::MAX);
-        self.body();
+        self.opaque(MAX_BODY);
     }
 
     fn recv(&mut self) {
         self.word(0, u32::MAX);
         self.number(0, PLACE);
         self.fixed::<32>();
-        self.body();
+        self.opaque(MAX_BODY);
         self.signature();
     }
 

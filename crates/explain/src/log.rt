@@ -140,8 +140,8 @@ fn is_same_message(one: &Entry, other: &Entry) -> bool {
     }
 }
 
-/// Adds what the verdict rests on.
-pub(crate) fn add_premises(facts: &mut Facts, rules: &str) {
+/// Adds what the verdict rests on: what each does, and these.
+pub(crate) fn add_premises(facts: &mut Facts, further: &[&str]) {
     facts.list("rests on");
     add_premise(
         facts,
@@ -155,7 +155,9 @@ pub(crate) fn add_premises(facts: &mut Facts, rules: &str) {
         facts,
         "no two of the texts that were hashed have the same SHA-256 digest",
     );
-    add_premise(facts, rules);
+    for premise in further {
+        add_premise(facts, premise);
+    }
     facts.end();
     facts.words(
         "note",

@@ -54,7 +54,9 @@ impl<'a> Log<'a> {
         Some(self.member?.kind)
     }
 
-    pub fn version(&self) -> LogVersion {
+    pub fn version(&self) -> LogVersion
+        ensures { result ≡ self.now.audited.now.log_version }
+    {
         self.audited.log_version()
     }
 

@@ -1,4 +1,4 @@
-//! `nfsacc check` and `nfsacc roster`.
+//! `nfsacc check`, `nfsacc roster` and `nfsacc base`.
 
 use crate::devices::Remembering;
 use crate::{
@@ -6,7 +6,8 @@ use crate::{
 };
 use command_line::{CheckRequest, state_number};
 use console::{
-    CheckFault, Detail, Format, Judgement, Reason, Roster, check, read_roster, write_roster,
+    Base, BaseJudgement, CheckFault, Checked, Detail, Format, Judgement, Reason, Roster, check,
+    check_base, read_base, read_roster, write_roster,
 };
 use rpc::records::Counting;
 use shown_names::ShownName;
@@ -189,6 +190,73 @@ where
                 "nfsacc: {shown}: neither a roster nor one with evidence after it"
             );
             Err(without)
+        }
+        Err(fault) => Err(report_check(rt, name, fault)),
+    }
+}
+
+/// Says on standard output whether a file, or standard input, holds a base, and gives the status for it.
+pub fn check_base_file<R>(rt: &R, name: &str) -> u8
+where
+    R: Files + Input + Print + Eprint + AllocGlobal,
+{
+    if name == DASH {
+        return check_base_input(rt, rt.reader(), STANDARD_INPUT);
+    }
+    match fs::open(rt, name) {
+        Ok(file) => check_base_input(rt, file, name),
+        Err(error) => report_file(rt, name, &error),
+    }
+}
+
+/// Checks the base in what is read under a name.
+fn check_base_input<R, I>(rt: &R, input: I, name: &str) -> u8
+where
+    R: Print + Eprint + AllocGlobal,
+    I: Read + Drop,
+{
+    let mut reader = Counting::new(input);
+    let mut writer = Counting::new(Remembering::new(io::writer(rt)));
+    match check_base(rt.alloc(), &mut reader, &mut writer) {
+        Ok(BaseJudgement::Base { .. }) => 0,
+        Ok(BaseJudgement::NoBase(refusal)) => {
+            let shown = ShownName::new(name);
+            let _ = eprintln!(rt; "nfsacc: {shown}: no base: {refusal}");
+            INPUT_FAULT
+        }
+        Err(CheckFault::Write) => report_output(rt, writer.get_ref().last()),
+        Err(fault) => report_check(rt, name, fault),
+    }
+}
+
+/// The base in a file, or on standard input, or the status: where it holds none that is said on standard
+/// error.
+pub fn read_base_file<R>(rt: &R, name: &str) -> Result<Checked<Base>, u8>
+where
+    R: Files + Input + Eprint + AllocGlobal,
+{
+    if name == DASH {
+        return base_of(rt, rt.reader(), STANDARD_INPUT);
+    }
+    match fs::open(rt, name) {
+        Ok(file) => base_of(rt, file, name),
+        Err(error) => Err(report_file(rt, name, &error)),
+    }
+}
+
+/// The base in what is read under a name.
+fn base_of<R, I>(rt: &R, input: I, name: &str) -> Result<Checked<Base>, u8>
+where
+    R: Eprint + AllocGlobal,
+    I: Read + Drop,
+{
+    match read_base(rt.alloc(), &mut Counting::new(input)) {
+        Ok(Ok(base)) => Ok(base),
+        Ok(Err(refusal)) => {
+            let shown = ShownName::new(name);
+            let number = refusal.number().unwrap_or(0);
+            let _ = eprintln!(rt; "nfsacc: {shown}: refused {number}");
+            Err(INPUT_FAULT)
         }
         Err(fault) => Err(report_check(rt, name, fault)),
     }

@@ -8,34 +8,34 @@ mod devices;
 mod errors;
 mod evidence;
 mod master;
+mod run;
 mod serve;
 mod shelf;
 mod times;
 mod words;
 
-use command_line::{Request, RunRequest, ServeRefusal, parse, serve_order};
+use command_line::{Request, ServeRefusal, parse, serve_order};
 use devices::Remembering;
 use errors::TimedErrors;
-use evidence::{check_file, show_roster};
+use evidence::{check_base_file, check_file, show_roster};
 use rpc::records::{Counting, RecordFault, RecordReader};
 use rpc_streams::run_rpc;
-use scripts::{ScriptEnd, ScriptFault, ScriptFiles, run_script};
+use run::run_file;
 use serve::{Opened, open, order_of, report_served};
 use serving::serve;
-use shelf::{FileShelf, leads_to};
+use shelf::FileShelf;
 use shown_names::ShownName;
-use std::fs::{Metadata, OpenFile};
-use std::io::{BufReader, Read};
+use std::io;
+use std::io::BufReader;
 use std::process::ExitCode;
 use std::random::RandomSource;
 use std::rt::Files;
 use std::sync::Wait;
 use std::thread::Threads;
-use std::{fs, io};
 use words::{report_words, words_of};
 
 /// The status of the program, beside 0, for a fault in the input: the records end with one, a file is no
-/// evidence or has no roster, or a script has a bad line.
+/// evidence or has no roster or no base, or a script has a bad line.
 pub(crate) const INPUT_FAULT: u8 = 1;
 
 /// The words of the command line ask for nothing that there is.
@@ -59,7 +59,7 @@ const STANDARD_OUTPUT: &str = "standard output";
 pub(crate) const INPUT_FILE: &str = "/dev/stdin";
 
 /// The bytes that are read at once: as many as a pipe holds.
-const READ_AHEAD: usize = 65536;
+pub(crate) const READ_AHEAD: usize = 65536;
 
 /// Answers the records of standard input on standard output.
 fn rpc<R: Input + Print + Eprint + AllocGlobal>(rt: &R) -> u8 {
@@ -87,88 +87,6 @@ fn report_fault(rt: &impl Eprint, fault: RecordFault) -> u8 {
         RecordFault::RecordTooLong | RecordFault::EndInRecord => {
             let number = fault.number().unwrap();
             let _ = eprintln!(rt; "nfsacc: record fault {number}");
-            INPUT_FAULT
-        }
-    }
-}
-
-/// Runs the script in a file, or the one on standard input.
-fn run_file<R>(rt: &R, request: RunRequest<'_>) -> u8
-where
-    R: Files + Input + Print + Eprint + AllocGlobal + RandomSource + Threads + Wait + Sync,
-{
-    if request.file == DASH {
-        if is_roster_out(rt, request, fs::metadata(rt, INPUT_FILE)) {
-            return report_roster_out(rt, request);
-        }
-        return match BufReader::with_capacity(rt.alloc(), READ_AHEAD, rt.reader()) {
-            Ok(reader) => run_lines(rt, reader, STANDARD_INPUT, request),
-            Err(_) => report_no_memory(rt),
-        };
-    }
-    match fs::open(rt, request.file) {
-        Ok(file) if is_roster_out(rt, request, file.metadata()) => report_roster_out(rt, request),
-        Ok(file) => match BufReader::with_capacity(rt.alloc(), READ_AHEAD, file) {
-            Ok(reader) => run_lines(rt, reader, request.file, request),
-            Err(_) => report_no_memory(rt),
-        },
-        Err(error) => report_file(rt, request.file, &error),
-    }
-}
-
-/// Whether the roster is to go to the file that the script stands in, by whichever name.
-fn is_roster_out<R: Files>(rt: &R, request: RunRequest<'_>, script: io::Result<Metadata>) -> bool {
-    match (request.roster_out, script) {
-        (Some(name), Ok(script)) => leads_to(rt, name, &script),
-        _ => false,
-    }
-}
-
-/// Says on standard error that the roster would take the script's place.
-fn report_roster_out(rt: &impl Eprint, request: RunRequest<'_>) -> u8 {
-    let name = request.roster_out.unwrap_or("");
-    let _ = eprintln!(rt; "nfsacc: {name}: the roster would take the place of the script");
-    COMMAND_LINE
-}
-
-/// Runs the lines of the script with a name, and gives the status for how it came to its end.
-fn run_lines<R, I>(rt: &R, input: I, name: &str, request: RunRequest<'_>) -> u8
-where
-    R: Files + Print + Eprint + AllocGlobal + RandomSource + Threads + Wait + Sync,
-    I: Read + Drop,
-{
-    let mut shelf = FileShelf::new(rt, rt.alloc());
-    let mut reader = Remembering::new(input);
-    let mut writer = Remembering::new(io::writer(rt));
-    let ended = run_script(
-        rt,
-        rt.alloc(),
-        &mut reader,
-        &mut writer,
-        &mut shelf,
-        ScriptFiles {
-            roster: request.roster_out,
-            bases: request.base_out,
-        },
-    );
-    match &ended {
-        Ok(end) => report_end(rt, end),
-        Err(ScriptFault::NoMemory) => report_no_memory(rt),
-        Err(ScriptFault::Device) => match reader.last() {
-            Some(error) => report_file(rt, name, &error),
-            None => report_output(rt, writer.last()),
-        },
-        Err(ScriptFault::File(name, error)) => report_file(rt, name, error),
-    }
-}
-
-/// The status of a script that came to this end. A bad line is named on standard error.
-fn report_end(rt: &impl Eprint, end: &ScriptEnd) -> u8 {
-    match end {
-        ScriptEnd::Closed(_) => 0,
-        ScriptEnd::NotInJournal(_) => INPUT_FAULT,
-        ScriptEnd::Bad(line) => {
-            let _ = eprintln!(rt; "line {line}: bad");
             INPUT_FAULT
         }
     }
@@ -225,6 +143,7 @@ fn main(rt: HostRuntime) -> ExitCode {
         Ok(Request::Rpc) => rpc(&rt),
         Ok(Request::Check(request)) => check_file(&rt, request),
         Ok(Request::Roster(name)) => show_roster(&rt, name),
+        Ok(Request::Base(name)) => check_base_file(&rt, name),
         Ok(Request::Run(request)) => run_file(&rt, request),
         Ok(Request::Serve(request)) => match serve_order(&request) {
             Ok(order) => match open(&rt, &order) {

@@ -38,7 +38,7 @@ pub struct Opened {
 }
 
 /// Opens the port and the control socket, reads the secret bytes if a file of them is named, and tries the
-/// folder for evidence. Gives the status of the program where one of them fails.
+/// folders for evidence and for bases. Gives the status of the program where one of them fails.
 pub fn open<R>(rt: &R, order: &ServeOrder<'_>) -> Result<Opened, u8>
 where
     R: Files<File = File> + Input + Eprint + AllocGlobal + RandomSource,
@@ -52,11 +52,8 @@ where
             Err(fault) => return Err(report_master(rt, name, &fault)),
         },
     };
-    if let Some(name) = order.options.evidence {
-        if let Err(error) = try_folder(rt, name) {
-            return Err(report_file(rt, name, &error));
-        }
-    }
+    try_named(rt, order.options.evidence)?;
+    try_named(rt, order.options.base_out)?;
     let address = SocketAddr::new(order.address, order.port);
     let listener = match TcpListener::bind(rt, address) {
         Ok(listener) => listener,
@@ -147,7 +144,21 @@ pub fn report_served<S: Drop>(
     }
 }
 
-/// That a folder is there and takes files: before anybody is served, since evidence may come at any time.
+/// That a folder takes files, if one is named, or the status for it.
+fn try_named<R>(rt: &R, folder: Option<&str>) -> Result<(), u8>
+where
+    R: Files + Eprint + AllocGlobal + RandomSource,
+{
+    let Some(name) = folder else {
+        return Ok(());
+    };
+    match try_folder(rt, name) {
+        Ok(()) => Ok(()),
+        Err(error) => Err(report_file(rt, name, &error)),
+    }
+}
+
+/// That a folder is there and takes files: before anybody is served, since files may come at any time.
 fn try_folder<R: Files + AllocGlobal + RandomSource>(rt: &R, name: &str) -> io::Result<()> {
     FileShelf::new(rt, rt.alloc()).try_folder(name)
 }

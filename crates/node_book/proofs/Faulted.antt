@@ -180,7 +180,6 @@ faulted_shows b c fits limits out =
           (subst (λ n. AllByRecursion (MaySkip b.log_version) (logged_links n c.segment.entries)) seam
           (may c.segment own)));
     }
-
   where
     begins : (ss : List VersionedParts) → Tile (start_number b.base + 1) ss (b.end.number + 1)
         → first_of c.segment ≡ b.end.number + 1 → first_shown ss c.segment ≡ start_number b.base + 1

@@ -4,6 +4,7 @@ pub mod Mapped
 pub mod Reaching
 pub mod Taken
 pub mod Shown
+pub mod Starts
 pub mod Searches
 pub mod LookUps
 pub mod SameReplies

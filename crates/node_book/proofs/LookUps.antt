@@ -1,7 +1,7 @@
 -- What a book's look-up at a number tells.
 -- Serves: Rows::mark_shown, Rows::knows, Rows::showing_before, Rows::fork_by_segment.
 use Rattle.std.proofs.Common.{◌≡◌, ℕ, Bool, true, false, cond, not, ◌==◌, List, find, Some, None, refl}
-use Rattle.std.proofs.Common.{Option, sym, ap, ◌∙◌}
+use Rattle.std.proofs.Common.{Option, sym, ap, ◌+◌, ◌∙◌}
 use Rattle.std.specs.Prelude.{option_map, option_and_then}
 use Rattle.authenticator.specs.declared.authenticator.Authenticator.{Authenticator}
 use Rattle.authenticator.specs.Signing.{is_same}
@@ -89,7 +89,7 @@ module _ (b : Book) (ready : IsReady b) (hidden : exposed b ≡ false) (n : ℕ)
 pub fork_of_answer : (b : Book) (s : VersionedParts) (last : ℕ) (o : Option ℕ)
     → IsReady b → exposed b ≡ false → b.stage ≡ Wanted s.first last → o ≡ answer_fork b s
     → fork_evidence b (versioned_showing s) (segment_marks s)
-    ≡ evidence_of b (option_and_then (fork_of b.log_version b.learned b.segments (versioned_showing s)) o)
+    ≡ evidence_of b (option_and_then (fork_of b.base b.log_version b.learned b.segments (versioned_showing s)) o)
 fork_of_answer b s last o ready hidden asked e =
-    ap (λ n. evidence_of b (option_and_then (fork_of b.log_version b.learned b.segments (versioned_showing s)) n))
+    ap (λ n. evidence_of b (option_and_then (fork_of b.base b.log_version b.learned b.segments (versioned_showing s)) n))
     (answer_looked_up b s last ready.fits ready.one hidden asked ∙ sym e)

@@ -1,28 +1,29 @@
 -- The entries of segments, and the log that they show.
 -- Serves: count_entries, add_skips, add_segment, shown_of, replayed_evidence.
-use Rattle.std.proofs.Common.{◌≡◌, ◌+◌, ◌<◌, ◌≤◌, ℕ, zero, suc, Bool, true, false, not, ◌==◌, ◌&&◌, List, [], ◌∷◌}
+use Rattle.std.proofs.Common.{◌≡◌, ◌+◌, ◌-◌, ◌<◌, ◌≤◌, ℕ, zero, suc, Bool, true, false, not, ◌==◌, ◌&&◌, List, [], ◌∷◌}
 use Rattle.std.proofs.Common.{◌++◌, flat_map, length, map, nat_lt, eqb-true}
 use Rattle.std.proofs.Common.{get_or, take, Option, Some, None, refl, sym, ap, ap₂, subst, ◌∙◌, arith}
-use Rattle.std.specs.Prelude.{slice_index_or}
+use Rattle.std.specs.Prelude.{IsTrue, slice_index_or}
 use Rattle.std.proofs.Common.{Result, Ok, Err}
 use Rattle.std.specs.Option.{IfNone, IsSome}
 use Rattle.std.specs.Result.{IfOk}
 use Rattle.std.specs.List.{AllByRecursion}
+use Rattle.std.proofs.lemmas.Bool.{and_from, lt-ltb}
 use Rattle.std.proofs.lemmas.List.{length-append, length-map, map-append, take-map}
 use Rattle.std.proofs.lemmas.List.Folds.{length-flat_map-take}
 use Rattle.authenticator.specs.declared.authenticator.Authenticator.{Authenticator}
 use Rattle.authenticator.specs.declared.member.LogVersion.{LogVersion}
 use Rattle.authenticator.specs.declared.member.LogVersion.TheVariants.{One, Two}
 use Rattle.authenticator.proofs.Signed.{is_false}
-use Rattle.secure_log.specs.LogEntries.Chain.{Logged, logged_links, zeros}
+use Rattle.secure_log.specs.LogEntries.Chain.{Logged, logged_links}
 use Rattle.secure_log.specs.LogEntries.Words.{MaySkip, logged}
 use Rattle.secure_log.specs.declared.log_entries.entry.Entry.{Entry}
-use Rattle.secure_log.specs.Versioned.{VersionedParts, ClosedParts}
+use Rattle.secure_log.specs.Versioned.{Begins, VersionedParts, ClosedParts, is_whole_in, versioned_value}
 use Rattle.secure_log.proofs.VersionedTexts.{whole_is}
-use Rattle.evidence_spec.specs.Evidence.{Replay, charge_value, is_whole_charge}
+use Rattle.evidence_spec.specs.Evidence.{Based, Replay, based_value, charge_value, is_whole_charge, replay_charge}
 use Rattle.witness_spec.specs.Limits.{MAX_AUDITED}
 use Rattle.node_book.specs.declared.replayed.ShownEntries.{ShownEntries}
-use Rattle.evidence_showings.specs.Bases.{HasBaseText}
+use Rattle.challenge.specs.evidence_showings.Bases.{HasBaseText}
 use Rattle.evidence_spec.specs.Base.{BaseParts, base_by, base_text}
 use Rattle.witness_spec.specs.Starting.{KnownBase, start_hash, start_number}
 use Rattle.node_book.specs.Rows.{ShowsLog, entries_of, replayed_log, segments_in}
@@ -215,3 +216,8 @@ based_whole v b s text same =
         → is_whole_charge (5, based_value w b s) ≡ is_whole_in w (versioned_value w s)
     by One follow = refl
     by Two follow = ap (λ x. x && is_whole_in Two (versioned_value Two s)) follow
+
+-- evidence that may be there is there where what it lacks otherwise isn't lacking
+pub there : {X : Type 0} (o : Option X) (b : Bool) → IfNone o (b ≡ false) → b ≡ true → IsSome o
+there None b none passes = sym none ∙ passes
+there (Some x) b none passes = refl

@@ -15,7 +15,7 @@ use Rattle.envelopes.specs.declared.envelope.Envelope.{Envelope}
 use Rattle.envelopes.specs.contracts.envelope.Envelope as envelopes
 use Rattle.evidence_spec.specs.Evidence.{EvidenceParts}
 use Rattle.challenge.specs.contracts.evidence.Evidence as evidences
-use Rattle.evidence_showings.specs.contracts.base_text.BaseText as bases
+use Rattle.challenge.specs.evidence_showings.contracts.base_text.BaseText as bases
 use Rattle.evidence_spec.specs.Base.{BaseParts}
 use Rattle.witness_spec.specs.state_spec.State.{State}
 use Rattle.witness_spec.specs.state_spec.Codes.{state_code}

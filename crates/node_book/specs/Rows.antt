@@ -1,6 +1,8 @@
 -- What a book in memory says.
 use Rattle.std.specs.Prelude.{◌≡◌, ℕ, ◌+◌, ◌≤◌, ◌<◌, List, [], ◌∷◌, ◌++◌, map, take, flat_map, length, Option, Some, None, option_map}
-use Rattle.std.specs.Arc.{Arc, arc_value}
+use Rattle.std.specs.Arc.{arc_value}
+use Rattle.std.specs.Global.{Global}
+use Rattle.std.specs.declared.sync.Arc.{Arc}
 use Rattle.std.specs.List.{AllByRecursion}
 use Rattle.authenticator.specs.declared.member.LogVersion.{LogVersion}
 use Rattle.secure_log.specs.LogEntries.Chain.{Logged, logged_links}
@@ -33,7 +35,7 @@ abbrev pub known_in : bases.KnownBase → KnownBase
 known_in k = record { parts = bases.parts_of k; state = k.state }
 
 -- the base from which the audit began, if it did from one
-abbrev pub base_in : Option (Arc bases.KnownBase) → Option KnownBase
+abbrev pub base_in : Option (Arc bases.KnownBase Global) → Option KnownBase
 base_in base = option_map (λ b. known_in (arc_value b)) base
 
 -- segments without their rosters

@@ -1,6 +1,6 @@
 //! What a step is to do is decided: nothing changes here.
 
-ghost use Rattle.std.specs.Prelude.{◌≡◌, ◌↔◌, ◌+◌, ◌≤◌, ◌&&◌, false, nat_le, nat_lt, IfErr, IfOk, IsTrue};
+ghost use Rattle.std.specs.Prelude.{◌≡◌, ◌↔◌, ◌+◌, ◌<◌, ◌≤◌, ◌&&◌, false, nat_le, nat_lt, IfErr, IfOk, IsTrue};
 ghost use Rattle.std.specs.Prelude.{length, option_map};
 ghost use Rattle.std.specs.Arc.{arc_value};
 ghost use Rattle.witness_spec.specs.Limits as limits;
@@ -177,6 +177,7 @@ impl Rows {
     }
 
     /// Of an audit where none is under way.
+    #[tactic(auto, using(crate::proofs::Reaching::above_end, crate::proofs::Reaching::book_full))]
     fn decide_asking(&self) -> AuditDecision
         requires { IsReady (book_in self.now) }
         ensures { reply_in (audit_reply result) ≡ ask_reply self.now.log_version (exposed (book_in self.now))
@@ -366,7 +367,8 @@ fn shared(alloc: Global, evidence: Option<Evidence>) -> Result<Option<Arc<Eviden
 /// The greatest number among those that an audit after the end can reach; 0 if there is none.
 #[tactic(auto, using(crate::proofs::Reaching::reach_more))]
 fn last_in_reach(version: LogVersion, end: u64, learned: &[Authenticator]) -> u64
-    ensures { result ≡ owing.last_in_reach version end learned.now }
+    ensures last { result ≡ owing.last_in_reach version end learned.now }
+    ensures low { result < 18446744073709551615 }
 {
     let mut last = 0;
     for authenticator in learned {

@@ -111,8 +111,12 @@ pub(crate) fn segment_holding(segments: &[SharedSegment], number: u64) -> Option
     ensures { option_map (λ s. s.now.segment) result ≡ segment_holding number (segments_in segments.now) }
 {
     let count = count_ended(segments, number);
-    if count < segments.len() && segments[count].closed().segment().first().get() <= number {
-        Some(&segments[count])
+    if segments.len() <= count {
+        return None;
+    }
+    let next = &segments[count];
+    if next.closed().segment().first().get() <= number {
+        Some(next)
     } else {
         None
     }

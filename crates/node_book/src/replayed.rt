@@ -2,6 +2,7 @@
 
 ghost use Rattle.std.specs.Prelude.{◌≡◌, ◌++◌, ◌+◌, ◌≤◌, List, IfOk, length, take};
 ghost use Rattle.secure_log.specs.LogEntries.Chain.{Logged};
+ghost use Rattle.challenge.specs.Charges.{charge_in};
 ghost use Rattle.evidence_spec.specs.Evidence.{charge_value, is_whole_charge};
 ghost use Rattle.secure_log.specs.Versioned.{is_whole_in, versioned_value};
 ghost use Rattle.witness_spec.specs.Exposing.{replay_from};
@@ -64,6 +65,7 @@ fn first_shown(segments: &[SharedSegment], other: &SharedSegment) -> Number
 }
 
 /// The hash where an audit from a base begins; 32 zero bytes without one.
+#[tactic(auto, unfolding(secure_log::specs::LogEntries::Chain::zeros))]
 fn start_hash(base: &Option<Arc<Base>>) -> [u8; 32]
     ensures { result ≡ start_hash (base_in base.now) }
 {
@@ -81,8 +83,8 @@ fn charge_from(
     log: AuditedLog,
 ) -> Result<Charge, AllocError>
     requires { BaseIsOfLog (base_in base.now) log.log_version }
-    ensures charge { IfOk result (λ c. c ≡ replay_from (base_in base.now) log) }
-    ensures whole { IfOk result (λ c. is_whole_charge (charge_value c)
+    ensures charge { IfOk result (λ c. charge_in c ≡ replay_from (base_in base.now) log) }
+    ensures whole { IfOk result (λ c. is_whole_charge (charge_value (charge_in c))
         ≡ is_whole_in log.log_version (versioned_value log.log_version log)) }
 {
     match base {

@@ -5,6 +5,7 @@ ghost use Rattle.std.specs.Option.{option_map};
 ghost use Rattle.secure_log.specs.declared.log_entries.entry.TheConstants.{MAX_BODY};
 ghost use Rattle.envelopes.specs.declared.envelope.Envelope.{Envelope};
 ghost use Rattle.envelopes.specs.declared.acknowledgement.Ack.{Ack};
+ghost use Rattle.node_logs.specs.Gaps.{Checks};
 ghost use Rattle.nodes.specs.Delivery.{MayTakeAck, TakesAwaited};
 ghost use Rattle.nodes.specs.Exchanges.Exchanges.{IsServed};
 ghost use Rattle.nodes.specs.Exchanges.Laws.{IsAccepted};
@@ -14,6 +15,8 @@ ghost use Rattle.nodes.specs.Sides.{IsAnswered, IsEnvelopeText, IsTextOfAck, Sto
 use crate::deliver::take_ack;
 use crate::server::ServerNode;
 use crate::sides::answer;
+use authenticator::Number;
+use commitment::Refusal;
 use gateway::links::LinkFault;
 use nfs_items::Time;
 use secure_log::log_entries::SignatureText;
@@ -116,6 +119,18 @@ impl HonestServer {
     {
         self.server.node().is_honest();
         let result = take_ack(&mut self.server, alloc, text);
+        self.server.node().is_honest();
+        result
+    }
+
+    /// Logs the digest of the state, as `ServerNode::checkpoint` does. The server stays one that hasn't strayed.
+    pub fn checkpoint(&mut self, alloc: Global) -> Result<Number, Refusal>
+        ensures straight { HasNotStrayed self.old }
+        ensures stays { HasNotStrayed self.new }
+        ensures checks { Checks self.old result self.new }
+    {
+        self.server.node().is_honest();
+        let result = self.server.checkpoint(alloc);
         self.server.node().is_honest();
         result
     }

@@ -17,6 +17,8 @@ use Rattle.evidence_spec.specs.Evidence.{EvidenceParts}
 use Rattle.witness_calls.specs.Telling.{word_of}
 use Rattle.scripts.specs.declared.line.Act.{Act}
 use Rattle.scripts.specs.declared.line.Act.TheVariants as a
+use Rattle.scripts.specs.declared.line.Line.{Line}
+use Rattle.scripts.specs.declared.line.Line.TheVariants as l
 use Rattle.scripts.specs.declared.stop.Stop.{Stop}
 use Rattle.scripts.specs.declared.stop.Stop.TheVariants as stops
 
@@ -225,6 +227,12 @@ IsDone (a.Forward node) = IsForwarded node
 IsDone (a.Ask node) = IsAsked node
 IsDone (a.Evidence node file) = IsEvidence node
 
+-- What a line after the nodes prints and adds where its witness goes on. A `join` found no base then.
+abbrev pub IsLine : Line → List ℕ → List Claim → Type 0
+IsLine (l.Node node) text claims = ⊥
+IsLine (l.Join place) text claims = IsNone text claims
+IsLine (l.Act act) text claims = IsDone act text claims
+
 -- ---- turns
 
 -- This is printed, and the claims of the pass grow by those of which it is so.
@@ -236,13 +244,13 @@ pub record Does (is : List ℕ → List Claim → Type 0) (old : List Claim) (te
 
 -- A line's turn: what it says, what it printed, and the claims that it added to the pass.
 pub record Turn : Type 0 where
-  pub act : Act
+  pub line : Line
   pub text : List ℕ
   pub claims : List Claim
 
 -- what a turn prints and adds is what its line does
 abbrev pub IsTurn : Turn → Type 0
-IsTurn t = IsDone t.act t.text t.claims
+IsTurn t = IsLine t.line t.text t.claims
 
 -- the texts of turns, one after the other
 abbrev pub texts_of : List Turn → List ℕ

@@ -16,17 +16,17 @@ use std::sync::Wait;
 use std::thread::Threads;
 use witness_calls::{Caller, Said, Shelf};
 
-/// A script that runs: its nodes, and its pass at the witness.
+/// A script that runs, with one witness: its nodes, and its pass at the witness.
 #[derive(Drop)]
 pub(crate) struct Run<'a, 's, R, S> {
     pub(crate) alloc: Global,
     pub(crate) roster: &'a Roster,
-    pub(crate) parties: Parties,
+    pub(crate) parties: &'s mut Parties,
     pub(crate) caller: Caller<'a, R>,
     pub(crate) shelf: &'s mut S,
     /// What goes between two nodes, for the time of an exchange.
     pub(crate) text: Vec<u8>,
-    pub(crate) bases: BaseFiles<'a>,
+    pub(crate) bases: &'s mut BaseFiles,
 }
 
 impl<R: Threads + Wait + Sync, S: Shelf> Run<'_, '_, R, S> {

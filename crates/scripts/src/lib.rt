@@ -11,8 +11,9 @@ mod messages;
 mod parties;
 mod script;
 mod stop;
+mod watch;
 mod witness;
 mod words;
 
 pub use script::{ScriptEnd, ScriptFault, ScriptFiles, run_script};
-pub use witness_calls::Shelf;
+pub use witness_calls::{Shelf, StartFault};

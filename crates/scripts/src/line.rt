@@ -119,6 +119,8 @@ pub(crate) enum Act<'a> {
 pub(crate) enum Line<'a> {
     /// `node N server H` or `node N client H`, and after it `2` where its log is of version 2.
     Node(NodeLine),
+    /// `join N K`: a new witness begins with the base that a node gives at a number.
+    Join(Place),
     /// A line after the nodes.
     Act(Act<'a>),
 }
@@ -128,10 +130,10 @@ pub(crate) enum Line<'a> {
 pub(crate) fn read_line(alloc: Global, text: &str) -> Result<Line<'_>, LineFault> {
     let mut words = Words::new(text);
     let name = words.word()?;
-    let line = if name == "node" {
-        Line::Node(node_line(&mut words)?)
-    } else {
-        Line::Act(read_act(alloc, name, &mut words)?)
+    let line = match name {
+        "node" => Line::Node(node_line(&mut words)?),
+        "join" => Line::Join(read_place(&mut words)?),
+        _ => Line::Act(read_act(alloc, name, &mut words)?),
     };
     match words.end() {
         Ok(()) => Ok(line),

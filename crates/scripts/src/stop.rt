@@ -3,6 +3,7 @@
 use crate::words::LineFault;
 use std::alloc::{AllocError, AllocFailed, Global};
 use std::io;
+use witness_calls::StartFault;
 
 /// Why a line isn't done.
 #[derive(Drop)]
@@ -15,6 +16,8 @@ pub(crate) enum Stop {
     Device,
     /// A file with this name could not be put in its place.
     File(String, io::Error),
+    /// No witness begins with the bases that were given; never `NoMemory`.
+    Start(StartFault),
 }
 
 impl Stop {
@@ -36,6 +39,15 @@ impl From<AllocError> for Stop {
 impl<T: Drop> From<AllocFailed<T>> for Stop {
     fn from(_error: AllocFailed<T>) -> Stop {
         Stop::NoMemory
+    }
+}
+
+impl From<StartFault> for Stop {
+    fn from(fault: StartFault) -> Stop {
+        match fault {
+            StartFault::NoMemory => Stop::NoMemory,
+            StartFault::TwoBases | StartFault::OtherRoot => Stop::Start(fault),
+        }
     }
 }
 

@@ -187,6 +187,8 @@ fn order_of(words: &[String]) -> Result<Order<'static>>
             evidence: None,
             progress: false,
             idle: None,
+            base_out: None,
+            check_every: None,
             log_version: LogVersion::One,
         },
         masters: Masters::Known,

@@ -27,6 +27,10 @@ pub struct ServeOptions<'a> {
     pub progress: bool,
     /// How many seconds a connection may be silent, from 1 to 86,400; for ever where none is given.
     pub idle: Option<u32>,
+    /// The name of the folder that bases go to, if one is named.
+    pub base_out: Option<&'a str>,
+    /// After how many calls, from 1 to 16,384, the server logs a CHECK; it logs none where no number is given.
+    pub check_every: Option<u32>,
     /// The version of the logs that the server and all clients keep; 1 where none is named.
     pub log_version: LogVersion,
 }

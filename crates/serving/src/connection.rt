@@ -1,7 +1,8 @@
 //! One connection: its client's records, and then the client's audit.
 
+use crate::checks::{Checking, Checks};
 use crate::clock::SystemClock;
-use crate::link::ClientLink;
+use crate::link::{CheckingLink, ClientLink};
 use crate::members::SERVER;
 use crate::phase::Phase;
 use crate::stream::{ClientStream, Timeouts};
@@ -25,6 +26,8 @@ pub(crate) struct ConnectionContext<'a, R, T, E, S> {
     pub(crate) audit: AuditContext<'a, R, E, S>,
     pub(crate) clock: &'a T,
     pub(crate) server: &'a Mutex<HonestServer>,
+    /// The CHECKs that the server logs, if it logs some.
+    pub(crate) checks: Option<&'a Mutex<Checks<'a>>>,
     pub(crate) phase: &'a Mutex<Phase>,
     /// How many seconds a connection may be silent, if there is an end to it.
     pub(crate) idle: Option<u32>,
@@ -44,6 +47,16 @@ impl<'a, R: Wait, T, E: Write, S: Shelf> ConnectionContext<'a, R, T, E, S> {
     /// The phase of the run.
     pub(crate) fn phase(&self) -> Phase {
         *self.phase.lock(self.audit.rt)
+    }
+
+    /// The server with the CHECKs that it logs, if it logs some.
+    fn checking(&self) -> Option<Checking<'a, R, E, S>> {
+        let checks = self.checks?;
+        Some(Checking {
+            audit: self.audit,
+            server: self.server,
+            checks,
+        })
     }
 
     /// Whether the run is to end.
@@ -130,7 +143,8 @@ where
     let number = client.number();
     // Where it can't be set, replies to pipelined calls come later, and nothing else changes.
     let _ = stream.set_nodelay(true);
-    let mut link = ClientLink::new(audit.rt, audit.alloc, client, SERVER, context.server);
+    let link = ClientLink::new(audit.rt, audit.alloc, client, SERVER, context.server);
+    let mut link = CheckingLink::new(link, context.checking());
     let served = serve_records(context, &mut link, &stream);
     drop(stream);
     if let Err(failure) = served {
@@ -190,7 +204,7 @@ where
 /// Answers the records of a stream to its end.
 fn serve_records<'a, R, T, E, S>(
     context: ConnectionContext<'a, R, T, E, S>,
-    link: &mut ClientLink<'_, R>,
+    link: &mut CheckingLink<'_, R, E, S>,
     stream: &TcpStream,
 ) -> Result<(), StreamFailure>
 where

@@ -2,6 +2,7 @@
 //! in the end everybody's log audited by a witness.
 #![tactic(auto)]
 
+mod checks;
 mod clock;
 mod connection;
 mod control;

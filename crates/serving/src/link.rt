@@ -4,9 +4,12 @@ ghost use Rattle.std.specs.Prelude.{◌≡◌, ◌↔◌, true, IsTrue};
 ghost use Rattle.nodes.specs.Shareds.{shared_of};
 ghost use Rattle.serving.specs.Links.{IsCall, LacksKeysOfACall, StopsCall};
 
+use crate::checks::Checking;
+use auditing::Shelf;
 use nfs_items::Time;
 use nodes::{ClientNode, HonestServer, Link, LinkFault, Shared};
 use std::alloc::Global;
+use std::io::Write;
 use std::marker::Model;
 use std::sync::{Mutex, Wait};
 
@@ -80,5 +83,63 @@ impl<'a, R: Wait> Link for ClientLink<'a, R> {
             return Err(LinkFault::KeysUsedUp);
         }
         self.shared.exchange(alloc, time, bytes)
+    }
+}
+
+/// The link of a connection's client, after each of whose calls the server may log a CHECK.
+#[derive(Drop)]
+pub(crate) struct CheckingLink<'a, R: Wait, E, S> {
+    link: ClientLink<'a, R>,
+    checking: Option<Checking<'a, R, E, S>>,
+}
+
+impl<'a, R: Wait, E, S> Model for CheckingLink<'a, R, E, S> {
+    ghost use Rattle.nodes.specs.Shareds.{SharedParts, shared_code};
+
+    ghost Value = { SharedParts };
+
+    ghost coded = { shared_code };
+
+    ghost view = { λ l. l.link };
+}
+
+impl<'a, R: Wait, E, S> CheckingLink<'a, R, E, S> {
+    /// A link, with the CHECKs that the server logs between calls, if it logs some.
+    pub(crate) fn new(
+        link: ClientLink<'a, R>,
+        checking: Option<Checking<'a, R, E, S>>,
+    ) -> CheckingLink<'a, R, E, S>
+        ensures { result ≡ link }
+    {
+        CheckingLink { link, checking }
+    }
+
+    /// The client as it is now, also after a fault.
+    pub(crate) fn into_client(self) -> ClientNode
+        ensures { result ≡ self.entry.client }
+    {
+        self.link.into_client()
+    }
+}
+
+/// Its exchanges are those of the link; a CHECK changes nothing at the client.
+impl<'a, R: Wait, E: Write, S: Shelf> Link for CheckingLink<'a, R, E, S> {
+    ghost exchanges = { λ d time bytes reply d'. IsCall d time bytes reply d' };
+
+    ghost fails = { λ d time bytes e d'. StopsCall d time bytes e d' };
+
+    fn exchange(
+        &mut self,
+        alloc: Global,
+        time: Time,
+        bytes: &[u8],
+    ) -> Result<Option<Vec<u8>>, LinkFault> {
+        let answered = self.link.exchange(alloc, time, bytes);
+        if let Some(checking) = &self.checking {
+            if answered.is_ok() {
+                checking.call_ended();
+            }
+        }
+        answered
     }
 }

@@ -11,6 +11,7 @@ ghost use Rattle.serve_options.specs.Options.{AreServeOptions};
 ghost use Rattle.serving.specs.Runs.{AreAccounted, IsReported, WritesLines, listening_line};
 ghost use Rattle.serving.specs.witness_calls.Closing.{IsOneRun};
 
+use crate::checks::Checks;
 use crate::connection::{ConnectionContext, EndedClient, WaitingClient};
 use crate::listen::serve_all;
 use crate::members::{Nodes, SERVER, make_nodes};
@@ -509,10 +510,12 @@ where
 {
     let server = Mutex::new(server);
     let phase = Mutex::new(Phase::Serving);
+    let checks = checks_of(order).map(Mutex::new);
     let context = ConnectionContext {
         audit,
         clock,
         server: &server,
+        checks: checks.as_ref(),
         phase: &phase,
         idle: order.options.idle,
         control: order.control,
@@ -522,6 +525,12 @@ where
         server: server.into_inner().into_server(),
         ended,
     })
+}
+
+/// The CHECKs that the server logs, if the order has some.
+fn checks_of<'a>(order: &Order<'a>) -> Option<Checks<'a>> {
+    let every = order.options.check_every?;
+    Some(Checks::new(every, order.options.base_out))
 }
 
 /// Audits everybody by a pass, and asks the witness about each node.

@@ -5,5 +5,9 @@ pub mod Showing
 pub mod Booking
 pub mod Faulting
 pub mod ZeroBlocks
+pub mod FirstBytes
 pub mod ServedTexts
 pub mod Serving
+pub mod BaseStates
+pub mod Basing
+pub mod BasedTexts

@@ -3,3 +3,4 @@ pub mod Shown
 pub mod Books
 pub mod Faulty
 pub mod Served
+pub mod Based

@@ -2,6 +2,7 @@
 
 pub mod answers;
 pub mod audits;
+pub mod bases;
 pub mod books;
 pub mod faults;
 pub mod messages;

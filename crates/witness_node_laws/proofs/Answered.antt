@@ -24,7 +24,8 @@ use Rattle.packets.specs.Laws.{JudgedAsMeant}
 use Rattle.node_logs.specs.Steps.Nodes.{NodeParts, log_of}
 use Rattle.node_logs.specs.Nodes.{IsMemberOf}
 use Rattle.node_logs.specs.Challenges.{AnswersChallenge}
-use Rattle.witness_laws.specs.witness_spec.Watched.{Watched, IsInRoster}
+use Rattle.witness_laws.specs.witness_spec.Starting.{Beginning}
+use Rattle.witness_laws.specs.witness_spec.Watched.{Watched, IsInRoster, IsWatchedFrom}
 use Rattle.witness_laws.specs.witness_spec.Standing.{Wanted, stage_of}
 use Rattle.witness_laws.specs.witness_spec.Histories.{History, own_of}
 use Rattle.witness_laws.specs.witness_spec.Laws.{AnswersAreAccepted}
@@ -63,16 +64,16 @@ of_part log first last part closing places of_log skips =
     (sym (part_end log.entries first last part.first part.opening own p of_log.number of_log.opening)) closing skips
 
 -- The bytes that a node answers are those of a segment that is accepted.
-pub answered : AnswersAreAccepted → JudgedAsMeant → (w : Watched) (history : History)
-    (n : NodeParts) (first last : ℕ) (bytes : List ℕ) → IsRoster w.roster → IsInRoster w
+pub answered : AnswersAreAccepted → JudgedAsMeant → (g : Beginning) (w : Watched) (history : History)
+    (n : NodeParts) (first last : ℕ) (bytes : List ℕ) → IsRoster w.roster → IsInRoster w → IsWatchedFrom g w
     → w.member.node ≡ n.node → IsMemberOf n w.member → stage_of (own_of w history) ≡ Wanted first last
-    → AnswersChallenge n first last bytes → IsBytes bytes → IsAcceptedAnswer w history bytes
-answered accepted meant w history n first last bytes roster is node key stage h bound =
+    → AnswersChallenge n first last bytes → IsBytes bytes → IsAcceptedAnswer g w history bytes
+answered accepted meant g w history n first last bytes roster is from node key stage h bound =
     let part = h.answer.part in
     let closing = h.answer.closing in
     let s = with_closing part closing in
     let closed : IsClosedIn w.roster s =
-    h.answer.closed w.roster w.member (ap (member_of w.roster) (sym node) ∙ is) key in
+    h.answer.closed w.roster w.member (ap (member_of w.roster) (sym node) ∙ is.is_member) key in
     let ends = closed.ends in
     let of_log = h.answer.of_log in
     let version : n.log_version ≡ part.log_version = sym of_log.version in
@@ -81,11 +82,11 @@ answered accepted meant w history n first last bytes roster is node key stage h 
     let place : IsOfPlace (log_of n) last closing =
     (of_part (log_of n) first last part closing h.places of_log ends.skips).0 ends in
     let member : member_of w.roster closing.node ≡ Some w.member =
-    ap (member_of w.roster) (place.node ∙ sym node) ∙ is in
+    ap (member_of w.roster) (place.node ∙ sym node) ∙ is.is_member in
     let signed : IsSignedBy w.member closing =
     subst (λ x. IsSomeAnd x (λ k. IsSignedBy k closing)) member closed.signed in
     let good =
-    accepted w history (log_of n) first last part closing roster is (sym node) (sym key.version) stage
+    accepted g w history (log_of n) first last part closing roster is from (sym node) (sym key.version) stage
     (h.places, h.few, of_log) ends.skips place signed in
     let fits : FitsVersion MAX_ENTRIES s = record {
       text = text.0;
@@ -98,5 +99,5 @@ answered accepted meant w history n first last bytes roster is node key stage h 
       text = text;
       event = record { fits = fits; whole = text.1; closed = closed };
       accepted = good;
-      packet = answer_packet meant w history s bytes bound fits text closed member good.its;
+      packet = answer_packet meant g w history s bytes from bound fits text closed member good.its;
     }

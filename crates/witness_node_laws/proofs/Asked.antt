@@ -22,7 +22,8 @@ use Rattle.commitment.proofs.OfSenders.Meanings.{signing_is}
 use Rattle.node_logs.specs.Steps.Nodes.{NodeParts, log_of, sender_of}
 use Rattle.node_logs.specs.Challenges.{RefusesChallenge}
 use Rattle.witness_laws.specs.witness_spec.Replies.{Reply}
-use Rattle.witness_laws.specs.witness_spec.Watched.{Watched, IsInRoster}
+use Rattle.witness_laws.specs.witness_spec.Starting.{Beginning}
+use Rattle.witness_laws.specs.witness_spec.Watched.{Watched, IsInRoster, IsWatchedFrom}
 use Rattle.witness_laws.specs.witness_spec.Steps.{Step, Past}
 use Rattle.witness_laws.specs.witness_spec.Standing.{Stage, NoAudit, Wanted, Given, Out, stage_of}
 use Rattle.witness_laws.specs.witness_spec.Histories.{AreOwed, History, IsHistory, own_of}
@@ -42,7 +43,7 @@ StageIsInReach (Out c) = Unit {0}
 one_step : (w : Watched) (past : Past) (p : Step × Reply) → Doing w past p
     → StageIsInReach (stage_of past) → StageIsInReach (stage_of (p ∷ past))
 one_step w past p (Nothing did) k = subst StageIsInReach (sym did.stage) k
-one_step w past p (Notes a is did) k = subst StageIsInReach (sym did.stage) k
+one_step w past p (Notes a is low did) k = subst StageIsInReach (sym did.stage) k
 one_step w past p (Accepts c is wanted did) k = subst StageIsInReach (sym did.stage) tt
 one_step w past p (Asks first last is few did) k =
     subst StageIsInReach (sym did.stage) (omega (arith, is), few.1)
@@ -149,14 +150,14 @@ refused_for n first last UnknownNode low reach there signed h = absurd h
 refused_for n first last BadSignature low reach there signed h = absurd h
 
 -- The challenge with the numbers that are asked for is refused only where memory runs out.
-pub can_be_answered : (w : Watched) (history : History) (n : NodeParts) (first last : ℕ)
-    (fault : SegmentFault) → IsInRoster w → IsHistory w.roster history
+pub can_be_answered : (g : Beginning) (w : Watched) (history : History) (n : NodeParts) (first last : ℕ)
+    (fault : SegmentFault) → IsInRoster w → IsWatchedFrom g w → IsHistory g history
     → stage_of (own_of w history) ≡ Wanted first last → IsSender (sender_of n)
     → IsSome (signed_at (sender_of n) last) → MayBegin n.log_version n.entries first
     → RefusesChallenge n first last fault → fault ≡ NoMemory
-can_be_answered w history n first last fault member h stage sender signed begins refused =
+can_be_answered g w history n first last fault member from h stage sender signed begins refused =
     let at : StageIsInReach (Wanted first last) =
-    subst StageIsInReach stage (stage_in_reach w (own_of w history) (own_owed w member history h)) in
+    subst StageIsInReach stage (stage_in_reach w (own_of w history) (own_owed g w member from history h)) in
     let there = signed_there (sender_of n) last sender signed in
     let within = entry_within n.entries last there.0 there.1 in
     let order = at.1.order in

@@ -16,7 +16,8 @@ use Rattle.node_logs.specs.Steps.Nodes.{NodeParts, log_of, sender_of}
 use Rattle.node_logs.specs.Nodes.{IsMemberOf}
 use Rattle.witness_laws.specs.witness_spec.Events as events
 use Rattle.witness_laws.specs.witness_spec.Replies.{SendOf}
-use Rattle.witness_laws.specs.witness_spec.Watched.{Watched, IsInRoster}
+use Rattle.witness_laws.specs.witness_spec.Starting.{Beginning}
+use Rattle.witness_laws.specs.witness_spec.Watched.{Watched, IsInRoster, IsWatchedFrom}
 use Rattle.witness_laws.specs.witness_spec.Standing.{open_challenges}
 use Rattle.witness_laws.specs.witness_spec.Histories.{History, own_of}
 use Rattle.witness_laws.specs.witness_spec.Laws.{AcksClose}
@@ -33,17 +34,17 @@ ShowsItsPlace =
 
 -- Where a message's RECV stands in a node's log, its acknowledgement closes the challenge with the message.
 pub closing : AcksClose → JudgedAsMeant → OfItsLog → ShowsItsPlace
-    → (w : Watched) (history : History) (n : NodeParts) (number : ℕ) (e : Envelope)
-    → IsInRoster w → w.member.node ≡ n.node → IsMemberOf n w.member → IsSender (sender_of n)
+    → (g : Beginning) (w : Watched) (history : History) (n : NodeParts) (number : ℕ) (e : Envelope)
+    → IsInRoster w → IsWatchedFrom g w → w.member.node ≡ n.node → IsMemberOf n w.member → IsSender (sender_of n)
     → IsReceiptAt (log_of n) (envelope_message e) number
-    → IsAmong (SendOf e) (open_challenges (own_of w history)) → AckCloses w history n number
-closing close meant of_log shows w history n number e is node key sender there opened =
+    → IsAmong (SendOf e) (open_challenges (own_of w history)) → AckCloses g w history n number
+closing close meant of_log shows g w history n number e is from node key sender there opened =
     by (ack_at (sender_of n) number) refl
     (acknowledged (sender_of n) (envelope_message e) number sender there)
   where
     by : (o : Option Ack) → ack_at (sender_of n) number ≡ o
         → IsSomeAnd o (IsAckOf n.node (envelope_message e))
-        → AckCloses w history n number
+        → AckCloses g w history n number
     by None at k = absurd k
     by (Some a) at k =
         let signed : IsSignedBy w.member (ack_shows a) =
@@ -51,13 +52,13 @@ closing close meant of_log shows w history n number e is node key sender there o
         (shows (sender_of n) number a at)).signed w.member key.root
         key.height in
         let member : member_of w.roster a.by ≡ Some w.member =
-        ap (member_of w.roster) (k.by ∙ sym node) ∙ is in
+        ap (member_of w.roster) (k.by ∙ sym node) ∙ is.is_member in
         record {
           ack = a;
           is = at;
           signed = signed;
-          closes = λ its key_is. close w history e a its is key_is (k.by ∙ sym node) opened k.of;
+          closes = λ its key_is. close g w history e a its is from key_is (k.by ∙ sym node) opened k.of;
           packet = λ its text key_is spelled bound.
-              ack_packet meant w history a (events.AckIn a its) text bound spelled member signed
-              (close w history e a its is key_is (k.by ∙ sym node) opened k.of).its;
+              ack_packet meant g w history a (events.AckIn a its) text from bound spelled member signed
+              (close g w history e a its is from key_is (k.by ∙ sym node) opened k.of).its;
         }

@@ -1,6 +1,6 @@
 -- What a node showed of its own log: its authenticators and its answers are of that log.
 -- Serves: own_words_never_expose.
-use Rattle.std.proofs.Common.{◌≡◌, ℕ, ◌-◌, List, [], ◌∷◌, ◌++◌, Some, sym, ap, subst, ◌∙◌, append_assoc}
+use Rattle.std.proofs.Common.{◌≡◌, ℕ, ◌-◌, List, [], ◌∷◌, ◌++◌, Some, None, sym, ap, subst, ◌∙◌, append_assoc}
 use Rattle.std.specs.Prelude.{flat_map}
 use Rattle.std.specs.List.{AllByRecursion}
 use Rattle.authenticator.specs.declared.authenticator.Authenticator.{Authenticator}
@@ -11,6 +11,7 @@ use Rattle.secure_log.specs.Part.{open_entries}
 use Rattle.secure_log.specs.Versioned.{VersionedParts}
 use Rattle.commitment.specs.Senders.Sender.{SenderParts, IsSender}
 use Rattle.commitment.specs.Senders.LookUps.{IsAuthenticatorAt, authenticator_at}
+use Rattle.state_spec.specs.State.{State}
 use Rattle.node_logs.specs.Steps.Nodes.{NodeParts, sender_of}
 use Rattle.secure_log.proofs.OfLogEntries.FewerTexts.{Within, fewer, both}
 use Rattle.witness_laws.specs.evidence_spec.Proving.{IsUnforgedIn, entry_texts, texts_of, versioned_texts}
@@ -18,7 +19,8 @@ use Rattle.witness_laws.specs.witness_spec.Watched.{Watched}
 use Rattle.witness_laws.specs.witness_spec.Steps.{Step, Learn, SendChallenge, Answer, AckIn, Audit, Begin}
 use Rattle.witness_laws.specs.witness_spec.Steps.{File, PutBack}
 use Rattle.witness_laws.specs.witness_spec.Steps.{Forward, Ask, Past}
-use Rattle.witness_laws.specs.witness_spec.Premises.{NoCollisionWith, Unforged, authenticators_in, texts_in}
+use Rattle.witness_laws.specs.witness_spec.Premises.{NoCollisionWith, Unforged, authenticators_in, base_closings}
+use Rattle.witness_laws.specs.witness_spec.Premises.{base_texts, texts_in}
 use Rattle.witness_node_laws.specs.Logs.{WentOn, IsAnswered, ShowsItsOwn}
 use Rattle.witness_node_laws.proofs.Pairs.{EachPlace, of_longer, of_place}
 use Rattle.witness_node_laws.proofs.Hashed.{texts_of_part}
@@ -100,13 +102,20 @@ module _ (each : EachPlace) (of_log : OfItsLog) (n : NodeParts) where
     all_joined [] ys h k = k
     all_joined (x ∷ xs) ys h k = (h.0, all_joined xs ys h.1 k)
 
-    -- Where all that own steps show the node showed itself, no signature among them is forged.
-    pub unforged : (past : Past) → AllByRecursion (λ p. ShowsItsOwn n p.0) past
-        → Unforged w n.entries past
-    unforged [] h = tt
-    unforged (p ∷ past) h =
+    all_unforged : (past : Past) → AllByRecursion (λ p. ShowsItsOwn n p.0) past
+        → AreUnforged (flat_map (λ p. authenticators_in p.0) past)
+    all_unforged [] h = tt
+    all_unforged (p ∷ past) h =
         all_joined (authenticators_in p.0) (flat_map (λ q. authenticators_in q.0) past) (unforged_in p.0 h.0)
-        (unforged past h.1)
+        (all_unforged past h.1)
+
+    -- Where all that own steps show the node showed itself, and there is no base, no signature among them is
+    -- forged.
+    pub unforged : (past : Past) → w.base ≡ None → AllByRecursion (λ p. ShowsItsOwn n p.0) past
+        → Unforged w n.entries past
+    unforged past unbased h =
+        subst (λ b. AreUnforged (base_closings b ++ flat_map (λ p. authenticators_in p.0) past)) (sym unbased)
+        (all_unforged past h)
 
   texts_within : (s : Step) → ShowsItsOwn n s → Within (texts_in s) (texts_of n.entries)
   texts_within (Learn a) h t i = absurd i
@@ -128,9 +137,11 @@ module _ (each : EachPlace) (of_log : OfItsLog) (n : NodeParts) where
       (all_within past h.1) t i
 
   -- Nor are there other texts than the log's.
-  pub unlike_texts : (past : Past) → AllByRecursion (λ p. ShowsItsOwn n p.0) past
-      → NoCollision (texts_of n.entries) → NoCollisionWith n.entries past
-  unlike_texts past h unlike =
+  pub unlike_texts : (w : Watched) (states : List State) (past : Past) → w.base ≡ None
+      → AllByRecursion (λ p. ShowsItsOwn n p.0) past
+      → NoCollision (texts_of n.entries) → NoCollisionWith w n.entries states past
+  unlike_texts w states past unbased h unlike =
       let texts = texts_of n.entries in
-      fewer (texts ++ flat_map (λ p. texts_in p.0) past) texts
-      (both texts (flat_map (λ p. texts_in p.0) past) texts (λ t i. i) (all_within past h)) unlike
+      let shown : List (List ℕ) = flat_map (λ p. texts_in p.0) past in
+      subst (λ b. NoCollision (texts ++ (base_texts b states ++ shown))) (sym unbased)
+      (fewer (texts ++ shown) texts (both texts shown texts (λ t i. i) (all_within past h)) unlike)

@@ -19,6 +19,7 @@ use Rattle.commitment.specs.Senders.Sender.{SenderParts, IsSender, IsSigningAt, 
 use Rattle.commitment.specs.Senders.LookUps.{authenticator_of}
 use Rattle.node_logs.specs.Steps.Nodes.{NodeParts, sender_of}
 use Rattle.witness_laws.specs.witness_spec.Replies.{Reply}
+use Rattle.witness_laws.specs.witness_spec.Starting.{start_number}
 use Rattle.witness_laws.specs.witness_spec.Watched.{Watched}
 use Rattle.witness_laws.specs.witness_spec.Steps.{Step, Learn, Past}
 use Rattle.node_logs.specs.replay_spec.Replay.{Verdict, Sound, Fault}
@@ -139,7 +140,7 @@ module _ (each : SignsEach) (none : LeavesNone) (of_log : OfItsLog) (places : Ea
       → Ends w (p ∷ past)
   ends_after w past p (Nothing did) mine h =
       record { end = end_stays w past p did.files h; stage = subst StageEnds (sym did.stage) h.stage }
-  ends_after w past p (Notes a is did) mine h =
+  ends_after w past p (Notes a is low did) mine h =
       record { end = end_stays w past p did.files h; stage = subst StageEnds (sym did.stage) h.stage }
   ends_after w past p (Accepts c is wanted did) mine h = record {
     end = end_stays w past p did.files h;
@@ -162,11 +163,14 @@ module _ (each : SignsEach) (none : LeavesNone) (of_log : OfItsLog) (places : Ea
     stage = subst StageEnds (sym did.stage) (subst StageEnds is h.stage);
   }
 
-  ends_own : (w : Watched) (past : Past) → AreOwed w past → AllByRecursion (λ p. ShowsItsOwn n p.0) past
-      → Ends w past
-  ends_own w [] owed all = record { end = zero_hash n.entries; stage = tt }
-  ends_own w (p ∷ past) owed all =
-      ends_after w past p (doing w past p.0 p.1 owed.0) all.0 (ends_own w past owed.1 all.1)
+  ends_own : (w : Watched) (past : Past) → w.base ≡ None → AreOwed w past
+      → AllByRecursion (λ p. ShowsItsOwn n p.0) past → Ends w past
+  ends_own w [] unbased owed all = record {
+    end = subst (λ b. IsSome (hash_at n.entries (start_number b))) (sym unbased) (zero_hash n.entries);
+    stage = tt;
+  }
+  ends_own w (p ∷ past) unbased owed all =
+      ends_after w past p (doing w past p.0 p.1 owed.0) all.0 (ends_own w past unbased owed.1 all.1)
 
   -- what is asked for begins after an entry
   abbrev StageBegins : Stage → Type 0
@@ -178,7 +182,7 @@ module _ (each : SignsEach) (none : LeavesNone) (of_log : OfItsLog) (places : Ea
   begins_after : (w : Watched) (past : Past) (p : Step × Reply) → Doing w past p → Ends w past
       → StageBegins (stage_of past) → StageBegins (stage_of (p ∷ past))
   begins_after w past p (Nothing did) h k = subst StageBegins (sym did.stage) k
-  begins_after w past p (Notes a is did) h k = subst StageBegins (sym did.stage) k
+  begins_after w past p (Notes a is low did) h k = subst StageBegins (sym did.stage) k
   begins_after w past p (Accepts c is wanted did) h k = subst StageBegins (sym did.stage) tt
   begins_after w past p (Asks first last is few did) h k =
       let at : (end_of w past).number ≡ first - 1 = omega (arith, is) in
@@ -187,22 +191,23 @@ module _ (each : SignsEach) (none : LeavesNone) (of_log : OfItsLog) (places : Ea
   begins_after w past p (Files j is did) h k = subst StageBegins (sym did.stage) tt
   begins_after w past p (PutsBack c is did) h k = subst StageBegins (sym did.stage) tt
 
-  begins_own : (w : Watched) (past : Past) → AreOwed w past → AllByRecursion (λ p. ShowsItsOwn n p.0) past
-      → StageBegins (stage_of past)
-  begins_own w [] owed all = tt
-  begins_own w (p ∷ past) owed all =
-      begins_after w past p (doing w past p.0 p.1 owed.0) (ends_own w past owed.1 all.1) (begins_own w past owed.1 all.1)
+  begins_own : (w : Watched) (past : Past) → w.base ≡ None → AreOwed w past
+      → AllByRecursion (λ p. ShowsItsOwn n p.0) past → StageBegins (stage_of past)
+  begins_own w [] unbased owed all = tt
+  begins_own w (p ∷ past) unbased owed all =
+      begins_after w past p (doing w past p.0 p.1 owed.0) (ends_own w past unbased owed.1 all.1)
+      (begins_own w past unbased owed.1 all.1)
 
   may_begin : (v : LogVersion) (first : ℕ) → IsSome (hash_at n.entries (first - 1)) → MayBegin v n.entries first
   may_begin One first h = tt
   may_begin Two first h = h
 
   -- Where all that own steps show is the node's own, a segment of its log may begin where an audit asks from.
-  pub asked_may_begin : (w : Watched) (past : Past) (first last : ℕ) → AreOwed w past
+  pub asked_may_begin : (w : Watched) (past : Past) (first last : ℕ) → w.base ≡ None → AreOwed w past
       → AllByRecursion (λ p. ShowsItsOwn n p.0) past → stage_of past ≡ Wanted first last
       → MayBegin n.log_version n.entries first
-  asked_may_begin w past first last owed all stage =
-      may_begin n.log_version first (subst StageBegins stage (begins_own w past owed all))
+  asked_may_begin w past first last unbased owed all stage =
+      may_begin n.log_version first (subst StageBegins stage (begins_own w past unbased owed all))
 
   module _ (w : Watched) (version : w.member.log_version ≡ n.log_version) where
     -- a step noted only what it was to learn
@@ -210,7 +215,7 @@ module _ (each : SignsEach) (none : LeavesNone) (of_log : OfItsLog) (places : Ea
         → ShowsItsOwn n p.0
         → IsAmong a (unless_exposed b (noted p.0 p.1)) → ShowsItsOwn n (Learn a)
     here past p b a (Nothing did) mine i = absurd (subst (λ o. IsAmong a (unless_exposed b o)) did.notes i)
-    here past p b a (Notes x is did) mine i =
+    here past p b a (Notes x is low did) mine i =
         by b (subst (λ o. IsAmong a (unless_exposed b o)) did.notes i)
       where
         by : (c : Bool) → IsAmong a (unless_exposed c (Some x)) → ShowsItsOwn n (Learn a)
@@ -249,7 +254,7 @@ module _ (each : SignsEach) (none : LeavesNone) (of_log : OfItsLog) (places : Ea
         → IsSome (signed_at (sender_of n) (number_in n.log_version a.word)))
         → StageIsSigned (stage_of past) → StageIsSigned (stage_of (p ∷ past))
     one_step past p (Nothing did) signed k = subst StageIsSigned (sym did.stage) k
-    one_step past p (Notes a is did) signed k = subst StageIsSigned (sym did.stage) k
+    one_step past p (Notes a is low did) signed k = subst StageIsSigned (sym did.stage) k
     one_step past p (Accepts c is wanted did) signed k = subst StageIsSigned (sym did.stage) tt
     one_step past p (Asks first last is few did) signed k =
         let a = few.2.authenticator in

@@ -21,7 +21,8 @@ use Rattle.packets.specs.Laws.{JudgedAsMeant}
 use Rattle.witness_laws.specs.witness_spec.Events.{Event}
 use Rattle.witness_laws.specs.witness_spec.Events as events
 use Rattle.witness_laws.specs.witness_spec.Replies.{is_want_of_memory}
-use Rattle.witness_laws.specs.witness_spec.Watched.{Watched}
+use Rattle.witness_laws.specs.witness_spec.Starting.{Beginning}
+use Rattle.witness_laws.specs.witness_spec.Watched.{Watched, IsWatchedFrom}
 use Rattle.witness_laws.specs.witness_spec.Steps.{Answer, AckIn, OwnStep}
 use Rattle.witness_laws.specs.witness_spec.Whose.{judged_step, step_of, whose}
 use Rattle.witness_laws.specs.witness_spec.Histories.{History, OwesTo, own_step, own_of}
@@ -67,34 +68,38 @@ some_is : (w : Watched) (node : ℕ) → member_of w.roster node ≡ Some w.memb
     → IsSome (member_of w.roster node)
 some_is w node is = subst IsSome (sym is) refl
 
-same_step : (w : Watched) (history : History) (bytes : List ℕ) (event : Event) (o : OwnStep)
-    → IsBytes bytes → whose w.roster (events.Deliver bytes) ≡ Ok o → whose w.roster event ≡ Ok o
-    → IsSameStep w history bytes event
-same_step w history bytes event o bound its v = record {
-  bound = bound;
-  step = its ∙ sym v;
-  owed = λ reply. (
-    λ h. subst (OwesTo w.roster history event reply) (sym v)
-        (subst (OwesTo w.roster history (events.Deliver bytes) reply) its h),
-    λ h. subst (OwesTo w.roster history (events.Deliver bytes) reply) (sym its)
-        (subst (OwesTo w.roster history event reply) v h),
-  );
-  own_steps = λ reply.
-      ap (λ x. cond (is_want_of_memory reply) [] (own_step w.member.node x reply) ++ own_of w history)
-      (its ∙ sym v);
-}
+same_step : (g : Beginning) (w : Watched) (history : History) (bytes : List ℕ) (event : Event) (o : OwnStep)
+    → IsWatchedFrom g w → IsBytes bytes → whose w.roster (events.Deliver bytes) ≡ Ok o
+    → whose w.roster event ≡ Ok o → IsSameStep g w history bytes event
+same_step g w history bytes event o from bound its v =
+    let its_here : whose g.roster (events.Deliver bytes) ≡ Ok o =
+    ap (λ ms. whose ms (events.Deliver bytes)) from.roster ∙ its in
+    let here : whose g.roster event ≡ Ok o = ap (λ ms. whose ms event) from.roster ∙ v in
+    record {
+      bound = bound;
+      step = its ∙ sym v;
+      owed = λ reply. (
+        λ h. subst (OwesTo g history event reply) (sym here)
+            (subst (OwesTo g history (events.Deliver bytes) reply) its_here h),
+        λ h. subst (OwesTo g history (events.Deliver bytes) reply) (sym its_here)
+            (subst (OwesTo g history event reply) here h),
+      );
+      own_steps = λ reply.
+          ap (λ x. cond (is_want_of_memory reply) [] (own_step w.member.node x reply) ++ own_of w history)
+          (its ∙ sym v);
+    }
 
 -- The packet of a closed segment's text is the same step as the segment.
-pub answer_packet : JudgedAsMeant → (w : Watched) (history : History) (s : VersionedParts)
-    (bytes : List ℕ) → IsBytes bytes → FitsVersion MAX_ENTRIES s
+pub answer_packet : JudgedAsMeant → (g : Beginning) (w : Watched) (history : History) (s : VersionedParts)
+    (bytes : List ℕ) → IsWatchedFrom g w → IsBytes bytes → FitsVersion MAX_ENTRIES s
     → IsText (versioned_text s.log_version MAX_ENTRIES) (versioned_value s.log_version s) bytes
     → IsClosedIn w.roster s
     → member_of w.roster s.closing.node ≡ Some w.member
     → whose w.roster (events.Answer (record { segment = s; roster = w.roster }))
     ≡ Ok (record { member = w.member; step = Answer (record { segment = s; roster = w.roster }) })
-    → IsSameStep w history (number_spelling 4 (answer_number s.log_version) ++ bytes)
+    → IsSameStep g w history (number_spelling 4 (answer_number s.log_version) ++ bytes)
     (events.Answer (record { segment = s; roster = w.roster }))
-answer_packet meant w history s bytes bound fits text closed member its =
+answer_packet meant g w history s bytes from bound fits text closed member its =
     let packet : List ℕ = number_spelling 4 (answer_number s.log_version) ++ bytes in
     let all : IsBytes packet = after_answer s.log_version bytes bound in
     let taken : IsTaken w.roster packet (packets.Answer s) = record {
@@ -111,18 +116,18 @@ answer_packet meant w history s bytes bound fits text closed member its =
       };
       signed = closed.signed;
     } in
-    same_step w history packet (events.Answer (record { segment = s; roster = w.roster })) _ all
+    same_step g w history packet (events.Answer (record { segment = s; roster = w.roster })) _ from all
     (ap (judged_step w.roster) ((meant w.roster packet (Ok (packets.Answer s)) all).1 taken)
     ∙ ap (λ x. step_of x (Answer (record { segment = s; roster = w.roster }))) member) its
 
 -- The packet of a signed acknowledgement's text is the same step as the acknowledgement under a key.
-pub ack_packet : JudgedAsMeant → (w : Watched) (history : History) (a : Ack) (event : Event)
-    (text : List ℕ) → IsBytes text → IsText ack_text (ack_value a) text
+pub ack_packet : JudgedAsMeant → (g : Beginning) (w : Watched) (history : History) (a : Ack) (event : Event)
+    (text : List ℕ) → IsWatchedFrom g w → IsBytes text → IsText ack_text (ack_value a) text
     → member_of w.roster a.by ≡ Some w.member
     → IsSignedBy w.member (ack_shows a)
     → whose w.roster event ≡ Ok (record { member = w.member; step = AckIn a })
-    → IsSameStep w history (number_spelling 4 4 ++ text) event
-ack_packet meant w history a event text bound is member signed its =
+    → IsSameStep g w history (number_spelling 4 4 ++ text) event
+ack_packet meant g w history a event text from bound is member signed its =
     let packet : List ℕ = number_spelling 4 4 ++ text in
     let all : IsBytes packet = after_four text bound in
     let taken : IsTaken w.roster packet (packets.AckIn a) = record {
@@ -132,6 +137,6 @@ ack_packet meant w history a event text bound is member signed its =
       };
       signed = signed_in w (ack_shows a) member signed;
     } in
-    same_step w history packet event _ all
+    same_step g w history packet event _ from all
     (ap (judged_step w.roster) ((meant w.roster packet (Ok (packets.AckIn a)) all).1 taken)
     ∙ ap (λ x. step_of x (AckIn a)) member) its

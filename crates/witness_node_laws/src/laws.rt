@@ -33,8 +33,8 @@ pub fn a_node_keeps_a_log(alloc: Global, node: &NodeLog)
     a_log_has_one_pair_for_each_place();
 }
 
-/// A node that didn't stray is never exposed under its roster, where none of its signatures is forged and no
-/// two texts have one digest.
+/// A node that didn't stray is never exposed by a witness that begins under its roster, with whatever bases,
+/// where none of its signatures is forged and no two texts have one digest.
 pub fn a_node_is_never_exposed(alloc: Global, node: &NodeLog)
     ensures { IsNeverExposed node.now }
 {
@@ -42,8 +42,8 @@ pub fn a_node_is_never_exposed(alloc: Global, node: &NodeLog)
     honest_is_never_exposed();
 }
 
-/// Nor is it where all that a witness was shown of its log is what the node itself showed, and no two texts
-/// of that log have one digest. Nothing is supposed of signatures.
+/// Nor is it where the witness has no base of it, all that it was shown of the node's log is what the node
+/// itself showed, and no two texts of that log have one digest. Nothing is supposed of signatures.
 pub fn own_words_never_expose(alloc: Global, node: &NodeLog)
     ensures { OwnWordsNeverExpose node.now }
 {
@@ -59,8 +59,8 @@ pub fn what_is_asked_can_be_answered()
     ensures { AskedCanBeAnswered }
 {}
 
-/// So it does where the roster gives its log the version that it has and all that a witness was shown of its
-/// log is what the node itself showed: an audit asks from after the last segment's end on, which is an
+/// So it does where the roster gives its log the version that it has, the witness has no base of it and all
+/// that it was shown of its log is what the node itself showed: an audit asks from after the last segment's end on, which is an
 /// entry's number, up to a number that was learned, and there the node signed.
 pub fn own_words_can_be_answered(node: &NodeLog)
     ensures { OwnWordsCanBeAnswered node.now }

@@ -1,9 +1,7 @@
 -- The nine texts of the log of a server that answered have nine digests, as they are worked out.
 -- Serves: premises_of_answers_are_possible.
-use Rattle.std.proofs.Common.{◌≡◌, inl, inr, ℕ, Bool, true, not, ◌==◌, ◌&&◌, List, [], ◌∷◌, map}
-use Rattle.std.proofs.Common.{refl, sym, ap, ap₂, ◌∙◌, eq-eqb}
+use Rattle.std.proofs.Common.{◌≡◌, ℕ, List, [], ◌∷◌, map, refl, ap, ap₂, ◌∙◌}
 use Rattle.std.specs.Prelude.{slice_index}
-use Rattle.std.proofs.lemmas.Bool.{true≢false, and_parts}
 use Rattle.sha2.specs.Sha256.{first_words, schedule, rounds, compress, digest_bytes, sha256}
 use Rattle.sha2.specs.Sha256 as sha
 use Rattle.xdr.specs.Item.{number_spelling}
@@ -11,7 +9,7 @@ use Rattle.replay_spec.specs.LogLaws.HonestServers.{next_logged}
 use Rattle.secure_log.specs.declared.log_entries.entry.Entry.{Entry}
 use Rattle.secure_log.specs.declared.log_entries.entry.Entry.TheVariants.{Recv, Clock, Send}
 use Rattle.secure_log.specs.LogEntries.Entry.{content, send_content, recv_content}
-use Rattle.secure_log.specs.LogEntries.Chain.{IsAmong, Link, NoCollision, chain_text, hash_after, logged_link}
+use Rattle.secure_log.specs.LogEntries.Chain.{Link, NoCollision, chain_text, hash_after, logged_link}
 use Rattle.secure_log.specs.LogEntries.Chain.{without_gaps, zeros}
 use Rattle.secure_log.specs.LogEntries.Signatures.{signature_digest}
 use Rattle.state_spec.specs.State.{State}
@@ -21,49 +19,8 @@ use Rattle.witness_examples.specs.Reaching.{watched_in}
 use Rattle.witness_examples.specs.Signed.Served.{call, reply, call_signature, served, served_steps}
 use Rattle.witness_examples.specs.Signed.Served.{server, server_and_caller}
 use Rattle.witness_examples.proofs.OfSigned.Auditing.{in_both}
+use Rattle.witness_examples.proofs.OfSigned.FirstBytes.{all_differ, first_byte, link_text, no_two}
 use Rattle.witness_examples.proofs.OfSigned.ZeroBlocks.{signature_bytes, signature_worked}
-
--- ---- texts whose digests' first bytes differ
-
--- a number is none of these
-abbrev is_none : ℕ → List ℕ → Bool
-is_none n [] = true
-is_none n (m ∷ ms) = not (n == m) && is_none n ms
-
--- no two of these numbers are the same
-abbrev all_differ : List ℕ → Bool
-all_differ [] = true
-all_differ (n ∷ ns) = is_none n ns && all_differ ns
-
--- the first byte of a text's digest
-abbrev first_byte : List ℕ → ℕ
-first_byte t = slice_index (sha256 t) 0
-
-is_other : (n : ℕ) (ts : List (List ℕ)) (t : List ℕ) → is_none n (map first_byte ts) ≡ true → IsAmong t ts
-    → n ≡ first_byte t → ⊥
-is_other n [] t none i e = absurd i
-is_other n (x ∷ ts) t none (inl a) e =
-    let apart = and_parts (not (n == first_byte x)) (is_none n (map first_byte ts)) none in
-    absurd (true≢false (sym apart.0 ∙ ap not (eq-eqb n (first_byte x) (e ∙ ap first_byte a))))
-is_other n (x ∷ ts) t none (inr i) e =
-    let apart = and_parts (not (n == first_byte x)) (is_none n (map first_byte ts)) none in
-    is_other n ts t apart.1 i e
-
--- so no two of the texts have one digest
-no_two : (ts : List (List ℕ)) → all_differ (map first_byte ts) ≡ true → NoCollision ts
-no_two [] h s t i j e = absurd i
-no_two (x ∷ ts) h s t (inl a) (inl b) e = a ∙ sym b
-no_two (x ∷ ts) h s t (inl a) (inr j) e =
-    let apart = and_parts (is_none (first_byte x) (map first_byte ts)) (all_differ (map first_byte ts)) h in
-    absurd (is_other (first_byte x) ts t apart.0 j
-    (ap first_byte (sym a) ∙ ap (λ d. slice_index d 0) e))
-no_two (x ∷ ts) h s t (inr i) (inl b) e =
-    let apart = and_parts (is_none (first_byte x) (map first_byte ts)) (all_differ (map first_byte ts)) h in
-    absurd (is_other (first_byte x) ts s apart.0 i
-    (ap first_byte (sym b) ∙ ap (λ d. slice_index d 0) (sym e)))
-no_two (x ∷ ts) h s t (inr i) (inr j) e =
-    let apart = and_parts (is_none (first_byte x) (map first_byte ts)) (all_differ (map first_byte ts)) h in
-    no_two ts apart.1 s t i j e
 
 -- ---- the nine texts
 
@@ -147,11 +104,6 @@ sent_from = refl
 sent_worked : sha256 (content sent) ≡ sent_bytes
 unfolding content
 sent_worked = ap (λ b. sha256 (send_content 6 b)) reply_worked ∙ sent_from
-
--- the text of a link, from the hash before it, its number and kind and the digest of its content
-abbrev link_text : List ℕ → ℕ → ℕ → List ℕ → List ℕ
-link_text before number kind digest =
-    chain_text before (record { skipped = 0; number = number; kind = kind; content = digest })
 
 first_from : sha256 (link_text zeros 1 2 received_bytes) ≡ first_bytes
 unfolding first_words schedule rounds compress sha.hash_after digest_bytes sha256 zeros number_spelling

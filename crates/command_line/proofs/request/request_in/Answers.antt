@@ -35,8 +35,8 @@ returns-in-Some-subcommand_matches-3 c words none found =
     let is = found_is c.args.matches.now _ _ _ found (c.in-Some-subcommand_matches-3.ensures.found.0 refl)
     c.in-Some-subcommand_matches-3.ensures.rows in
     let asked = c.run_request.ensures in
-    run_is words _ (record { file = _; roster_out = _; base_out = _ }) none is
-    (record { file = asked.file; roster_out = asked.roster_out; base_out = asked.base_out })
+    run_is words _ (record { file = _; roster_out = _; base_out = _; base = _ }) none is
+    (record { file = asked.file; roster_out = asked.roster_out; base_out = asked.base_out; base = asked.base })
 
 pub returns-in-Some-subcommand_matches-4 : goal.returns-in-Some-subcommand_matches-4
 returns-in-Some-subcommand_matches-4 c words none found =
@@ -55,6 +55,8 @@ returns-in-Some-subcommand_matches-4 c words none found =
       control = _;
       idle = _;
       log_version = _;
+      base_out = _;
+      check_every = _;
       progress = _;
     }) none is (record {
       port = asks.port;
@@ -68,6 +70,8 @@ returns-in-Some-subcommand_matches-4 c words none found =
       control = asks.control;
       idle = asks.idle;
       log_version = asks.log_version;
+      base_out = asks.base_out;
+      check_every = asks.check_every;
       progress = asks.progress;
     })
 

@@ -15,5 +15,9 @@ returns c =
     ≡ with_rule (with_rule (new_app (codes "run")) (file_option (codes "roster-out")))
     (file_option (codes "base-out")) =
     c.in_ok-arg-2.ensures.shape (search rules) ∙ ap₂ with_rule one c.prefix_option.ensures.rule in
-    IfOk-weaker c.arg-3.result _ _
-    (λ r added. added.shape (search rules) ∙ ap₂ with_rule two c.file_argument.ensures.rule) c.arg-3.ensures
+    let three : app_of c.in_ok-arg-3.field-0
+    ≡ with_rule (with_rule (with_rule (new_app (codes "run")) (file_option (codes "roster-out")))
+    (file_option (codes "base-out"))) (file_option (codes "base")) =
+    c.in_ok-arg-3.ensures.shape (search rules) ∙ ap₂ with_rule two c.file_option-2.ensures.rule in
+    IfOk-weaker c.arg-4.result _ _
+    (λ r added. added.shape (search rules) ∙ ap₂ with_rule three c.file_argument.ensures.rule) c.arg-4.ensures

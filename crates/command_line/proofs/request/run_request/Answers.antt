@@ -10,3 +10,7 @@ returns-clause-roster_out c =
 pub returns-clause-base_out : goal.returns-clause-base_out
 returns-clause-base_out c =
     c.get_str-2.ensures ∙ first_value-rows (found_of c.args.matches.now) (codes "base-out")
+
+pub returns-clause-base : goal.returns-clause-base
+returns-clause-base c =
+    c.get_str-3.ensures ∙ first_value-rows (found_of c.args.matches.now) (codes "base")

@@ -22,5 +22,7 @@ returns c =
     let eight =
     c.in_ok-arg-8.ensures.shape (search rules) ∙ ap₂ with_rule seven c.word_option-8.ensures.rule in
     let nine = c.in_ok-arg-9.ensures.shape (search rules) ∙ ap₂ with_rule eight c.word_option-9.ensures.rule in
-    IfOk-weaker c.arg-10.result _ _
-    (λ r added. added.shape (search rules) ∙ ap₂ with_rule nine c.flag.ensures.rule) c.arg-10.ensures
+    let ten = c.in_ok-arg-10.ensures.shape (search rules) ∙ ap₂ with_rule nine c.word_option-10.ensures.rule in
+    let eleven = c.in_ok-arg-11.ensures.shape (search rules) ∙ ap₂ with_rule ten c.word_option-11.ensures.rule in
+    IfOk-weaker c.arg-12.result _ _
+    (λ r added. added.shape (search rules) ∙ ap₂ with_rule eleven c.flag.ensures.rule) c.arg-12.ensures

@@ -19,6 +19,8 @@ pub returns-in-Nothing-clause-keeps : goal.returns-in-Nothing-clause-keeps
 returns-in-Nothing-clause-keeps c =
     let b = book_in c.args.self.now in
     let is : c.all_but_one-before.result ≡ length b.segments - 1 =
-    c.all_but_one-before.ensures ∙ ap (λ l. length (segments_in l) - 1) c.deref.ensures.value in
-    subst (λ n. ShowsLog b.base b.log_version b.segments n c.args.segment.segment) (sym is)
-    (faulted_shows b c.args.segment c.requires.ready.fits c.requires.ready.limits c.requires.out)
+    c.all_but_one-before.ensures ∙ ap (λ l. length (segments_in l) - 1) c.deref.ensures.value in (
+      c.requires.keeps.0,
+      subst (λ n. ShowsLog b.base b.log_version b.segments n c.args.segment.segment) (sym is)
+          (faulted_shows b c.args.segment c.requires.ready.fits c.requires.ready.limits c.requires.out),
+    )

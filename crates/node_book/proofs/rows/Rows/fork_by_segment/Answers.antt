@@ -29,4 +29,4 @@ returns c =
     fork_of_answer b s (last_of s) (Some n) c.requires.ready c.requires.hidden c.requires.asked looked in
     let new = c.in_ok-new.ensures.parts ∙ ap (λ x. versioned_showing x.segment) c.closed-2.ensures.segment in
     subst (λ e. IfOk c.fork_at.result (λ x. x ≡ e))
-    (ap (λ w. evidence_of b (fork_of b.log_version b.learned b.segments w n)) new ∙ sym fork) c.fork_at.ensures
+    (ap (λ w. evidence_of b (fork_of b.base b.log_version b.learned b.segments w n)) new ∙ sym fork) c.fork_at.ensures

@@ -8,8 +8,8 @@ use Rattle.node_book.specs.Looking.{FollowOn}
 use Rattle.node_book.proofs.LookUps.{follow_on, held_in, held_out}
 use Rattle.node_book.proofs.rows.Rows.mark_kept.Goals as goal
 
-pub segment_holding-requires-clause-on : goal.segment_holding-requires-clause-on
-segment_holding-requires-clause-on c =
+pub segment_holding-requires : goal.segment_holding-requires
+segment_holding-requires c =
     subst (λ cs. FollowOn (segments_in cs)) (sym c.deref.ensures.value)
     (follow_on (book_in c.args.self.now) c.requires)
 

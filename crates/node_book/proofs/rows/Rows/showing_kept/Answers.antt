@@ -7,8 +7,8 @@ use Rattle.node_book.proofs.ForkTexts.{alone_has_words}
 use Rattle.node_book.proofs.LookUps.{follow_on, of_the_log}
 use Rattle.node_book.proofs.rows.Rows.showing_kept.Goals as goal
 
-pub segment_holding-requires-clause-on : goal.segment_holding-requires-clause-on
-segment_holding-requires-clause-on c =
+pub segment_holding-requires : goal.segment_holding-requires
+segment_holding-requires c =
     subst (λ cs. FollowOn (segments_in cs)) (sym c.deref-2.ensures.value)
     (follow_on (book_in c.args.self.now) c.requires.fits)
 
