@@ -3,7 +3,7 @@
 # second, third and fourth begin at bases at about 30,000, 60,000 and 90,000. All that they say is compared. A lie at the
 # end is found, and its evidence, which holds the third base and all that was audited since, is accepted by `nfsacc check`
 # and by the second verifier. Prints the peak memory of the run, of the same nodes without a witness, and of both up to the
-# first base. Not a part of the gate: it takes some minutes, five gigabytes of memory and a quarter of one on the disk.
+# first base. Not a part of the gate: it takes some minutes, six gigabytes of memory and half of one on the disk.
 #
 #     checks/long_audit.sh [ENTRIES]      the log's length, 120,000 if not given
 set -euo pipefail
