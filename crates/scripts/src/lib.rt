@@ -16,4 +16,5 @@ mod witness;
 mod words;
 
 pub use script::{ScriptEnd, ScriptFault, ScriptFiles, run_script};
-pub use witness_calls::{Shelf, StartFault};
+pub use witness_books::StartFault;
+pub use witness_calls::Shelf;

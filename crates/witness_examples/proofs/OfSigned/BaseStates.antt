@@ -5,7 +5,7 @@ use Rattle.std.specs.FinMap as finite
 use Rattle.std.specs.Ordering.{nat_cmp}
 use Rattle.std.specs.declared.cmp.Ordering.{Ordering}
 use Rattle.xdr.specs.Item.{Item, Value, Fits, number_spelling, spelling}
-use Rattle.state_spec.specs.server_spec.nfs_spec.fs_spec.Files.{File}
+use Rattle.fs_spec.specs.Files.{File}
 use Rattle.state_spec.specs.server_spec.FileItems.{file_item, file_value}
 use Rattle.state_spec.specs.State.{ReceivedMessage, SentMessage, opening_client, received_cmp}
 use Rattle.state_spec.specs.StateItems.{received_value, sent_value, state_item, state_value}

@@ -1,5 +1,5 @@
 use Rattle.std.proofs.Common.{◌∷◌}
-use Rattle.witness_laws.specs.evidence_spec.replay_spec.Opening.{opening_of}
+use Rattle.node_logs.specs.replay_spec.Opening.{opening_of}
 use Rattle.witness_laws.specs.witness_spec.Histories.{own_of}
 use Rattle.witness_laws.specs.witness_spec.Watched.{watched}
 use Rattle.witness_node_laws.proofs.Own.{unforged, unlike_texts}
