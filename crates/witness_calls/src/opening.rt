@@ -31,10 +31,10 @@ pub fn open_witness(
     }
 }
 
-/// The same of a witness that begins with these bases, each of another member; of the members without a base it
-/// begins at the first entry. The faults are those of `Books::start`; `NoMemory` comes also where memory was
-/// refused for the copy of the roster or for the passes, or where a base's owners can't be counted further.
-/// After a fault the bases are let go.
+/// The same of a witness that begins with these bases, each of another member; of the members without a base
+/// it begins at the first entry. The faults are those of `Books::start`; `NoMemory` comes also where memory
+/// was refused for the copy of the roster or for the passes, or where a base's owners can't be counted
+/// further. After a fault the bases are let go.
 pub fn start_witness(
     alloc: Global,
     roster: &Roster,
