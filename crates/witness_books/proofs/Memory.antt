@@ -138,8 +138,8 @@ step_for_more law g m old new event step reply roster ready is of one history h 
     by (inr out) wants =
         let owed = out.0.owed in
         let after = book_after one.book step owed in
-        let goes = made_goes law g m old (with_book_at g.roster m.node after old) one.book after event step owed
-        roster ready is of one.there (record { owes = out.0.owes; after = refl }) refl in
+        let goes = made_goes law g m old (with_book_at g.roster m.node after old) one.book after event step
+        owed roster ready is of one.there (record { owes = out.0.owes; after = refl }) refl in
         inr (record {
           owed = owed;
           owes = more_is_owed g history event owed out.0.is_more (goes.steps history h stands).0.1;

@@ -82,8 +82,8 @@ laws_of step noted want = record { step = step; noted = noted; want = want }
 
 -- a member's step with notes is one of all books
 pub noting_goes : Laws → (g : Beginning) (m : Member) (old new : List Book) (event : Event)
-    (step : steps.Step) (reply : ReplyOf JobParts JobParts) (notes : Notes) → IsRoster g.roster → AreReady g old
-    → IsEvent event → IsStepOf g.roster event m step
+    (step : steps.Step) (reply : ReplyOf JobParts JobParts) (notes : Notes)
+    → IsRoster g.roster → AreReady g old → IsEvent event → IsStepOf g.roster event m step
     → OneDoes g.roster m.node old (λ b after. NotedSteps b step reply notes after) new
     → GoesNoting g old event (reply_in reply) notes new
 noting_goes laws g m old new event step reply notes roster ready is of one = by notes one.does

@@ -113,8 +113,8 @@ pub record IsHere (ms : List Member) (node : ℕ) (books : List Book) (place : �
   pub with : (new : Book) → with_book_at ms node new books ≡ set books place new
 
 -- where the place was found
-pub is_here : (ms all : List Member) (node : ℕ) (books : List Book) (step : Step) (found : Option ℕ) (place : ℕ)
-    → CanStep ms node books step → all ≡ ms → found ≡ place_from 0 all node → found ≡ Some place
+pub is_here : (ms all : List Member) (node : ℕ) (books : List Book) (step : Step) (found : Option ℕ)
+    (place : ℕ) → CanStep ms node books step → all ≡ ms → found ≡ place_from 0 all node → found ≡ Some place
     → IsHere ms node books place
 is_here ms all node books step found place can same is h =
     let r = is_at 0 ms node books place can.each (sym (is ∙ ap (λ l. place_from 0 l node) same) ∙ h) in

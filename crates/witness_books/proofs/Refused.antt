@@ -1,6 +1,6 @@
 -- A refused step leaves the books.
 -- Serves: Books::step, Books::noted_step.
-use Rattle.std.proofs.Common.{◌≡◌, inl, inr, ℕ, true, true≢false, List, [], ◌∷◌, map}
+use Rattle.std.proofs.Common.{◌≡◌, inl, inr, ℕ, true, true≢false, List}
 use Rattle.std.proofs.Common.{Option, Some, None, refl, sym, ap, ◌∙◌}
 use Rattle.authenticator.specs.declared.member.Member.{Member}
 use Rattle.node_book.specs.witness_spec.Replies.{Reply, Noted, Already, Opened, Accepted, Closed, Asked, Job}

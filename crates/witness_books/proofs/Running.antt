@@ -82,8 +82,8 @@ has_run_none law old events rest replies all none = record {
   beginning = refl;
   done = [];
   all = sym all;
-  run = subst (λ (rs : List Reply). RunsTo (beginning_of old) (parts_in old) [] (map reply_in rs) (parts_in old))
-      (sym none) (law (beginning_of old) (parts_in old));
+  run = subst (λ (rs : List Reply). RunsTo (beginning_of old) (parts_in old) [] (map reply_in rs)
+      (parts_in old)) (sym none) (law (beginning_of old) (parts_in old));
   memory = subst (λ (rs : List Reply). AllZip (SaysWhereItMay old.roster) [] rs) (sym none) tt;
   more = λ history h stands. tt;
 }
@@ -116,8 +116,8 @@ has_run_more law old mid new events rest later replies after event reply was nex
           (sym grown)
           (zip_more (SaysWhereItMay old.roster) was.done replies event reply was.memory
           (subst (λ (g : Beginning). SaysWhereItMay g.roster event reply) was.beginning may));
-      more = subst (λ (es : List spec.Event). RunOutForMore (beginning_of old) (parts_in old) es (map reply_in after))
-          (sym (map-append event_in was.done (event ∷ [])))
+      more = subst (λ (es : List spec.Event). RunOutForMore (beginning_of old) (parts_in old) es
+          (map reply_in after)) (sym (map-append event_in was.done (event ∷ [])))
           (subst (λ (rs : List answers.Reply). RunOutForMore (beginning_of old) (parts_in old)
           (map event_in was.done ++ event_in event ∷ []) rs)
           (sym (ap (map reply_in) grown ∙ map-append reply_in replies (reply ∷ [])))
@@ -132,8 +132,9 @@ pub has_run_all : (old : BooksParts) (events rest : List Event) (replies : List 
     → HasRun old events rest replies new → rest ≡ []
     → RunsTo (beginning_of old) (parts_in old) (map event_in events) (map reply_in replies) (parts_in new)
 has_run_all old events rest replies new was none =
-    subst (λ (es : List Event). RunsTo (beginning_of old) (parts_in old) (map event_in es) (map reply_in replies)
-    (parts_in new)) (sym (was.all ∙ ap (λ l. was.done ++ l) none ∙ append-nil was.done)) was.run
+    subst (λ (es : List Event). RunsTo (beginning_of old) (parts_in old) (map event_in es)
+    (map reply_in replies) (parts_in new))
+    (sym (was.all ∙ ap (λ l. was.done ++ l) none ∙ append-nil was.done)) was.run
 
 -- and then no refusal and no Already was owed where memory ran out
 pub has_run_for_more : (old : BooksParts) (events rest : List Event) (replies : List Reply) (new : BooksParts)

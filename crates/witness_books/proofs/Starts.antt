@@ -1,6 +1,7 @@
 -- What a witness may begin with is tested.
 -- Serves: are_apart, are_of_roster, check_start, books_at_first.
-use Rattle.std.proofs.Common.{◌≡◌, ◌⊎◌, ◌↔◌, inl, inr, ℕ, zero, suc, ◌+◌, ◌-◌, ◌<◌, ◌≤◌, Bool, true, false, ◌||◌, ◌==◌, List, [], ◌∷◌}
+use Rattle.std.proofs.Common.{◌≡◌, ◌↔◌, inl, inr, ℕ, zero, suc, ◌+◌, ◌-◌, ◌<◌, ◌≤◌}
+use Rattle.std.proofs.Common.{Bool, true, false, ◌||◌, ◌==◌, List, [], ◌∷◌}
 use Rattle.std.proofs.Common.{map, take, drop, get_or, length, refl, sym, ap, subst, ◌∙◌, arith}
 use Rattle.std.proofs.Common.{Option, Some, None, All}
 use Rattle.std.specs.List.{AllByRecursion, IsDistinct, list_any}
@@ -31,7 +32,8 @@ none_of n [] none = tt
 none_of n (b ∷ bs) none = by (n == node_of b) refl none (λ rest. none_of n bs rest)
   where
     by : (x : Bool) → (n == node_of b) ≡ x → (x || list_any (λ c. n == node_of c) bs) ≡ false
-        → (list_any (λ c. n == node_of c) bs ≡ false → AllByRecursion (λ m. (n == m) ≡ false) (map node_of bs))
+        → (list_any (λ c. n == node_of c) bs ≡ false
+        → AllByRecursion (λ m. (n == m) ≡ false) (map node_of bs))
         → AllByRecursion (λ m. (n == m) ≡ false) (map node_of (b ∷ bs))
     by true e none rest = absurd (true≢false none)
     by false e none rest = (e, rest none)
@@ -87,7 +89,8 @@ module _ {C : Type 0} (K : C → KnownBase) (all : List C) (place : ℕ) (c : C)
   pub same_node : (found : Bool) → found ≡ list_any (λ b. n == node_of b) (map K later) → found ≡ true
       → AreApart (map K all) ↔ AreApart (map K (drop place all)) → ¬ AreApart (map K all)
   same_node found of one was a =
-      not_apart (K c) (map K (drop (place + 1) all)) (sym same ∙ (sym of ∙ one)) (subst AreApart next (was.0 a))
+      not_apart (K c) (map K (drop (place + 1) all)) (sym same ∙ (sym of ∙ one))
+      (subst AreApart next (was.0 a))
 
 -- after the last none are left
 pub all_apart : {C : Type 0} (K : C → KnownBase) (all : List C) (place : ℕ) → length all ≤ place
@@ -133,15 +136,17 @@ logs_of g members roster begins same =
     of_log g.roster m (base_at g.bases m.node) (base_known g m begins member))
 
 -- without bases it is a beginning
-pub none_begin : (ms : List Member) (bs : List KnownBase) → bs ≡ [] → IsBeginning (record { roster = ms; bases = bs })
+pub none_begin : (ms : List Member) (bs : List KnownBase) → bs ≡ []
+    → IsBeginning (record { roster = ms; bases = bs })
 unfolding IsDistinct
 none_begin ms bs none =
     subst (λ (l : List KnownBase). IsBeginning (record { roster = ms; bases = l })) (sym none)
     (record { known = tt; apart = tt })
 
 -- what the type of books keeps holds at first
-pub keeps_first : StartingBooksAreReady → (g : Beginning) (books : List Book) → IsRoster g.roster → IsBeginning g
-    → books ≡ books_at_first g → KeepsBooks (record { roster = g.roster; bases = g.bases; books = books })
+pub keeps_first : StartingBooksAreReady → (g : Beginning) (books : List Book)
+    → IsRoster g.roster → IsBeginning g → books ≡ books_at_first g
+    → KeepsBooks (record { roster = g.roster; bases = g.bases; books = books })
 keeps_first law g books roster begins are = record {
   roster = roster;
   ready = subst (AreReady g) (sym are) (law g roster begins);

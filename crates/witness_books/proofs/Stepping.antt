@@ -70,7 +70,8 @@ ran_out_goes : WantLeavesBooks → (g : Beginning) (m : Member) (old new : List 
     → RanOut book step reply after → new ≡ with_book_at g.roster m.node after old → Goes g old event reply new
 ran_out_goes law g m old new book after event step reply ready is of there may out are =
     subst (Goes g old event reply)
-    (sym (are ∙ ap (λ b. with_book_at g.roster m.node b old) out.stays ∙ with_same g.roster m.node old book there))
+    (sym (are ∙ ap (λ b. with_book_at g.roster m.node b old) out.stays
+    ∙ with_same g.roster m.node old book there))
     (record {
       steps = law g (map parts_of old) event reply is
           (record { may = of.wants_as may; is = out.refused ∙ sym (of.refused_as NoMemory) });

@@ -40,7 +40,8 @@ is_witnessed law old new events replies run started =
     record { history = both.0; stands = both.1 }
 
 -- books at first are those of the journal of nothing
-pub is_journal : StartingJournal → (b : BooksParts) → AreStarted b → IsJournalOf (beginning_of b) [] (parts_in b)
+pub is_journal : StartingJournal → (b : BooksParts) → AreStarted b
+    → IsJournalOf (beginning_of b) [] (parts_in b)
 is_journal law b started =
     let g = beginning_of b in
     subst (λ (bs : List BookParts). IsJournalOf g [] bs)

@@ -1,5 +1,5 @@
 -- What a witness's books say: those of all members of a roster, each from its base if it has one.
-use Rattle.std.specs.Prelude.{◌≡◌, ℕ, Bool, true, false, List, map, refl}
+use Rattle.std.specs.Prelude.{Bool, true, false, List, map, refl}
 use Rattle.std.specs.Arc.{arc_value}
 use Rattle.std.specs.Global.{Global}
 use Rattle.std.specs.declared.sync.Arc.{Arc}
@@ -41,6 +41,10 @@ beginning_of b = record { roster = b.roster; bases = b.bases }
 -- bases as they are shared
 abbrev pub bases_in : List (Arc bases.KnownBase Global) → List KnownBase
 bases_in shared = map (λ b. known_in (arc_value b)) shared
+
+-- a roster with bases as they are shared, as what books began with
+abbrev pub beginning_in : List Member → List (Arc bases.KnownBase Global) → Beginning
+beginning_in ms shared = record { roster = ms; bases = bases_in shared }
 
 -- the books, as what they must hold is said
 abbrev pub parts_in : BooksParts → List BookParts

@@ -18,9 +18,9 @@ use Rattle.node_book.specs.witness_spec.Contract.{joined, RunsTo}
 use Rattle.node_book.specs.witness_spec.Laws.{SaysSame, HasFaultyFile, IsProof}
 use Rattle.node_book.specs.witness_spec.Premises.{Unforged, NoCollisionWith}
 
--- A run of other books of the roster, that stood for an earlier history, in which the steps of a member that has
--- the same base at both, or none, are the same and in the same order, has the same replies to these, and its
--- witness says the same of the member.
+-- A run of other books of the roster, that stood for an earlier history, in which the steps of a member that
+-- has the same base at both, or none, are the same and in the same order, has the same replies to these, and
+-- its witness says the same of the member.
 abbrev pub AgreesWithAll : Beginning → History → Type 0
 AgreesWithAll g after =
     (h : Beginning) (m : Member) (first last : List BookParts) (more : List Event) (others : List Reply)

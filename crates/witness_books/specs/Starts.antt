@@ -31,8 +31,8 @@ base_at bs node = find (λ b. node_of b == node) bs
 abbrev pub AreApart : List KnownBase → Type 0
 AreApart bs = IsDistinct (λ n m. n == m) (map node_of bs)
 
--- A base is of a roster: its node is a member, with the root and height under which the base was checked, with
--- a log of the base's version, and of the kind of its state.
+-- A base is of a roster: its node is a member, with the root and height under which the base was checked,
+-- with a log of the base's version, and of the kind of its state.
 pub record IsOfRoster (ms : List Member) (h : Handed) : Type 0 where
   -- the member
   pub member : Member

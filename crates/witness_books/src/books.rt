@@ -91,9 +91,9 @@ impl Books {
     /// base, of each other one from its log's first entry. A base may have been checked under another roster.
     /// `TwoBases` comes where two of them are of one node, else `OtherRoot` where one is of a node that is no
     /// member here, or whose root and height here aren't those under which the base was checked, or whose log
-    /// or kind isn't that of the base; `NoMemory` comes only where a growth was refused. To tell the kind, each
-    /// base's state is read, and let go. After a fault nothing comes back: the roster and the bases are let
-    /// go.
+    /// or kind isn't that of the base; `NoMemory` comes only where a growth was refused. To tell the kind,
+    /// each base's state is read, and let go. After a fault nothing comes back: the roster and the bases are
+    /// let go.
     pub fn start(
         alloc: Global,
         roster: Roster,

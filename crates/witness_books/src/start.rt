@@ -8,7 +8,7 @@ ghost use Rattle.node_book.specs.evidence_spec.Base.{IsBaseOf};
 ghost use Rattle.node_book.specs.Rows.{BaseIsOfLog, base_in, known_in};
 ghost use Rattle.node_book.specs.witness_spec.Starting.{IsBeginning, IsOfSome, node_of};
 ghost use Rattle.node_book.specs.witness_book_laws.Books.{book_starting};
-ghost use Rattle.witness_books.specs.Books.{bases_in, books_at_first};
+ghost use Rattle.witness_books.specs.Books.{bases_in, beginning_in, books_at_first};
 ghost use Rattle.witness_books.specs.Starts.{AreApart, AreOfRoster, IsOfRoster, MayStart, StartFails};
 ghost use Rattle.witness_books.specs.Starts.{base_at, handed, start_fault_number};
 
@@ -176,9 +176,8 @@ pub(crate) fn books_at_first(
     roster: &Roster,
     bases: &[Arc<Base>],
 ) -> Result<Vec<Book>, AllocError>
-    requires { IsBeginning (record { roster = roster.now; bases = bases_in bases.now }) }
-    ensures books { IfOk result (λ b. b.items ≡
-        books_at_first (record { roster = roster.now; bases = bases_in bases.now })) }
+    requires { IsBeginning (beginning_in roster.now bases.now) }
+    ensures books { IfOk result (λ b. b.items ≡ books_at_first (beginning_in roster.now bases.now)) }
     ensures roster { IfOk result (λ _. IsRoster roster.now) }
 {
     roster.is_roster();

@@ -31,10 +31,10 @@ pub fn open_witness(
     }
 }
 
-/// The same of a witness that begins with these bases, which were checked under this roster or another one. It
-/// fails as `Books::start` does, which looks at the bases first; `NoMemory` comes also where memory was refused
-/// for the copy of the roster or for the passes, or where a base's owners can't be counted further. After a
-/// fault the bases are let go.
+/// The same of a witness that begins with these bases, each of another member; of the members without a base
+/// it begins at the first entry. The faults are those of `Books::start`; `NoMemory` comes also where memory
+/// was refused for the copy of the roster or for the passes, or where a base's owners can't be counted
+/// further. After a fault the bases are let go.
 pub fn start_witness(
     alloc: Global,
     roster: &Roster,
@@ -52,8 +52,7 @@ pub fn start_witness(
     ensures fault { IfErr result
         (StartFails roster.now (map (λ c. handed c.value c.member) bases.items)) }
 {
-    let roster = roster.try_clone(alloc)?;
-    let books = Books::start(alloc, roster, bases)?;
+    let books = Books::start(alloc, roster.try_clone(alloc)?, bases)?;
     match WitnessService::open(alloc, books, passes) {
         Ok(opened) => Ok(opened),
         Err(_) => Err(StartFault::NoMemory),

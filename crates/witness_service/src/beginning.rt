@@ -1,7 +1,7 @@
 //! What a witness's books began with: it is kept beside the lock, and compared.
 
 ghost use Rattle.std.specs.Prelude.{◌≡◌, ◌↔◌, IfOk, IsTrue};
-ghost use Rattle.witness_books.specs.Books.{bases_in, beginning_of};
+ghost use Rattle.witness_books.specs.Books.{bases_in, beginning_in, beginning_of};
 
 use authenticator::{Roster, Signs};
 use challenge::Base;
@@ -24,7 +24,7 @@ pub(crate) fn share(alloc: Global, bases: &[Arc<Base>]) -> Result<Vec<Arc<Base>>
 /// Whether books began with this roster and these bases.
 pub(crate) fn began_with(books: &Books, roster: &Roster, bases: &[Arc<Base>]) -> bool
     ensures { IsTrue result ↔
-        (beginning_of books.now ≡ record { roster = roster.now; bases = bases_in bases.now }) }
+        (beginning_of books.now ≡ beginning_in roster.now bases.now) }
 {
     books.roster().is_same(roster) && are_same(books.bases(), bases)
 }

@@ -13,7 +13,9 @@ returns-clause-owed c g bytes event history reply spell = (
 )
 
 pub returns-clause-taken : goal.returns-clause-taken
-returns-clause-taken c g old new bytes event reply is_bytes is_event spell = (
-  taken_alike g (events.Deliver bytes) event (spelled_alike g.roster bytes event spell) old new reply is_event,
-  taken_alike g event (events.Deliver bytes) (alike_spelled g.roster bytes event spell) old new reply is_bytes,
-)
+returns-clause-taken c g old new bytes event reply is_bytes is_event spell =
+    let one = spelled_alike g.roster bytes event spell in
+    let two = alike_spelled g.roster bytes event spell in (
+      taken_alike g (events.Deliver bytes) event one old new reply is_event,
+      taken_alike g event (events.Deliver bytes) two old new reply is_bytes,
+    )

@@ -1,4 +1,4 @@
-use Rattle.std.proofs.Common.{◌≡◌, rules, true, false, true≢false, sym, ◌∙◌}
+use Rattle.std.proofs.Common.{rules, true≢false, sym, ◌∙◌}
 use Rattle.witness_books.specs.Starts.{IsOfRoster, handed}
 use Rattle.witness_books.proofs.Starts.{holds_at}
 use Rattle.witness_books.proofs.start.are_of_roster.Goals as goal

@@ -1,8 +1,8 @@
-use Rattle.std.proofs.Common.{◌≡◌, ◌==◌, ◌↔◌, IsTrue, List, map, drop, take}
-use Rattle.std.specs.List.{AllByRecursion, IsDistinct, list_any}
+use Rattle.std.proofs.Common.{map, take}
+use Rattle.std.specs.List.{AllByRecursion}
 use Rattle.node_book.specs.Rows.{known_in}
-use Rattle.node_book.specs.witness_spec.Starting.{IsOfSome, node_of}
-use Rattle.witness_books.specs.Starts.{AreApart, AreOfRoster, base_at, handed}
+use Rattle.node_book.specs.witness_spec.Starting.{IsOfSome}
+use Rattle.witness_books.specs.Starts.{AreOfRoster, handed}
 use Rattle.witness_books.proofs.start.are_of_roster.Given as goal
 
 abbrev pub invariant-loop-base : goal.invariant-loop-base

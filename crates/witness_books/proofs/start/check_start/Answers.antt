@@ -1,5 +1,5 @@
-use Rattle.std.proofs.Common.{true, false, true≢false, sym, subst, ◌∙◌}
-use Rattle.witness_books.specs.Starts.{AreApart, handed}
+use Rattle.std.proofs.Common.{true≢false, sym, subst, ◌∙◌}
+use Rattle.witness_books.specs.Starts.{AreApart}
 use Rattle.witness_books.proofs.Starts.{bases_alone}
 use Rattle.witness_books.proofs.start.check_start.Goals as goal
 

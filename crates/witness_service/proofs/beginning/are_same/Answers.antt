@@ -13,6 +13,6 @@ returns-then-not-is_same c = (
       (same_at (λ b. known_in (arc_value b)) c.args.own.now c.args.other.now c.loop-place.place
       c.index-own-place.result c.index-other-place.result (search rules) (search rules) c.index-own-place.is
       c.index-other-place.is e) in
-      absurd (true≢false (sym (c.is_same.ensures.1 (c.deref.ensures ∙ (both ∙ sym c.deref-in-loop-place.ensures)))
-      ∙ c.if-not-is_same.true)),
+      let equal = c.deref.ensures ∙ (both ∙ sym c.deref-in-loop-place.ensures) in
+      absurd (true≢false (sym (c.is_same.ensures.1 equal) ∙ c.if-not-is_same.true)),
 )

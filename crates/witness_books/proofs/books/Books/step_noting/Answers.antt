@@ -1,11 +1,10 @@
 use Rattle.std.proofs.Common.{List, map, ap, subst, ◌∙◌}
 use Rattle.node_book.specs.witness_spec.Contract.{IsNotedStep}
-use Rattle.node_book.specs.witness_spec.Starting.{Beginning}
 use Rattle.node_book.specs.witness_book_laws.Books.{Book, parts_of}
 use Rattle.node_book.specs.witness_spec.Watched.{watched}
 use Rattle.node_book.specs.Events.{event_in, step_in}
 use Rattle.node_book.specs.Replies.{reply_in}
-use Rattle.witness_books.specs.Books.{BooksParts, bases_in, beginning_of, parts_in}
+use Rattle.witness_books.specs.Books.{BooksParts, bases_in, beginning_in, beginning_of, parts_in}
 use Rattle.witness_books.proofs.Stepping.{its_member}
 use Rattle.witness_books.proofs.Places.{can_step}
 use Rattle.witness_books.proofs.Refused.{all_stay_noted}
@@ -19,18 +18,18 @@ noted_step_of-requires-clause-member c =
 
 pub noted_step_of-requires-clause-can : goal.noted_step_of-requires-clause-can
 noted_step_of-requires-clause-can c =
-    let g : Beginning = record { roster = c.self.inside.roster; bases = bases_in c.self.inside.bases.items } in
+    let g = beginning_in c.self.inside.roster c.self.inside.bases.items in
     let member =
     its_member c.self.inside.roster (event_in c.args.event) c.in-Step.member (step_in c.in-Step.step)
     c.in-Step.ensures.goes in
-    can_step c.books_are_ready.ensures.ready g c.in-Step.member c.self.inside.books.items (step_in c.in-Step.step)
-    c.self.invariant.ready member
+    can_step c.books_are_ready.ensures.ready g c.in-Step.member c.self.inside.books.items
+    (step_in c.in-Step.step) c.self.invariant.ready member
     (c.books_are_ready.ensures.of_log (watched g c.in-Step.member) (event_in c.args.event)
     (step_in c.in-Step.step) c.route.ensures.is_event c.in-Step.ensures.goes.whose_is)
 
 pub invariant_of-self : goal.invariant_of-self
 invariant_of-self c =
-    let g : Beginning = record { roster = c.self.inside.roster; bases = bases_in c.self.inside.bases.items } in
+    let g = beginning_in c.self.inside.roster c.self.inside.bases.items in
     let laws = laws_of c.books_are_ready.ensures.step c.journals_are_histories.ensures.noted
     c.what_leaves_books.ensures.copied in
     let goes = noting_goes laws g c.in-Step.member c.self.inside.books.items
@@ -41,7 +40,7 @@ invariant_of-self c =
 
 pub returns-in-Refused-clause-noted : goal.returns-in-Refused-clause-noted
 returns-in-Refused-clause-noted c =
-    let g : Beginning = record { roster = c.self.inside.roster; bases = bases_in c.self.inside.bases.items } in
+    let g = beginning_in c.self.inside.roster c.self.inside.bases.items in
     let laws = laws_of c.books_are_ready.ensures.step c.journals_are_histories.ensures.noted
     c.what_leaves_books.ensures.copied in
     let goes = refusal_goes laws c.what_leaves_books.ensures.out c.what_leaves_books.ensures.want g
@@ -53,7 +52,7 @@ returns-in-Refused-clause-noted c =
 
 pub returns-in-Refused-clause-notes : goal.returns-in-Refused-clause-notes
 returns-in-Refused-clause-notes c =
-    let g : Beginning = record { roster = c.self.inside.roster; bases = bases_in c.self.inside.bases.items } in
+    let g = beginning_in c.self.inside.roster c.self.inside.bases.items in
     let laws = laws_of c.books_are_ready.ensures.step c.journals_are_histories.ensures.noted
     c.what_leaves_books.ensures.copied in
     let goes = refusal_goes laws c.what_leaves_books.ensures.out c.what_leaves_books.ensures.want g
@@ -64,7 +63,7 @@ returns-in-Refused-clause-notes c =
 
 pub returns-in-Step-clause-noted : goal.returns-in-Step-clause-noted
 returns-in-Step-clause-noted c =
-    let g : Beginning = record { roster = c.self.inside.roster; bases = bases_in c.self.inside.bases.items } in
+    let g = beginning_in c.self.inside.roster c.self.inside.bases.items in
     let laws = laws_of c.books_are_ready.ensures.step c.journals_are_histories.ensures.noted
     c.what_leaves_books.ensures.copied in
     let goes = noting_goes laws g c.in-Step.member c.self.inside.books.items
@@ -77,7 +76,7 @@ returns-in-Step-clause-noted c =
 
 pub returns-in-Step-clause-notes : goal.returns-in-Step-clause-notes
 returns-in-Step-clause-notes c =
-    let g : Beginning = record { roster = c.self.inside.roster; bases = bases_in c.self.inside.bases.items } in
+    let g = beginning_in c.self.inside.roster c.self.inside.bases.items in
     let laws = laws_of c.books_are_ready.ensures.step c.journals_are_histories.ensures.noted
     c.what_leaves_books.ensures.copied in
     let goes = noting_goes laws g c.in-Step.member c.self.inside.books.items
