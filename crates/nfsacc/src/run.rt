@@ -61,7 +61,7 @@ fn report_roster_out(rt: &impl Eprint, request: RunRequest<'_>) -> u8 {
 /// Runs the lines of the script with a name, and gives the status for how it came to its end.
 fn run_lines<R, I>(rt: &R, input: I, name: &str, request: RunRequest<'_>) -> u8
 where
-    R: Files + Print + Eprint + AllocGlobal + RandomSource + Threads + Wait + Sync,
+    R: Files + Input + Print + Eprint + AllocGlobal + RandomSource + Threads + Wait + Sync,
     I: Read + Drop,
 {
     let bases = match first_bases(rt, request.base) {

@@ -10,18 +10,18 @@ use std::sync::{Mutex, Wait};
 
 /// After how many calls the server logs a CHECK, and how many it has answered since the last one.
 #[derive(Drop)]
-pub(crate) struct Checks<'a> {
+pub(crate) struct Checks {
     every: u32,
     calls: u32,
     /// The name of the folder that bases go to, if one is named.
-    folder: Option<&'a str>,
+    folder: Option<String>,
     /// The number of the last CHECK, until its base is in its place.
     waiting: Option<Number>,
 }
 
-impl<'a> Checks<'a> {
+impl Checks {
     /// A CHECK after each `every` calls.
-    pub(crate) fn new(every: u32, folder: Option<&'a str>) -> Checks<'a> {
+    pub(crate) fn new(every: u32, folder: Option<String>) -> Checks {
         Checks {
             every,
             calls: 0,
@@ -45,7 +45,7 @@ impl<'a> Checks<'a> {
 pub(crate) struct Checking<'a, R, E, S> {
     pub(crate) audit: AuditContext<'a, R, E, S>,
     pub(crate) server: &'a Mutex<HonestServer>,
-    pub(crate) checks: &'a Mutex<Checks<'a>>,
+    pub(crate) checks: &'a Mutex<Checks>,
 }
 
 impl<'a, R, E, S> Clone for Checking<'a, R, E, S> {
@@ -62,7 +62,7 @@ impl<'a, R: Wait, E: Write, S: Shelf> Checking<'a, R, E, S> {
     pub(crate) fn call_ended(&self) {
         let mut checks = self.checks.lock(self.audit.rt);
         if let Some(at) = checks.waiting {
-            if self.has_put_base(checks.folder, at) {
+            if self.has_put_base(&checks.folder, at) {
                 checks.waiting = None;
             }
         }
@@ -80,7 +80,7 @@ impl<'a, R: Wait, E: Write, S: Shelf> Checking<'a, R, E, S> {
 
     /// Puts the base of the CHECK with a number in its place, in a folder if one is named. Whether nothing
     /// more is to be done for it: else the server hasn't signed after it yet.
-    fn has_put_base(&self, folder: Option<&str>, at: Number) -> bool {
+    fn has_put_base(&self, folder: &Option<String>, at: Number) -> bool {
         let Some(folder) = folder else {
             return true;
         };

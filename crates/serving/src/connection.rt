@@ -27,7 +27,7 @@ pub(crate) struct ConnectionContext<'a, R, T, E, S> {
     pub(crate) clock: &'a T,
     pub(crate) server: &'a Mutex<HonestServer>,
     /// The CHECKs that the server logs, if it logs some.
-    pub(crate) checks: Option<&'a Mutex<Checks<'a>>>,
+    pub(crate) checks: Option<&'a Mutex<Checks>>,
     pub(crate) phase: &'a Mutex<Phase>,
     /// How many seconds a connection may be silent, if there is an end to it.
     pub(crate) idle: Option<u32>,

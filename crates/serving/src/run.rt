@@ -159,7 +159,7 @@ where
         IfOk f.closed (λ c. All (IsShown (S.files f.shelf) folder.now c.roster) f.reports.items))) }
 {
     let port = port_of(&listener)?;
-    let mut output = AuditOutput::new(alloc, errors, shelf, folder_of(alloc, order)?);
+    let mut output = AuditOutput::new(alloc, errors, shelf, owned(alloc, order.options.evidence)?);
     let prepared = prepare(rt, alloc, order, &mut output)?;
     let prepared = when_done(prepared, announce(alloc, writer, port))?;
     let output = Mutex::new(output);
@@ -328,10 +328,10 @@ fn have_accounts(reports: &[NodeReport], places: &[Note], clients: &[ClientNode]
     true
 }
 
-/// The name of the folder that evidence goes to.
-fn folder_of(alloc: Global, order: &Order<'_>) -> Result<Option<String>, AllocError> {
-    match order.options.evidence {
-        Some(folder) => Ok(Some(String::from_str(alloc, folder)?)),
+/// A copy of a name, if one is given.
+fn owned(alloc: Global, name: Option<&str>) -> Result<Option<String>, AllocError> {
+    match name {
+        Some(name) => Ok(Some(String::from_str(alloc, name)?)),
         None => Ok(None),
     }
 }
@@ -510,7 +510,7 @@ where
 {
     let server = Mutex::new(server);
     let phase = Mutex::new(Phase::Serving);
-    let checks = checks_of(order).map(Mutex::new);
+    let checks = checks_of(audit.alloc, order)?.map(Mutex::new);
     let context = ConnectionContext {
         audit,
         clock,
@@ -528,9 +528,12 @@ where
 }
 
 /// The CHECKs that the server logs, if the order has some.
-fn checks_of<'a>(order: &Order<'a>) -> Option<Checks<'a>> {
-    let every = order.options.check_every?;
-    Some(Checks::new(every, order.options.base_out))
+fn checks_of(alloc: Global, order: &Order<'_>) -> Result<Option<Checks>, AllocError> {
+    let Some(every) = order.options.check_every else {
+        return Ok(None);
+    };
+    let folder = owned(alloc, order.options.base_out)?;
+    Ok(Some(Checks::new(every, folder)))
 }
 
 /// Audits everybody by a pass, and asks the witness about each node.
