@@ -10,3 +10,5 @@ mod files;
 mod parties;
 #[cfg(test)]
 mod scripts_run;
+#[cfg(test)]
+mod starts;

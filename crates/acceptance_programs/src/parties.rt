@@ -34,15 +34,24 @@ pub struct Parties {
     pub client: ClientNode,
 }
 
+/// The root of a node's keys.
+fn root(alloc: Global, node: u32, master: [u8; 32]) -> Option<[u8; 32]> {
+    let keys = Sender::new(alloc, node, LogVersion::One, master, HEIGHT).ok()?;
+    Some(keys.root())
+}
+
 /// The roster of the two.
 fn roster(alloc: Global) -> Option<Roster> {
-    let one = Sender::new(alloc, SERVER, LogVersion::One, SERVER_MASTER, HEIGHT)
-        .ok()?
-        .root();
-    let two = Sender::new(alloc, CLIENT, LogVersion::One, CLIENT_MASTER, HEIGHT)
-        .ok()?
-        .root();
+    let one = root(alloc, SERVER, SERVER_MASTER)?;
+    let two = root(alloc, CLIENT, CLIENT_MASTER)?;
     roster_of(alloc, &[server(one, HEIGHT), client(two, HEIGHT)])
+}
+
+/// A roster in which each has the other's key.
+pub fn exchanged_roster(alloc: Global) -> Option<Roster> {
+    let one = root(alloc, SERVER, SERVER_MASTER)?;
+    let two = root(alloc, CLIENT, CLIENT_MASTER)?;
+    roster_of(alloc, &[server(two, HEIGHT), client(one, HEIGHT)])
 }
 
 /// The server, who has logged nothing.

@@ -37,7 +37,15 @@ fn is_run<R: Threads + Wait + Sync>(rt: &R, alloc: Global) -> bool {
     let mut writer = Vec::new(alloc);
     let mut shelf = Files::new(alloc);
     let bases = Vec::new(alloc);
-    match run_script(rt, alloc, &mut reader, &mut writer, &mut shelf, NO_FILES, bases) {
+    match run_script(
+        rt,
+        alloc,
+        &mut reader,
+        &mut writer,
+        &mut shelf,
+        NO_FILES,
+        bases,
+    ) {
         Ok(ScriptEnd::Closed(closed)) => {
             are_its_steps(closed.journal.places()) && writer.as_slice() == PRINTED
         }
