@@ -1,5 +1,5 @@
 -- What the node of a script with a number gives.
--- Serves: Run::base_at.
+-- Serves: base_in.
 use Rattle.std.proofs.Common.{ℕ, List, Option, Some, None, Result, Ok, Err}
 use Rattle.std.specs.Prelude.{IfNone, IfOk, IfSome}
 use Rattle.authenticator.specs.declared.member.Member.{Member}

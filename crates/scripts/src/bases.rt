@@ -46,6 +46,23 @@ impl BaseFiles {
         })
     }
 
+    /// How many CHECKs wait.
+    fn count(&self) -> usize {
+        self.waiting.len()
+    }
+
+    /// The CHECK that waits at a place.
+    fn mark(&self, place: usize) -> Option<Mark> {
+        self.waiting.get(place).copied()
+    }
+
+    /// Waits no more for the CHECK at a place.
+    fn forget(&mut self, place: usize) {
+        if place < self.waiting.len() {
+            let _ = self.waiting.remove(place);
+        }
+    }
+
     /// Waits for what a server signs after a CHECK, in the place of an earlier one, whose base it gives no
     /// more.
     pub(crate) fn wait_for(&mut self, server: u32, number: u64) -> Result<(), AllocError> {
@@ -122,27 +139,38 @@ fn file_text(alloc: Global, roster: &Roster, base: &[u8]) -> Result<Vec<u8>, All
     Ok(text)
 }
 
-impl<R: Threads + Wait + Sync, S: Shelf> Run<'_, '_, R, S> {
-    /// `join N K`: the base that the node gives at that number, checked; none where it gives none.
-    pub(crate) fn base_at(&self, place: Place) -> Result<Option<Checked<Base>>, Stop>
-        ensures given { IfOk result (λ found. IfSome found (λ c.
-            IsGiven self.now.roster.now self.now.parties.now place.node place.number c.value c.member)) }
-        ensures none { IfOk result (λ found. IfNone found
-            (IsNotGiven self.now.parties.now place.node place.number)) }
-    {
-        match self.parties.node(place.node) {
-            Some(node) => given_base(self.alloc, self.roster, node, u64::from(place.number)),
-            None => Err(Stop::Bad),
-        }
+/// The base that a script's node gives at a number, checked; none where it gives none. The line is bad where
+/// there is no such node.
+pub(crate) fn base_in(
+    alloc: Global,
+    roster: &Roster,
+    parties: &Parties,
+    place: Place,
+) -> Result<Option<Checked<Base>>, Stop>
+    ensures given { IfOk result (λ found. IfSome found (λ c.
+        IsGiven roster.now parties.now place.node place.number c.value c.member)) }
+    ensures none { IfOk result (λ found. IfNone found
+        (IsNotGiven parties.now place.node place.number)) }
+{
+    match parties.node(place.node) {
+        Some(node) => match given_base(alloc, roster, node, u64::from(place.number))? {
+            Some(base) => Ok(Some(base)),
+            None => Ok(None),
+        },
+        None => Err(Stop::Bad),
     }
+}
 
+impl<R: Threads + Wait + Sync, S: Shelf> Run<'_, '_, R, S> {
     /// Writes the bases after which their servers have signed by now.
     pub(crate) fn put_bases(&mut self) -> Result<(), Stop>
         ensures { self.new.caller ≡ self.old.caller }
     {
-        for place in (0..self.bases.waiting.len()).rev() {
-            if self.is_put(self.bases.waiting[place])? {
-                let _ = self.bases.waiting.remove(place);
+        for place in (0..self.bases.count()).rev() {
+            if let Some(mark) = self.bases.mark(place)
+                && self.is_put(mark)?
+            {
+                self.bases.forget(place);
             }
         }
         Ok(())

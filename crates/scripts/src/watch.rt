@@ -7,7 +7,7 @@ ghost use Rattle.scripts.specs.Ends.{Began, Closes, IsEnd, Watches, joined_line,
 ghost use Rattle.scripts.specs.Turns.{Leaves, Runs, TakesTurn};
 
 use crate::acts::Run;
-use crate::bases::BaseFiles;
+use crate::bases::{BaseFiles, base_in};
 use crate::cursor::Cursor;
 use crate::line::{Line, read_line};
 use crate::parties::Parties;
@@ -165,10 +165,10 @@ fn run_lines<R: Threads + Wait + Sync, I: Read, O: Write, S: Shelf>(
         if !more {
             return Ok(None);
         }
-        if let Some(base) = run_line(run, cursor, writer)? {
-            return Ok(Some(base));
+        match run_line(run, cursor, writer)? {
+            Some(base) => return Ok(Some(base)),
+            None => more = cursor.next(reader)?,
         }
-        more = cursor.next(reader)?;
     }
     Err(Stop::Bad)
 }
@@ -188,13 +188,13 @@ fn run_line<R: Threads + Wait + Sync, O: Write, S: Shelf>(
 {
     match read_line(run.alloc, cursor.text()?)? {
         Line::Node(_) => Err(Stop::Bad),
-        Line::Join(place) => {
-            let found = run.base_at(place)?;
-            if found.is_none() {
+        Line::Join(place) => match base_in(run.alloc, run.roster, run.parties, place)? {
+            Some(base) => Ok(Some(base)),
+            None => {
                 write_text(writer, "none\n")?;
+                Ok(None)
             }
-            Ok(found)
-        }
+        },
         Line::Act(act) => {
             let text = run.act(cursor.time(), act)?;
             run.put_bases()?;
