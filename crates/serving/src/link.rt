@@ -109,7 +109,7 @@ impl<'a, R: Wait, E, S> CheckingLink<'a, R, E, S> {
         link: ClientLink<'a, R>,
         checking: Option<Checking<'a, R, E, S>>,
     ) -> CheckingLink<'a, R, E, S>
-        ensures { result ≡ link }
+        ensures { result ≡ link.entry }
     {
         CheckingLink { link, checking }
     }
@@ -135,11 +135,19 @@ impl<'a, R: Wait, E: Write, S: Shelf> Link for CheckingLink<'a, R, E, S> {
         bytes: &[u8],
     ) -> Result<Option<Vec<u8>>, LinkFault> {
         let answered = self.link.exchange(alloc, time, bytes);
-        if let Some(checking) = &self.checking {
-            if answered.is_ok() {
-                checking.call_ended();
-            }
-        }
+        note_call(&self.checking, answered.is_ok());
         answered
+    }
+}
+
+/// Notes that a call has ended, if it was answered and the server logs CHECKs.
+fn note_call<R: Wait, E: Write, S: Shelf>(
+    checking: &Option<Checking<'_, R, E, S>>,
+    is_answered: bool,
+) {
+    if let Some(checking) = checking {
+        if is_answered {
+            checking.call_ended();
+        }
     }
 }
