@@ -269,19 +269,22 @@ any_lines_left (Ok x) bases a c wrote = tt
 any_lines_left (Err stop) bases a c wrote = λ bad. wrote
 
 -- what stopped it, where lines of the last one were run
-pub stopped : {A B : Type 0} (q : Result A Stop) (bases : List KnownBase) (a b c : Option (List ℕ))
+pub stopped : {A : Type 0} (r : Result A Stop) (bases : List KnownBase) (a b c : Option (List ℕ))
     (fault : Option ReceiptFault) (given : List KnownBase)
-    → Joins bases a b fault given → IfErr q (Leaves b c) → (r : Result B Stop)
-    → ((stop : Stop) → r ≡ Err stop → q ≡ Err stop) → IfErr r (LeavesScript bases a c)
-stopped q bases a b c fault given joins left (Ok x) same = tt
-stopped q bases a b c fault given joins left (Err stop) same = λ bad.
-    lines_left bases a b c fault given joins
-    (subst (λ (o : Result _ Stop). IfErr o (Leaves b c)) (same stop refl) left bad)
+    → Joins bases a b fault given → IfErr r (Leaves b c) → IfErr r (LeavesScript bases a c)
+stopped (Ok x) bases a b c fault given joins left = tt
+stopped (Err stop) bases a b c fault given joins left =
+    λ bad. lines_left bases a b c fault given joins (left bad)
 
 -- nothing was written
 pub no_lines : (bases : List KnownBase) (before : Option (List ℕ)) → WritesLines bases before before
 no_lines bases before =
     lines_left bases before before before None bases (no_joins bases before) (no_turns before)
+
+-- so whatever stopped before a line was run
+pub nothing_left : {A : Type 0} (r : Result A Stop) (bases : List KnownBase) (a : Option (List ℕ))
+    → IfErr r (LeavesScript bases a a)
+nothing_left r bases a = any_lines_left r bases a a (no_lines bases a)
 
 -- the claims of the one pass that was handed in
 pub of_one : (handed : List Held) (pass : Held) (given : List (List Claim)) → given ≡ claims_of handed

@@ -1,5 +1,7 @@
-use Rattle.std.proofs.Common.{refl, ap}
-use Rattle.scripts.proofs.Running.{any_lines_left, ended, ended_so, joins_more, lines_left, no_joins, no_turns}
+use Rattle.std.proofs.Common.{ap, subst, sym}
+use Rattle.witness_spec.specs.Starting.{Beginning}
+use Rattle.scripts.proofs.Running.{Joins, any_lines_left, ended, ended_so, joins_more, lines_left, no_joins}
+use Rattle.scripts.proofs.Running.{no_turns}
 use Rattle.scripts.proofs.script.run_witnesses.Goals as goal
 
 -- nothing was run yet
@@ -15,3 +17,25 @@ returns-in_default-clause-end g c =
 pub returns-in_default-clause-turns : goal.returns-in_default-clause-turns
 returns-in_default-clause-turns g c =
     ended _ _ _ _ _ _ _ _ c.loop.invariant.joins c.in_ok-end.ensures.watched c.end_by.ensures
+
+-- one more closed, and another one began, before a line couldn't be read
+pub returns-in_err-more-clause-bad : goal.returns-in_err-more-clause-bad
+returns-in_err-more-clause-bad g c =
+    any_lines_left _ _ _ _
+    (lines_left _ _ _ _ _ _
+    (joins_more _ _ _ _ _ _ _ _ _ c.loop.invariant.joins c.in_ok-end.ensures.watched c.in_ok-witness.ensures.wrote
+    (_, ap (λ (b : Beginning). b.bases) c.in_ok-witness.ensures.began)) (no_turns _))
+
+-- or was read
+pub loop-preserved : goal.loop-preserved
+loop-preserved g c = record {
+  joins = subst (λ f. Joins _ _ _ f _) (sym c.fault_after-fault.ensures)
+      (joins_more _ _ _ _ _ _ _ _ _ c.loop.invariant.joins c.in_ok-end.ensures.watched
+      c.in_ok-witness.ensures.wrote (_, ap (λ (b : Beginning). b.bases) c.in_ok-witness.ensures.began));
+  claims = c.in_ok-witness.ensures.claims;
+  end = c.in_ok-more.ensures;
+}
+
+-- more lines than can be counted
+pub returns-clause-bad : goal.returns-clause-bad
+returns-clause-bad g c = λ bad. lines_left _ _ _ _ _ _ c.loop.invariant.joins (no_turns _)
