@@ -195,6 +195,15 @@ joins_more bases a b c d fault end given next joins one wrote has =
           ∙ sym (fault_more None joins.earlier one.watch);
     }
 
+-- the same by what is known of the first fault then
+pub joins_so : (bases : List KnownBase) (a b c d : Option (List ℕ)) (fault known : Option ReceiptFault)
+    (end : ScriptEnd) (given next : List KnownBase)
+    → Joins bases a b fault given → Watches given b c end → Appends c d joined_line → IsOneBase next
+    → known ≡ fault_after fault end → Joins bases a d known next
+joins_so bases a b c d fault known end given next joins one wrote has same =
+    subst (λ (f : Option ReceiptFault). Joins bases a d f next) (sym same)
+    (joins_more bases a b c d fault end given next joins one wrote has)
+
 -- the last one closed
 plays : (bases : List KnownBase) (a b c : Option (List ℕ)) (fault : Option ReceiptFault) (given : List KnownBase)
     (closing end : ScriptEnd)

@@ -1,7 +1,7 @@
-use Rattle.std.proofs.Common.{ap, subst, sym}
+use Rattle.std.proofs.Common.{ap, rules}
 use Rattle.witness_spec.specs.Starting.{Beginning}
-use Rattle.scripts.proofs.Running.{Joins, any_lines_left, ended, ended_so, joins_more, lines_left, no_joins}
-use Rattle.scripts.proofs.Running.{no_turns}
+use Rattle.scripts.proofs.Running.{any_lines_left, ended, ended_so, joins_more, joins_so, lines_left, no_joins}
+use Rattle.scripts.proofs.Running.{no_turns, stopped}
 use Rattle.scripts.proofs.script.run_witnesses.Goals as goal
 
 -- nothing was run yet
@@ -18,6 +18,12 @@ pub returns-in_default-clause-turns : goal.returns-in_default-clause-turns
 returns-in_default-clause-turns g c =
     ended _ _ _ _ _ _ _ _ c.loop.invariant.joins c.in_ok-end.ensures.watched c.end_by.ensures
 
+-- a line of the last one stopped it
+pub returns-in_err-end-clause-bad : goal.returns-in_err-end-clause-bad
+returns-in_err-end-clause-bad g c =
+    stopped _ _ _ _ _ _ _ c.loop.invariant.joins
+    (search (rules, c.in_err-end.ensures.bad, c.from_residual.ensures))
+
 -- one more closed, and another one began, before a line couldn't be read
 pub returns-in_err-more-clause-bad : goal.returns-in_err-more-clause-bad
 returns-in_err-more-clause-bad g c =
@@ -29,9 +35,9 @@ returns-in_err-more-clause-bad g c =
 -- or was read
 pub loop-preserved : goal.loop-preserved
 loop-preserved g c = record {
-  joins = subst (λ f. Joins _ _ _ f _) (sym c.fault_after-fault.ensures)
-      (joins_more _ _ _ _ _ _ _ _ _ c.loop.invariant.joins c.in_ok-end.ensures.watched
-      c.in_ok-witness.ensures.wrote (_, ap (λ (b : Beginning). b.bases) c.in_ok-witness.ensures.began));
+  joins = joins_so _ _ _ _ _ _ _ _ _ _ c.loop.invariant.joins c.in_ok-end.ensures.watched
+      c.in_ok-witness.ensures.wrote (_, ap (λ (b : Beginning). b.bases) c.in_ok-witness.ensures.began)
+      c.fault_after-fault.ensures;
   claims = c.in_ok-witness.ensures.claims;
   end = c.in_ok-more.ensures;
 }
