@@ -12,7 +12,7 @@ use Rattle.witness_service.specs.Claims.{Claim, Held, claims_of}
 use Rattle.witness_service.specs.declared.shared.ReceiptFault.{ReceiptFault}
 use Rattle.witness_calls.specs.Closing.{IsFaulty}
 use Rattle.witness_spec.specs.Starting.{KnownBase}
-use Rattle.scripts.specs.Ends.{AreJoined, Began, Closes, IsEnd, IsOneBase, IsWatch, LeavesScript, Plays, Watch}
+use Rattle.scripts.specs.Ends.{AreJoined, Began, Closes, IsEnd, IsOneBase, IsScriptEnd, IsWatch, LeavesScript, Plays, Watch}
 use Rattle.scripts.specs.Ends.{Watches, Writes, WritesLines}
 use Rattle.scripts.specs.Ends.{end_by, fault_after, first_fault, joined_line, joined_text, last_line, watch_text}
 use Rattle.scripts.specs.Turns.{Does, IsLine, IsTurn, Leaves, Runs, TakesTurn, Turn, WritesTurns, added_by}
@@ -246,6 +246,12 @@ ended_so bases a b c fault given closing end joins one is =
     (end_is fault closing
     (subst (λ (o : Option ReceiptFault). IfSome o IsFaulty) (sym joins.is_fault)
     (fault_is None joins.earlier tt joins.each)) (subst IsEnd one.closes one.is.end))
+
+-- which is one of a script
+pub script_end : (end : ScriptEnd) → IsEnd end → IsScriptEnd end
+script_end (ends.Closed x) is = is
+script_end (ends.NotInJournal fault) is = is
+script_end (ends.Bad line) is = absurd is
 
 -- and all was written
 pub ended : (bases : List KnownBase) (a b c : Option (List ℕ)) (fault : Option ReceiptFault)
