@@ -12,7 +12,7 @@ use Rattle.witness_service.specs.Claims.{Claim, Held, claims_of}
 use Rattle.witness_service.specs.declared.shared.ReceiptFault.{ReceiptFault}
 use Rattle.witness_calls.specs.Closing.{IsFaulty}
 use Rattle.witness_spec.specs.Starting.{KnownBase}
-use Rattle.scripts.specs.Ends.{AreJoined, Began, Closes, IsEnd, IsOneBase, IsWatch, LeavesScript, Plays, Watch}
+use Rattle.scripts.specs.Ends.{AreJoined, Began, Closes, IsEnd, IsOneBase, IsScriptEnd, IsWatch, LeavesScript, Plays, Watch}
 use Rattle.scripts.specs.Ends.{Watches, Writes, WritesLines}
 use Rattle.scripts.specs.Ends.{end_by, fault_after, first_fault, joined_line, joined_text, last_line, watch_text}
 use Rattle.scripts.specs.Turns.{Does, IsLine, IsTurn, Leaves, Runs, TakesTurn, Turn, WritesTurns, added_by}
@@ -195,6 +195,15 @@ joins_more bases a b c d fault end given next joins one wrote has =
           ∙ sym (fault_more None joins.earlier one.watch);
     }
 
+-- the same by what is known of the first fault then
+pub joins_so : (bases : List KnownBase) (a b c d : Option (List ℕ)) (fault known : Option ReceiptFault)
+    (end : ScriptEnd) (given next : List KnownBase)
+    → Joins bases a b fault given → Watches given b c end → Appends c d joined_line → IsOneBase next
+    → known ≡ fault_after fault end → Joins bases a d known next
+joins_so bases a b c d fault known end given next joins one wrote has same =
+    subst (λ (f : Option ReceiptFault). Joins bases a d f next) (sym same)
+    (joins_more bases a b c d fault end given next joins one wrote has)
+
 -- the last one closed
 plays : (bases : List KnownBase) (a b c : Option (List ℕ)) (fault : Option ReceiptFault) (given : List KnownBase)
     (closing end : ScriptEnd)
@@ -238,6 +247,12 @@ ended_so bases a b c fault given closing end joins one is =
     (subst (λ (o : Option ReceiptFault). IfSome o IsFaulty) (sym joins.is_fault)
     (fault_is None joins.earlier tt joins.each)) (subst IsEnd one.closes one.is.end))
 
+-- which is one of a script
+pub script_end : (end : ScriptEnd) → IsEnd end → IsScriptEnd end
+script_end (ends.Closed x) is = is
+script_end (ends.NotInJournal fault) is = is
+script_end (ends.Bad line) is = absurd is
+
 -- and all was written
 pub ended : (bases : List KnownBase) (a b c : Option (List ℕ)) (fault : Option ReceiptFault)
     (given : List KnownBase) (closing end : ScriptEnd)
@@ -269,19 +284,22 @@ any_lines_left (Ok x) bases a c wrote = tt
 any_lines_left (Err stop) bases a c wrote = λ bad. wrote
 
 -- what stopped it, where lines of the last one were run
-pub stopped : {A B : Type 0} (q : Result A Stop) (bases : List KnownBase) (a b c : Option (List ℕ))
+pub stopped : {A : Type 0} (r : Result A Stop) (bases : List KnownBase) (a b c : Option (List ℕ))
     (fault : Option ReceiptFault) (given : List KnownBase)
-    → Joins bases a b fault given → IfErr q (Leaves b c) → (r : Result B Stop)
-    → ((stop : Stop) → r ≡ Err stop → q ≡ Err stop) → IfErr r (LeavesScript bases a c)
-stopped q bases a b c fault given joins left (Ok x) same = tt
-stopped q bases a b c fault given joins left (Err stop) same = λ bad.
-    lines_left bases a b c fault given joins
-    (subst (λ (o : Result _ Stop). IfErr o (Leaves b c)) (same stop refl) left bad)
+    → Joins bases a b fault given → IfErr r (Leaves b c) → IfErr r (LeavesScript bases a c)
+stopped (Ok x) bases a b c fault given joins left = tt
+stopped (Err stop) bases a b c fault given joins left =
+    λ bad. lines_left bases a b c fault given joins (left bad)
 
 -- nothing was written
 pub no_lines : (bases : List KnownBase) (before : Option (List ℕ)) → WritesLines bases before before
 no_lines bases before =
     lines_left bases before before before None bases (no_joins bases before) (no_turns before)
+
+-- so whatever stopped before a line was run
+pub nothing_left : {A : Type 0} (r : Result A Stop) (bases : List KnownBase) (a : Option (List ℕ))
+    → IfErr r (LeavesScript bases a a)
+nothing_left r bases a = any_lines_left r bases a a (no_lines bases a)
 
 -- the claims of the one pass that was handed in
 pub of_one : (handed : List Held) (pass : Held) (given : List (List Claim)) → given ≡ claims_of handed

@@ -141,6 +141,12 @@ Writes bases before after (Bad line) = WritesLines bases before after
 abbrev pub LeavesScript : List KnownBase → (before after : Option (List ℕ)) → Stop → Type 0
 LeavesScript bases before after stop = stop ≡ stops.Bad → WritesLines bases before after
 
+-- A script ended as its witnesses closed; of a bad line nothing is said here.
+abbrev pub IsScriptEnd : ScriptEnd → Type 0
+IsScriptEnd (Closed c) = IsOneRun c
+IsScriptEnd (NotInJournal fault) = IsFaulty fault
+IsScriptEnd (Bad line) = ⊤
+
 -- Where each line ran, the script was read to its end, where it is known what is left of it.
 abbrev pub IsReadToEnd : (left : Option (List ℕ)) → ScriptEnd → Type 0
 IsReadToEnd left (Closed c) = IsAtEnd left

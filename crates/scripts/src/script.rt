@@ -3,7 +3,7 @@
 ghost use Rattle.std.specs.Prelude.{◌≡◌, [], false, IfErr, IfOk, IsOk, map};
 ghost use Rattle.std.specs.Io.KnownBytes.{IsAtEnd};
 ghost use Rattle.node_book.specs.Rows.{known_in};
-ghost use Rattle.scripts.specs.Ends.{IsEnd, IsReadToEnd, LeavesScript, Writes, end_by, fault_after};
+ghost use Rattle.scripts.specs.Ends.{IsEnd, IsReadToEnd, IsScriptEnd, LeavesScript, Writes, end_by, fault_after};
 
 use crate::bases::BaseFiles;
 use crate::cursor::Cursor;
@@ -70,7 +70,7 @@ pub fn run_script<R: Threads + Wait + Sync, I: Read, O: Write, S: Shelf>(
     files: ScriptFiles<'_>,
     bases: Vec<Checked<Base>>,
 ) -> Result<ScriptEnd, ScriptFault>
-    ensures end { IfOk result IsEnd }
+    ensures end { IfOk result IsScriptEnd }
     ensures turns { IfOk result (Writes (map (λ c. known_in c.value) bases.items)
         (O.contents writer.old) (O.contents writer.new)) }
     ensures read { IfOk result (IsReadToEnd (I.remaining reader.new)) }
