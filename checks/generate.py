@@ -9,7 +9,7 @@ usage: checks/generate.py PROGRAM COUNT SEED [KIND..]    of all kinds, after tho
                                                          say the same
        checks/generate.py --show INDEX SEED [KIND..]     writes one of these files to standard output
        checks/generate.py --stored FOLDER                makes the files that checks/evidence keeps of it
-       checks/generate.py --handed books|gaps|logs|replays    writes the texts that checks/refused_memory reads
+       checks/generate.py --handed bases|books|gaps|logs|replays    writes the texts that checks/refused_memory reads
 """
 
 import json

@@ -17,11 +17,11 @@ readonly REFUSED=400
 # Of each subject one more than the requests that the calls have, and how many what is made first has, which aren't refused.
 declare -rA MOST=(
     [replies]=29 [files]=36 [keys]=8 [log]=78 [gaps]=82 [state]=124 [client]=26 [server]=56 [streams]=19 [steps]=28 [entries]=27
-    [segments]=67 [evidence]=107 [fork]=47 [replay2]=67 [books]=34 [filings]=14 [served]=27 [returned]=13 [jobs]=41 [rounds]=64 [stored]=0
+    [segments]=67 [evidence]=107 [fork]=47 [replay2]=67 [books]=34 [filings]=14 [served]=27 [returned]=13 [jobs]=41 [rounds]=64 [bases]=280 [stored]=0
 )
 declare -rA MADE=(
     [replies]=0 [files]=8 [keys]=0 [log]=13 [gaps]=13 [state]=1 [client]=10 [server]=18 [streams]=17 [steps]=20 [entries]=28
-    [segments]=28 [evidence]=1 [fork]=1 [replay2]=1 [books]=86 [filings]=130 [served]=56 [returned]=120 [jobs]=70 [rounds]=96 [stored]=0
+    [segments]=28 [evidence]=1 [fork]=1 [replay2]=1 [books]=86 [filings]=130 [served]=56 [returned]=120 [jobs]=70 [rounds]=96 [bases]=5 [stored]=0
 )
 readonly CHECKS=$PWD/checks
 
@@ -35,6 +35,7 @@ texts_of() {
         log) cat "$work/to_logs" ;;
         gaps) cat "$work/to_gaps" ;;
         steps | entries | segments) cat "$work/to_replays" ;;
+        bases) cat "$work/to_bases" ;;
         books | filings | served | returned | jobs | rounds) cat "$work/to_books" ;;
     esac
 }
@@ -212,7 +213,7 @@ if [ $# -eq 0 ]; then
     )
 fi
 scratch_crate refused_memory checks/refused_memory rpc_streams replay_pool witness_service witness_books node_book packets challenge evidence_showings envelopes replay node_logs checkpoint state_machine gateway service nfs_items rpc commitment secure_log authenticator merkle_keys xdr sha2 anyhow
-for to in books gaps logs replays; do python3 "$CHECKS/generate.py" --handed $to > "$work/to_$to"; done
+for to in bases books gaps logs replays; do python3 "$CHECKS/generate.py" --handed $to > "$work/to_$to"; done
 
 # Two runs in which nothing is refused, each of which makes a file.
 subject=itself

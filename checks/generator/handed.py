@@ -1,6 +1,7 @@
-"""What `checks/refused_memory.sh` hands its program: texts of a server's log of five entries, of the logs of two
-clients, of what all three signed, and of what closes a log that the program makes."""
+"""What `checks/refused_memory.sh` hands its program: texts of a server's log of five entries and of the base at the last
+one, of the logs of two clients, of what all three signed, and of what closes a log that the program makes."""
 
+from verifier.evidence import Base, Link, Showing
 from verifier.keys import CLIENT, SERVER, ZEROS, Authenticator, digest
 from verifier.log import (RECV, SEND, Ack, Check, Clock, Entry, Recv, Send, hash_after, recv_content, send_content)
 from verifier.replay import opening_state, step
@@ -8,7 +9,7 @@ from verifier.words import LOG_1, LOG_2, number_in, word_of
 from verifier.xdr import array, hyper, opaque, word
 
 from .signer import Signer
-from .texts import authenticator_text, entry_text, roster_text
+from .texts import authenticator_text, base_text, entry_text, roster_text
 
 # The words that a packet begins with.
 LEARN, ANSWER = 1, 3
@@ -124,11 +125,18 @@ class Made:
         """The roster, and the segment of the server's whole log."""
         return [self.roster(), self.log.segment(self.log.signed(5))]
 
+    def to_bases(self) -> list[bytes]:
+        """The roster, and the file of it with the base at the server's checkpoint, which shows its last two entries."""
+        links = [Link(entry.kind, digest(entry.content())) for entry in self.log.entries[3:]]
+        showing = Showing(self.server.node, 4, self.log.hashes[3], links, self.log.signed(5))
+        return [self.roster(), self.roster() + base_text(Base(showing, 5, self.state.text()))]
+
 
 def handed(to: str) -> bytes:
-    """The texts for books, for logs, for logs with gaps or for replays, each after its length."""
+    """The texts for bases, for books, for logs, for logs with gaps or for replays, each after its length."""
     if to in ('logs', 'gaps'):
         texts = to_logs({'logs': LOG_1, 'gaps': LOG_2}[to])
     else:
-        texts = {'books': Made().to_books, 'replays': Made().to_replays}[to]()
+        made = Made()
+        texts = {'bases': made.to_bases, 'books': made.to_books, 'replays': made.to_replays}[to]()
     return b''.join(word(len(text)) + text for text in texts)
