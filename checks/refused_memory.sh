@@ -16,12 +16,14 @@ readonly REFUSED=400
 
 # Of each subject one more than the requests that the calls have, and how many what is made first has, which aren't refused.
 declare -rA MOST=(
-    [replies]=29 [files]=36 [keys]=8 [log]=78 [gaps]=82 [state]=124 [client]=26 [server]=56 [streams]=19 [steps]=28 [entries]=27
-    [segments]=67 [evidence]=107 [fork]=47 [replay2]=67 [books]=34 [filings]=14 [served]=27 [returned]=13 [jobs]=41 [rounds]=64 [bases]=280 [stored]=0
+    [replies]=29 [files]=36 [keys]=8 [log]=78 [gaps]=82 [state]=124 [client]=26 [server]=76 [streams]=19 [steps]=28 [entries]=27
+    [segments]=67 [evidence]=107 [fork]=47 [replay2]=67 [books]=34 [filings]=14 [served]=27 [returned]=13 [jobs]=41 [rounds]=64
+    [bases]=161 [stored]=0
 )
 declare -rA MADE=(
-    [replies]=0 [files]=8 [keys]=0 [log]=13 [gaps]=13 [state]=1 [client]=10 [server]=18 [streams]=17 [steps]=20 [entries]=28
-    [segments]=28 [evidence]=1 [fork]=1 [replay2]=1 [books]=86 [filings]=130 [served]=56 [returned]=120 [jobs]=70 [rounds]=96 [bases]=5 [stored]=0
+    [replies]=0 [files]=8 [keys]=0 [log]=13 [gaps]=13 [state]=1 [client]=10 [server]=39 [streams]=17 [steps]=20 [entries]=28
+    [segments]=28 [evidence]=1 [fork]=1 [replay2]=1 [books]=86 [filings]=130 [served]=56 [returned]=120 [jobs]=70 [rounds]=96
+    [bases]=5 [stored]=0
 )
 readonly CHECKS=$PWD/checks
 
@@ -162,7 +164,7 @@ check_subject() {
             ;;
         server)
             gave_the_same
-            least_refused 3 receive take_ack checkpoint answer_challenge
+            least_refused 3 receive take_ack base checkpoint answer_challenge
             ;;
         streams) least_refused 4 serve_stream ;;
         steps)
@@ -198,6 +200,11 @@ check_subject() {
             exactly_refused 8 'Deliver of an authenticator' 1 Audit 15 'Deliver of a segment' 2 PutBack
             ;;
         returned) exactly_refused 3 'File of a sound verdict' 9 Forward ;;
+        # Books read a base's state to tell its kind. A copy shares the state.
+        bases)
+            least_refused 30 check_base_file check_base Books::start
+            least_refused 4 Base::try_clone Base::to_text
+            ;;
         # Each directory's map asks for more room than it needs, and goes on where that is refused.
         jobs) least_refused 30 ReplayJob::run ;;
         # What opens the round. A job to which memory is refused is run once more at the round's end, and is done then.
@@ -209,7 +216,7 @@ subjects=("$@")
 if [ $# -eq 0 ]; then
     subjects=(
         replies files keys log gaps state client server streams steps entries segments evidence fork replay2 books filings served
-        returned jobs rounds stored
+        returned jobs rounds bases stored
     )
 fi
 scratch_crate refused_memory checks/refused_memory rpc_streams replay_pool witness_service witness_books node_book packets challenge evidence_showings envelopes replay node_logs checkpoint state_machine gateway service nfs_items rpc commitment secure_log authenticator merkle_keys xdr sha2 anyhow

@@ -1,5 +1,5 @@
-"""What `checks/refused_memory.sh` hands its program: texts of a server's log of five entries and of the base at the last
-one, of the logs of two clients, of what all three signed, and of what closes a log that the program makes."""
+"""What `checks/refused_memory.sh` hands its program: texts of a server's log of five entries and of the base at the
+last one, of the logs of two clients, of what all three signed, and of what closes a log that the program makes."""
 
 from verifier.evidence import Base, Link, Showing
 from verifier.keys import CLIENT, SERVER, ZEROS, Authenticator, digest
