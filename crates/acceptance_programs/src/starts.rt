@@ -53,11 +53,12 @@ fn are_started(alloc: Global, both: &mut Parties) -> Option<bool> {
     let other = bases_of(alloc, &both.roster, &text, 1)?;
     let two = bases_of(alloc, &both.roster, &text, 2)?;
     let own = both.roster.try_clone(alloc).ok()?;
-    let others = (exchanged_roster(alloc)?, exchanged_roster(alloc)?);
+    let another = exchanged_roster(alloc)?;
+    let third = exchanged_roster(alloc)?;
     Some(
         begins(alloc, own, one)
-            && fails(alloc, others.0, other, StartFault::OtherRoot)
-            && fails(alloc, others.1, two, StartFault::TwoBases),
+            && fails(alloc, another, other, StartFault::OtherRoot)
+            && fails(alloc, third, two, StartFault::TwoBases),
     )
 }
 
