@@ -685,6 +685,25 @@ def check_roster(program: str):
     print('the roster is there before it listens, with the keys that their master secrets make')
 
 
+def check_bases(program: str):
+    """After each three of ten calls the server logs a CHECK, whose base stands in its folder once the next call is logged."""
+    with tempfile.TemporaryDirectory() as name:
+        service = Service(program, 1, *heights(6, 5), '--check-every', '3', '--base-out', name)
+        connection = Connection(service.port)
+        for _ in range(10):
+            assert connection.ask(NULL) == NULL_REPLY
+        connection.close()
+        status, lines, said = service.end()
+        assert (status, lines) == (0, trusted(1)), (status, lines, said)
+        assert sorted(os.listdir(name)) == ['node-1.13.base', 'node-1.26.base', 'node-1.39.base'], os.listdir(name)
+        for number in (13, 26, 39):
+            status, printed, said = run(program, 'base', f'{name}/node-1.{number}.base')
+            assert (status, printed, said) == (0, f'base 1 {number}\n'.encode(), ''), (status, printed, said)
+        status, printed, said = run(program, 'serve', '0', '1', '--base-out', f'{name}/none')
+        assert (status, printed) == (4, b'') and f'{name}/none' in said, (status, said)
+    print('after each three calls a base stands in its folder, and is good')
+
+
 def check_addresses(program: str):
     """Loopback addresses, which want no secret bytes."""
     tried = []
@@ -714,7 +733,8 @@ REFUSED = [
     ['0', '1', '--address', '127.0.0.256'], ['0', '1', '--address', '10.0.0.1'], ['0', '1', '--no-such'],
     ['0', '1', '--idle', '0'], ['0', '1', '--idle', '86401'], ['0', '1', '--idle', '1.5'], ['0', '1', '--idle'],
     ['0', '1', '--control'], ['0', '1', '--log-version', '0'], ['0', '1', '--log-version', '3'],
-    ['0', '1', '--log-version', 'x'], ['0', '1', '--log-version'],
+    ['0', '1', '--log-version', 'x'], ['0', '1', '--log-version'], ['0', '1', '--check-every', '0'],
+    ['0', '1', '--check-every', '16385'], ['0', '1', '--check-every'], ['0', '1', '--base-out'],
 ]
 
 
@@ -755,7 +775,7 @@ def check_refused(program: str):
 
 CHECKS = [check_refused, check_devices, check_closed_devices, check_roster, check_addresses, check_one_and_two,
           check_one_more, check_sixteen, check_cuts, check_keys_used_up, check_closes_early, check_hostile, check_crowd,
-          check_thousands, check_times, check_shortage, check_idle, check_control, check_left_control]
+          check_thousands, check_times, check_shortage, check_idle, check_bases, check_control, check_left_control]
 
 
 def main():
