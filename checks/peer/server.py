@@ -1,0 +1,116 @@
+"""A server: it answers the calls of program 2acc0001 by the file service of the second verifier."""
+
+import threading
+import time
+
+from generator.texts import authenticator_text
+from verifier.keys import Roster, digest, roster_text
+from verifier.nfs import Time
+from verifier.packets import ACKNOWLEDGEMENT, AUTHENTICATOR, ENVELOPE
+from verifier.xdr import Reader, word
+
+from .keys import Keys
+from .node import Node, NoSegment, Refused, TooLong
+from .texts import Envelope, text_of_packet
+from .wire import (ACKNOWLEDGE, DELIVER, GREET, NODE, NULL, SEGMENT, SIGNED, Listener, Procedure, greeting,
+                   no_arguments)
+
+LOGGED, ALREADY = 0, 10
+OUT_OF_RANGE, TOO_LONG = 1, 2
+
+
+def system_time() -> Time:
+    now = time.time_ns() // 1000
+    return now // 1000000, now % 1000000
+
+
+def optional_packet(kind: int, text: bytes | None) -> bytes:
+    return word(0) if text is None else word(1, kind) + text
+
+
+class Server:
+    """Answers calls until it is closed; with an address of its own for audits, as an option."""
+
+    def __init__(self, keys: Keys, roster: Roster, audits_apart: bool = False):
+        self.node = Node(keys, roster)
+        self.lock = threading.Lock()
+        self.roster_digest = digest(roster_text(roster))
+        listened = self.procedures()
+        self.audits = Listener(NODE, listened) if audits_apart else None
+        if self.audits:
+            listened = {number: each for number, each in listened.items() if number != SEGMENT}
+        self.listener = Listener(NODE, listened)
+        self.address = self.listener.address
+        self.audit_address = self.audits.address if self.audits else self.address
+
+    def procedures(self) -> dict[int, Procedure]:
+        return {NULL: no_arguments, GREET: greeting(self.roster_digest), DELIVER: self.deliver,
+                ACKNOWLEDGE: self.acknowledge, SIGNED: self.signed, SEGMENT: self.segment}
+
+    def close(self):
+        self.listener.close()
+        if self.audits:
+            self.audits.close()
+
+    def now(self) -> Time:
+        return system_time()
+
+    def deliver(self, arguments: bytes) -> bytes:
+        text = text_of_packet(arguments, ENVELOPE)
+        with self.lock:
+            try:
+                return self.receive(text)
+            except Refused as refused:
+                return word(refused.refusal)
+
+    def receive(self, text: bytes) -> bytes:
+        """What an envelope gets."""
+        envelope = self.node.open(text)
+        place = self.node.earlier(envelope)
+        if place is None:
+            place = self.node.serve(envelope, self.now())
+        return self.shown(self.node, place, envelope)
+
+    def shown(self, node: Node, place: int, _envelope: Envelope) -> bytes:
+        """The acknowledgement of a RECV, and the reply to it."""
+        reply = node.reply_to(place)
+        return received(node.ack(place), None if reply is None else node.envelope(reply))
+
+    def acknowledge(self, arguments: bytes) -> bytes:
+        text = text_of_packet(arguments, ACKNOWLEDGEMENT)
+        with self.lock:
+            try:
+                return word(LOGGED if self.take_ack(text) else ALREADY)
+            except Refused as refused:
+                return word(refused.refusal)
+
+    def take_ack(self, text: bytes) -> bool:
+        return self.node.take_ack(text)
+
+    def signed(self, arguments: bytes) -> bytes:
+        reader = Reader(arguments)
+        after = reader.hyper()
+        reader.end()
+        with self.lock:
+            claim = self.node.signed_after(after)
+        return optional_packet(AUTHENTICATOR, None if claim is None else authenticator_text(claim))
+
+    def segment(self, arguments: bytes) -> bytes:
+        reader = Reader(arguments)
+        first, last = reader.hyper(), reader.hyper()
+        reader.end()
+        with self.lock:
+            return segment_answer(self.node, first, last)
+
+
+def received(ack: bytes, reply: bytes | None) -> bytes:
+    return word(LOGGED, ACKNOWLEDGEMENT) + ack + optional_packet(ENVELOPE, reply)
+
+
+def segment_answer(node: Node, first: int, last: int) -> bytes:
+    try:
+        return word(0) + node.segment_packet(first, last)
+    except TooLong:
+        return word(TOO_LONG)
+    except NoSegment:
+        return word(OUT_OF_RANGE)

@@ -1,0 +1,4 @@
+pub mod OfPieces
+pub mod OfStops
+pub mod OfBounds
+pub mod OfFragments

@@ -1,0 +1,4 @@
+pub mod Read
+pub mod OfCalls
+pub mod OfNodes
+pub mod OfWitnesses

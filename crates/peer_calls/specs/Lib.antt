@@ -1,0 +1,5 @@
+pub mod Calls
+pub mod Arguments
+pub mod NodeRequests
+pub mod WitnessRequests
+pub mod Answers
