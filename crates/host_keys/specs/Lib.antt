@@ -1,0 +1,5 @@
+pub mod Lines
+pub mod Members
+pub mod Beginnings
+pub mod Spent
+pub mod Rosters
