@@ -1,8 +1,8 @@
 -- What is said of a file with a base, by more bytes of it than such a file has.
--- Serves: judge_base.
+-- Serves: base_in, read_judgement.
 use Rattle.std.proofs.Common.{◌≡◌, ◌∙◌, ℕ, ◌<◌, List, [], ◌++◌, length, Ok, Err, Some, refl, ap, arith, subst, sym}
 use Rattle.std.proofs.Common.{append_assoc, inl, inr}
-use Rattle.std.specs.Prelude.{Result}
+use Rattle.std.specs.Prelude.{IfErr, IfOk, IfSome, Option, None, Result}
 use Rattle.std.proofs.lemmas.List.{length-append}
 use Rattle.xdr.specs.Item.{IsBytes, Value, spelling}
 use Rattle.xdr.specs.Reading.{read_at}
@@ -15,7 +15,9 @@ use Rattle.authenticator.specs.Roster.{roster_item, roster_value}
 use Rattle.challenge.specs.evidence_spec.Base.{base_item, base_text}
 use Rattle.challenge.specs.BaseFiles.{ChecksFile, ChecksRest, HasNoRoster, HasRoster}
 use Rattle.challenge.specs.KnownBases.{ChecksBase, KnownBase}
-use Rattle.console.specs.Bases.{HoldsBase, IsRefused}
+use Rattle.console.specs.Bases.{Holds, IsRefused, JudgesBase}
+use Rattle.console.specs.declared.bases.BaseJudgement.{BaseJudgement}
+use Rattle.console.specs.declared.bases.BaseJudgement.TheVariants.{Base, NoBase}
 use Rattle.console.specs.Contents.{IsFront}
 use Rattle.console.proofs.Fronts.{none_unless, text_read}
 use Rattle.console.proofs.Lengths.{base_up, roster_up}
@@ -83,18 +85,30 @@ checked its_value its_member front input r s c same is =
 -- a base in front of a file is in the file
 pub held : {C : Type 0} (value : C → KnownBase) (member : C → Member) (front input : List ℕ) (c : C)
     → IsFront longest front input → ChecksFile front value member (Ok c)
-    → HoldsBase input (value c).showing.node (value c).at
+    → Holds input (value c) (member c)
 held value member front input c is base =
     let same = all_read front input base.rest base.roster _ base.has base.checks.is.text is in
-    record {
+    checked (λ (k : KnownBase × Member). k.0) (λ k. k.1) front input (Ok c) (Ok (value c, member c)) base same
+    base.checks
+
+-- so what is answered of a file is what is said of it
+pub judged : {C : Type 0} (value : C → KnownBase) (member : C → Member) (input : Option (List ℕ))
+    (answer : Result C Refusal) (judgement : BaseJudgement)
+    → IfOk answer (λ c. IfSome input (λ bytes. Holds bytes (value c) (member c)))
+    → IfErr answer (λ refusal. IfSome input (λ bytes. IsRefused bytes refusal))
+    → IfOk answer (λ c. judgement ≡ Base (value c).showing.node (value c).at)
+    → IfErr answer (λ refusal. judgement ≡ NoBase refusal) → IfSome input (λ bytes. JudgesBase bytes judgement)
+judged value member None answer judgement holds refused is none = tt
+judged value member (Some bytes) (Ok c) judgement holds refused is none =
+    subst (JudgesBase bytes) (sym is) (record {
       base = value c;
       member = member c;
-      checks =
-          checked (λ (k : KnownBase × Member). k.0) (λ k. k.1) front input (Ok c) (Ok (value c, member c)) base same
-          base.checks;
+      holds = holds;
       its = refl;
       there = refl;
-    }
+    })
+judged value member (Some bytes) (Err refusal) judgement holds refused is none =
+    subst (JudgesBase bytes) (sym none) refused
 
 -- a file that is garbage by its front is garbage
 garbage : {C D : Type 0} (value : C → KnownBase) (member : C → Member) (its_value : D → KnownBase)

@@ -9,12 +9,15 @@ use Rattle.challenge.specs.KnownBases.{KnownBase}
 use Rattle.console.specs.declared.bases.BaseJudgement.{BaseJudgement}
 use Rattle.console.specs.declared.bases.BaseJudgement.TheVariants.{Base, NoBase}
 
--- The bytes are a roster's text with that of a base after it, which is good under that roster: it is of this
--- node, and its CHECK has this number.
+-- The bytes are a roster's text with that of this base after it, which is good under that roster, of this member.
+abbrev pub Holds : List ℕ → KnownBase → Member → Type 0
+Holds bytes base member = ChecksFile bytes (λ (c : KnownBase × Member). c.0) (λ c. c.1) (Ok (base, member))
+
+-- They hold a base of this node, whose CHECK has this number.
 pub record HoldsBase (bytes : List ℕ) (node at : ℕ) : Type 0 where
   pub base : KnownBase
   pub member : Member
-  pub checks : ChecksFile bytes (λ (c : KnownBase × Member). c.0) (λ c. c.1) (Ok (base, member))
+  pub holds : Holds bytes base member
   pub its : base.showing.node ≡ node
   pub there : base.at ≡ at
 

@@ -3,7 +3,7 @@
 ghost use Rattle.std.specs.Prelude.{◌≡◌, ℕ, List, IfErr, IfOk, IfSome, IsErrOf, OnOk, string_bytes};
 ghost use Rattle.std.specs.Io.KnownBytes.{Appends};
 ghost use Rattle.rpc.specs.Records.Count.{Rises};
-ghost use Rattle.console.specs.Bases.{HoldsBase, IsRefused, JudgesBase, TellsBasePart, base_line};
+ghost use Rattle.console.specs.Bases.{Holds, IsRefused, JudgesBase, TellsBasePart, base_line};
 ghost use Rattle.console.specs.Checking.{IsRead};
 ghost use Rattle.console.specs.Contents.{IsFront};
 ghost use Rattle.console.specs.declared.bases.TheConstants.{LONGEST_BASE};
@@ -39,7 +39,7 @@ pub enum BaseJudgement {
 /// has; or why it holds none, which is never `NoMemory`. `AllocError` comes only where a growth was refused.
 fn base_in(alloc: Global, bytes: &[u8]) -> Result<Result<Checked<Base>, Refusal>, AllocError>
     ensures base { (input : List ℕ) → IsFront LONGEST_BASE bytes.now input →
-        IfOk result (λ held. IfOk held (λ b. HoldsBase input b.value.showing.node b.value.at)) }
+        IfOk result (λ held. IfOk held (λ b. Holds input b.value b.member)) }
     ensures none { (input : List ℕ) → IsFront LONGEST_BASE bytes.now input →
         IfOk result (λ held. IfErr held (λ refusal. IsRefused input refusal)) }
 {
@@ -59,7 +59,7 @@ pub fn read_base<R: Read>(
     reader: &mut Counting<R>,
 ) -> Result<Result<Checked<Base>, Refusal>, CheckFault>
     ensures base { IfOk result (λ held. IfOk held (λ b. IfSome (R.remaining reader.old.inner) (λ input.
-        HoldsBase input b.value.showing.node b.value.at))) }
+        Holds input b.value b.member))) }
     ensures none { IfOk result (λ held. IfErr held (λ refusal. IfSome (R.remaining reader.old.inner) (λ input.
         IsRefused input refusal))) }
     ensures kept { OnOk result (reader.new.count ≡ reader.old.count) }

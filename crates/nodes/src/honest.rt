@@ -5,7 +5,9 @@ ghost use Rattle.std.specs.Option.{option_map};
 ghost use Rattle.secure_log.specs.declared.log_entries.entry.TheConstants.{MAX_BODY};
 ghost use Rattle.envelopes.specs.declared.envelope.Envelope.{Envelope};
 ghost use Rattle.envelopes.specs.declared.acknowledgement.Ack.{Ack};
+ghost use Rattle.node_logs.specs.AckTaking.{TakesAck};
 ghost use Rattle.node_logs.specs.Gaps.{Checks};
+ghost use Rattle.node_logs.specs.Receiving.{Receives};
 ghost use Rattle.nodes.specs.Delivery.{MayTakeAck, TakesAwaited};
 ghost use Rattle.nodes.specs.Exchanges.Exchanges.{IsServed};
 ghost use Rattle.nodes.specs.Exchanges.Laws.{IsAccepted};
@@ -16,9 +18,10 @@ use crate::deliver::take_ack;
 use crate::server::ServerNode;
 use crate::sides::answer;
 use authenticator::Number;
-use commitment::Refusal;
+use commitment::{Received, Refusal};
 use gateway::links::LinkFault;
 use nfs_items::Time;
+use node_logs::{AckTaken, Receipt};
 use secure_log::log_entries::SignatureText;
 use std::alloc::Global;
 use std::marker::Model;
@@ -110,7 +113,7 @@ impl HonestServer {
     /// Takes an acknowledgement's text, which it is to await: of another, `Failed`, and also where its log has
     /// no number for the ACK. The server stays one that hasn't strayed. `NoMemory` comes only where a growth
     /// was refused.
-    pub(crate) fn take_ack(&mut self, alloc: Global, text: &[u8]) -> Result<(), LinkFault>
+    pub(crate) fn take_awaited(&mut self, alloc: Global, text: &[u8]) -> Result<(), LinkFault>
         ensures straight { HasNotStrayed self.old }
         ensures stays { HasNotStrayed self.new }
         ensures takes { (a : Ack) → IsTextOfAck a text.now → IsAccepted self.old a →
@@ -119,6 +122,36 @@ impl HonestServer {
     {
         self.server.node().is_honest();
         let result = take_ack(&mut self.server, alloc, text);
+        self.server.node().is_honest();
+        result
+    }
+
+    /// Receives an envelope's text at a time, as `ServerNode::receive` does. The server stays one that hasn't
+    /// strayed.
+    pub fn receive(
+        &mut self,
+        alloc: Global,
+        time: Time,
+        bytes: &[u8],
+    ) -> Result<Received<Receipt>, Refusal>
+        ensures straight { HasNotStrayed self.old }
+        ensures stays { HasNotStrayed self.new }
+        ensures receives { Receives self.old time bytes.now result self.new }
+    {
+        self.server.node().is_honest();
+        let result = self.server.receive(alloc, time, bytes);
+        self.server.node().is_honest();
+        result
+    }
+
+    /// Takes an acknowledgement's text, as `Node::take_ack` does. The server stays one that hasn't strayed.
+    pub fn take_ack(&mut self, alloc: Global, bytes: &[u8]) -> Result<AckTaken, Refusal>
+        ensures straight { HasNotStrayed self.old }
+        ensures stays { HasNotStrayed self.new }
+        ensures takes { TakesAck self.old bytes.now result self.new }
+    {
+        self.server.node().is_honest();
+        let result = self.server.take_ack(alloc, bytes);
         self.server.node().is_honest();
         result
     }

@@ -107,7 +107,7 @@ fn bring_back<R: Wait>(
         StopsReturning client.old e texts.old.reply.items f client.new) }
 {
     match receive_reply(client, alloc, &texts.reply, &mut texts.call) {
-        Ok(()) => server.lock(rt).take_ack(alloc, &texts.call),
+        Ok(()) => server.lock(rt).take_awaited(alloc, &texts.call),
         Err(fault) => Err(fault),
     }
 }
