@@ -1,0 +1,11 @@
+pub mod Remotes
+pub mod Calls
+pub mod Replies
+pub mod Answers
+pub mod Sent
+pub mod Refusals
+pub mod Laws
+pub mod Links
+pub mod Rounds
+pub mod Pipes
+pub mod Receipts

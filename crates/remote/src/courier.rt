@@ -1,0 +1,49 @@
+//! The way to a server on another host.
+
+use std::alloc::Global;
+use thiserror::Error;
+
+/// What came back for a call.
+#[derive(Clone, Copy, Debug, PartialEq, Eq)]
+pub enum Carried {
+    /// Bytes for an acknowledgement, and none for a reply.
+    Acknowledged,
+    /// Bytes for an acknowledgement, and for a reply.
+    Answered,
+}
+
+/// Why nothing came back.
+#[derive(Clone, Copy, Debug, PartialEq, Eq, Error)]
+pub enum CourierFault {
+    /// The server says that it has too few keys left.
+    #[error("the server's keys are used up")]
+    KeysUsedUp,
+    /// The server says that it doesn't take what was brought.
+    #[error("the server refuses")]
+    Refused,
+    /// The server can't be reached.
+    #[error("the server can't be reached")]
+    Lost,
+    /// A growth was refused.
+    #[error("out of memory")]
+    NoMemory,
+}
+
+/// The way to a server on another host. Nothing is supposed of what it brings back: who calls by it checks
+/// that.
+pub trait Courier {
+    /// Carries the text of a call's envelope to the server, and writes what comes back, in place of what the
+    /// bytes were: what is to be an acknowledgement's text, and what is to be the text of a reply's envelope.
+    /// A call that is carried again is to be answered as it was at first.
+    fn carry(
+        &mut self,
+        alloc: Global,
+        call: &[u8],
+        ack: &mut Vec<u8>,
+        reply: &mut Vec<u8>,
+    ) -> Result<Carried, CourierFault>;
+
+    /// Carries the text of the acknowledgement of a reply to the server. One that was carried before does no
+    /// harm.
+    fn acknowledge(&mut self, alloc: Global, receipt: &[u8]) -> Result<(), CourierFault>;
+}

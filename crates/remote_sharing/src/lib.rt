@@ -1,0 +1,8 @@
+//! One client under a lock, for all the local programs that call a server on another host.
+#![tactic(auto)]
+
+mod flights;
+mod shared;
+
+pub use flights::{Flights, Presence};
+pub use shared::{SharedRemote, serve_shared};

@@ -1,0 +1,309 @@
+//! A client under a lock, as a link for each of several local programs.
+
+ghost use Rattle.std.specs.Prelude.{◌≡◌, ◌≤◌, List, ℕ, false, length, is_err, IfErr, IfOk, IfSome, None};
+ghost use Rattle.std.specs.Option.{option_map};
+ghost use Rattle.secure_log.specs.declared.log_entries.entry.TheConstants.{MAX_BODY};
+ghost use Rattle.stream_spec.specs.Streams.{StopsAfterRecords, TakesNothing};
+ghost use Rattle.gateway.specs.Links.Exchanges.{Exchange};
+ghost use Rattle.gateway.specs.Serving.{IsAsked, LeavesOff, text_given};
+ghost use Rattle.remote.specs.Links.{call_fault};
+ghost use Rattle.remote_sharing.specs.Shared.{Exchanges, Fails, IsExchangedUnderLock, StopsUnderLock};
+
+use crate::flights::{Claim, Flights, Outcome, Presence, Turn};
+use nfs_items::Time;
+use nodes::{ClientNode, Clock, Gateway, Link, LinkFault, Served, StreamFault};
+use remote::{CallFault, Courier, Remote};
+use rpc::records::{Counting, RecordReader};
+use std::alloc::Global;
+use std::io::{Read, Write};
+use std::sync::{Arc, Mutex, Wait};
+
+/// A client under a lock, as a link: all the local programs are one client of the server. The lock is held
+/// for a whole call. It keeps its runtime, so that who uses it as a link has none.
+#[derive(Drop)]
+pub struct SharedRemote<'a, R: Wait, C: Courier + Drop, P: Presence> {
+    rt: &'a R,
+    remote: &'a Mutex<Remote<C>>,
+    flights: &'a Mutex<Flights<P>>,
+    presence: Arc<P>,
+    last_fault: Option<CallFault>,
+    last_sent: Option<u64>,
+}
+
+impl<'a, R: Wait, C: Courier + Drop, P: Presence> SharedRemote<'a, R, C, P> {
+    /// A link to the server of the client that lies under a lock, for the local program of a connection. All
+    /// links of the client have the same calls in flight. Takes no lock.
+    pub fn new(
+        rt: &'a R,
+        remote: &'a Mutex<Remote<C>>,
+        flights: &'a Mutex<Flights<P>>,
+        presence: Arc<P>,
+    ) -> SharedRemote<'a, R, C, P> {
+        SharedRemote {
+            rt,
+            remote,
+            flights,
+            presence,
+            last_fault: None,
+            last_sent: None,
+        }
+    }
+
+    /// Why the last call that it made gave no answer: none where it gave one, or where another connection made
+    /// it.
+    pub fn last_fault(&self) -> Option<CallFault> {
+        self.last_fault
+    }
+
+    /// The number of that call's SEND, if one was logged.
+    pub fn last_sent(&self) -> Option<u64> {
+        self.last_sent
+    }
+
+    /// Calls the server, as `Remote::carry`, with the lock held. A call whose connection has ended, and that
+    /// comes again on this one while it is in flight, is that call: it isn't made again.
+    pub fn carry(&mut self, alloc: Global, bytes: &[u8]) -> Result<Option<Vec<u8>>, LinkFault>
+        requires { length bytes.now ≤ MAX_BODY }
+        ensures exchanged { IfOk result (λ r.
+            IsExchangedUnderLock bytes.now (option_map (λ v. v.items) r)) }
+        ensures stops { IfErr result (λ f. StopsUnderLock bytes.now f) }
+        ensures size { IfOk result (λ r. IfSome r (λ v. length v.items ≤ MAX_BODY)) }
+    {
+        self.last_fault = None;
+        self.last_sent = None;
+        let claim = self.claim(alloc, bytes);
+        let shared = self.remote;
+        let mut remote = shared.lock(self.rt);
+        match self.turn(claim) {
+            Turn::Call => self.call(&mut remote, alloc, bytes, claim),
+            Turn::Made(outcome) => take_reply(&remote, outcome, bytes),
+            Turn::Passed => Err(passed(&remote)),
+        }
+    }
+
+    /// Its part in a call. Where memory is refused it has none, and makes a call that nobody else gets.
+    fn claim(&self, alloc: Global, bytes: &[u8]) -> Option<Claim> {
+        let mut flights = self.flights.lock(self.rt);
+        match flights.claim(alloc, bytes, &self.presence) {
+            Ok(claim) => Some(claim),
+            Err(_) => None,
+        }
+    }
+
+    /// What is to be done for its call.
+    fn turn(&self, claim: Option<Claim>) -> Turn {
+        match claim {
+            Some(claim) => self.flights.lock(self.rt).turn(claim),
+            None => Turn::Call,
+        }
+    }
+
+    /// Calls the server by the client that lies under the lock.
+    fn call(
+        &mut self,
+        remote: &mut Remote<C>,
+        alloc: Global,
+        bytes: &[u8],
+        claim: Option<Claim>,
+    ) -> Result<Option<Vec<u8>>, LinkFault>
+        requires { length bytes.now ≤ MAX_BODY }
+        ensures exchanged { IfOk result (λ r.
+            IsExchangedUnderLock bytes.now (option_map (λ v. v.items) r)) }
+        ensures stops { IfErr result (λ f. StopsUnderLock bytes.now f) }
+        ensures size { IfOk result (λ r. IfSome r (λ v. length v.items ≤ MAX_BODY)) }
+    {
+        let before = last_number(remote.client().client());
+        match call_once(remote, alloc, bytes) {
+            Ok(reply) => self.hand_out(remote, alloc, bytes, claim, reply),
+            Err(fault) => Err(self.failed(remote.client().client(), before, claim, fault)),
+        }
+    }
+
+    /// Notes that its call has failed, which was made after this number of the log.
+    fn failed(
+        &mut self,
+        client: &ClientNode,
+        before: u64,
+        claim: Option<Claim>,
+        fault: CallFault,
+    ) -> LinkFault
+        ensures { result ≡ call_fault fault }
+    {
+        let told = link_fault_of(&fault);
+        self.last_fault = Some(fault);
+        self.last_sent = sent_after(client, before);
+        self.fail(claim);
+        told
+    }
+
+    /// The reply to its call, where that still belongs to this connection.
+    fn hand_out(
+        &self,
+        remote: &Remote<C>,
+        alloc: Global,
+        bytes: &[u8],
+        claim: Option<Claim>,
+        reply: Option<Vec<u8>>,
+    ) -> Result<Option<Vec<u8>>, LinkFault>
+        requires exchanged { IsExchangedUnderLock bytes.now (option_map (λ v. v.items) reply) }
+        requires size { IfSome reply (λ v. length v.items ≤ MAX_BODY) }
+        ensures exchanged { IfOk result (λ r.
+            IsExchangedUnderLock bytes.now (option_map (λ v. v.items) r)) }
+        ensures stops { IfErr result (λ f. StopsUnderLock bytes.now f) }
+        ensures size { IfOk result (λ r. IfSome r (λ v. length v.items ≤ MAX_BODY)) }
+    {
+        match self.settle(alloc, bytes, claim, reply) {
+            Some(reply) => Ok(reply),
+            None => Err(passed(remote)),
+        }
+    }
+
+    /// The reply to its call, where that still belongs to this connection; else it is kept for the one that it
+    /// belongs to.
+    fn settle(
+        &self,
+        alloc: Global,
+        bytes: &[u8],
+        claim: Option<Claim>,
+        reply: Option<Vec<u8>>,
+    ) -> Option<Option<Vec<u8>>>
+        requires exchanged { IsExchangedUnderLock bytes.now (option_map (λ v. v.items) reply) }
+        requires size { IfSome reply (λ v. length v.items ≤ MAX_BODY) }
+        ensures exchanged { IfSome result (λ r.
+            IsExchangedUnderLock bytes.now (option_map (λ v. v.items) r)) }
+        ensures size { IfSome result (λ r. IfSome r (λ v. length v.items ≤ MAX_BODY)) }
+    {
+        let Some(claim) = claim else {
+            return Some(reply);
+        };
+        let mut flights = self.flights.lock(self.rt);
+        if flights.end(claim) {
+            return Some(reply);
+        }
+        let outcome = Outcome::of_reply(alloc, bytes, reply);
+        flights.keep(claim, outcome);
+        None
+    }
+
+    /// Its call has failed, also for the connection that it belongs to.
+    fn fail(&self, claim: Option<Claim>) {
+        let Some(claim) = claim else {
+            return;
+        };
+        let mut flights = self.flights.lock(self.rt);
+        if !flights.end(claim) {
+            flights.keep(claim, Outcome::Failed);
+        }
+    }
+}
+
+/// Calls the server by a client, as `Remote::call`.
+fn call_once<C: Courier + Drop>(
+    remote: &mut Remote<C>,
+    alloc: Global,
+    bytes: &[u8],
+) -> Result<Option<Vec<u8>>, CallFault>
+    requires { length bytes.now ≤ MAX_BODY }
+    ensures exchanged { IfOk result (λ r. IsExchangedUnderLock bytes.now (option_map (λ v. v.items) r)) }
+    ensures stops { IfErr result (λ f. StopsUnderLock bytes.now (call_fault f)) }
+    ensures size { IfOk result (λ r. IfSome r (λ v. length v.items ≤ MAX_BODY)) }
+{
+    remote.call(alloc, bytes)
+}
+
+/// The reply to a call that an earlier connection made.
+fn take_reply<C: Courier + Drop>(
+    remote: &Remote<C>,
+    outcome: Outcome,
+    bytes: &[u8],
+) -> Result<Option<Vec<u8>>, LinkFault>
+    ensures exchanged { IfOk result (λ r. IsExchangedUnderLock bytes.now (option_map (λ v. v.items) r)) }
+    ensures stops { IfErr result (λ f. StopsUnderLock bytes.now f) }
+    ensures size { IfOk result (λ r. IfSome r (λ v. length v.items ≤ MAX_BODY)) }
+{
+    match outcome.reply_to(bytes) {
+        Some(reply) => Ok(reply),
+        None => Err(passed(remote)),
+    }
+}
+
+/// The fault of a call that another connection made, or is to make. The client is as it was.
+fn passed<C: Courier + Drop>(remote: &Remote<C>) -> LinkFault
+    ensures { (body : List ℕ) → StopsUnderLock body result }
+{
+    let _client = remote.client().client();
+    LinkFault::Failed
+}
+
+/// A call's fault, as one of the link.
+fn link_fault_of(fault: &CallFault) -> LinkFault
+    ensures { result ≡ call_fault fault.now }
+{
+    (*fault).link_fault()
+}
+
+/// The last number of a client's log.
+fn last_number(client: &ClientNode) -> u64 {
+    client.node().log().last_number().get()
+}
+
+/// The number of the first SEND of a client's log after a number, if there is one.
+fn sent_after(client: &ClientNode, before: u64) -> Option<u64> {
+    let last = last_number(client);
+    for number in before.saturating_add(1)..=last {
+        if client.envelope(number).is_some() {
+            return Some(number);
+        }
+    }
+    None
+}
+
+/// Its exchanges are what `carry` says, and so are its faults.
+impl<'a, R: Wait, C: Courier + Drop, P: Presence> Link for SharedRemote<'a, R, C, P> {
+    ghost exchanges = { λ d time bytes reply d'. Exchanges d time bytes reply d' };
+
+    ghost fails = { λ d time bytes e d'. Fails d time bytes e d' };
+
+    fn exchange(
+        &mut self,
+        alloc: Global,
+        _time: Time,
+        bytes: &[u8],
+    ) -> Result<Option<Vec<u8>>, LinkFault> {
+        self.carry(alloc, bytes)
+    }
+}
+
+/// Answers each record of a local program's stream by the client that lies under a lock, as
+/// `remote::serve_local`. What the program gets is the records of the replies to its own calls, in the order
+/// of its calls, and nothing else, whatever other programs call at the same time.
+pub fn serve_shared<
+    'a,
+    L: Wait,
+    C: Courier + Drop,
+    P: Presence,
+    K: Clock,
+    R: Read + Drop,
+    W: Write,
+>(
+    gateway: &mut Gateway,
+    alloc: Global,
+    link: &mut SharedRemote<'a, L, C, P>,
+    clock: &mut K,
+    reader: &mut RecordReader<R>,
+    writer: &mut Counting<W>,
+) -> Result<Served, StreamFault>
+    ensures exchanged { IfOk result (λ done. (made : List Exchange) × (length made ≡ done.records)
+        × StopsAfterRecords (text_given made)
+        (IsAsked Exchanges Fails link.old link.new (K.readings clock.old) (K.readings clock.new) made
+        result) TakesNothing (R.remaining reader.old.reader.inner) (R.remaining reader.new.reader.inner)
+        (W.contents writer.old.inner) (W.contents writer.new.inner)) }
+    ensures asked { IfErr result (λ e. gateway.old ≡ false → reader.old.fault ≡ None →
+        (made : List Exchange) × LeavesOff e reader.new.fault (text_given made)
+        (IsAsked Exchanges Fails link.old link.new (K.readings clock.old) (K.readings clock.new) made
+        result) (R.remaining reader.old.reader.inner) (R.remaining reader.new.reader.inner)
+        (W.contents writer.old.inner) (W.contents writer.new.inner)) }
+    ensures failed { gateway.new ≡ is_err result }
+{
+    gateway.serve_stream(alloc, link, clock, reader, writer)
+}
