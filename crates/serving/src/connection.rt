@@ -1,7 +1,6 @@
 //! One connection: its client's records, and then the client's audit.
 
 use crate::checks::{Checking, Checks};
-use crate::clock::SystemClock;
 use crate::link::{CheckingLink, ClientLink};
 use crate::members::SERVER;
 use crate::phase::Phase;
@@ -17,6 +16,7 @@ use std::net::{SocketAddr, TcpStream};
 use std::os::unix::net::UnixListener;
 use std::sync::{Mutex, Wait};
 use std::thread::Threads;
+use system_clock::SystemClock;
 
 /// The bytes that are read of a stream at once.
 const READ_AHEAD: usize = 65536;

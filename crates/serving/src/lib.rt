@@ -3,7 +3,6 @@
 #![tactic(auto)]
 
 mod checks;
-mod clock;
 mod connection;
 mod control;
 mod link;
@@ -15,7 +14,6 @@ mod run;
 mod stream;
 
 pub use auditing::NodeReport;
-pub use clock::SystemClock;
 pub use node_keys::Masters;
 pub use nodes::{ClientNode, ServerNode};
 pub use order::Order;

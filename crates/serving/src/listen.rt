@@ -5,6 +5,7 @@ ghost use Rattle.std.specs.Prelude.{◌≡◌, ◌+◌, ◌≤◌, vec_len, vec_
 use crate::connection::{ConnectionContext, EndedClient, WaitingClient, serve_connection};
 use crate::control::attend;
 use auditing::Shelf;
+use sockets::{AcceptTrouble, trouble_of};
 use std::alloc::AllocError;
 use std::io::{self, Write};
 use std::net::{OpenListener, SocketAddr, TcpStream};
@@ -16,35 +17,11 @@ use std::time::Duration;
 /// How many milliseconds a listener waits that can give no connection for now.
 const PAUSE: u64 = 50;
 
-/// The error numbers of a shortage, in which no connection is accepted for now: too many open files in the
-/// system (23) or in the program (24), no memory (12), no room for buffers (105).
-const SHORTAGES: [i32; 4] = [23, 24, 12, 105];
-
 /// A connection that a thread serves, or one that has ended.
 #[derive(Drop)]
 enum Connection {
     Running(JoinHandle<EndedClient>),
     Ended(EndedClient),
-}
-
-/// Whether an error of `accept` says that a connection was aborted before it was accepted.
-fn is_of_connection(error: &io::Error) -> bool {
-    matches!(
-        error.kind(),
-        io::ErrorKind::ConnectionAborted
-            | io::ErrorKind::ConnectionReset
-            | io::ErrorKind::HostUnreachable
-            | io::ErrorKind::NetworkDown
-            | io::ErrorKind::NetworkUnreachable
-    )
-}
-
-/// Whether an error of `accept` passes once others have closed their files or freed their memory.
-fn is_shortage(error: &io::Error) -> bool {
-    match error.raw_os_error() {
-        Some(code) => SHORTAGES.contains(&code),
-        None => false,
-    }
 }
 
 /// Accepts the next connection: none once the run is to end, or where the listener fails, which is said. A
@@ -66,18 +43,21 @@ where
         if context.is_stopping() {
             return None;
         }
-        match listener.accept() {
+        let error = match listener.accept() {
             Ok(connection) => return Some(connection),
-            Err(error) if is_of_connection(&error) => {}
-            Err(error) if error.kind() == io::ErrorKind::WouldBlock => pause(context),
-            Err(error) if is_shortage(&error) => {
+            Err(error) => error,
+        };
+        match trouble_of(&error) {
+            AcceptTrouble::Aborted => {}
+            AcceptTrouble::Nobody => pause(context),
+            AcceptTrouble::Shortage => {
                 if !is_short {
                     say_shortage(context, &error);
                 }
                 is_short = true;
                 pause(context);
             }
-            Err(error) => {
+            AcceptTrouble::Broken => {
                 say_refused(context, &error);
                 return None;
             }

@@ -3,8 +3,8 @@
 ghost use Rattle.std.specs.Prelude.{◌≡◌, ◌<◌, ◌^◌, ◌/◌, ◌%◌, ◌↔◌, IfSome, IsSome};
 ghost use Rattle.std.specs.Duration.{as_nanos};
 
+use gateway::links::Clock;
 use nfs_items::Time;
-use nodes::Clock;
 use std::time::Duration;
 
 /// The system's time since 1970, in microseconds. Where the system's clock fails, or reads a time past 2^32

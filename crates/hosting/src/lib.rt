@@ -1,0 +1,8 @@
+//! What a server answers to the calls of nodes and witnesses on other hosts.
+#![tactic(auto)]
+
+mod host;
+mod results;
+
+pub use host::{Host, answer_request};
+pub use request_streams::Outcome;

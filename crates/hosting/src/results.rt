@@ -1,0 +1,199 @@
+//! What is asked of a server is done, and its results are written.
+
+ghost use Rattle.std.specs.Prelude.{◌≡◌, ◌++◌, List, ℕ, None, OnErr, OnOk, Option, Some};
+ghost use Rattle.xdr.specs.Writing.{Adds};
+ghost use Rattle.envelopes.specs.Acknowledgement.{ack_in};
+ghost use Rattle.envelopes.specs.Envelope.{envelope_in};
+ghost use Rattle.commitment.specs.RefusalNumbers.{refusal_number};
+ghost use Rattle.commitment.specs.Senders.LookUps.{IsLastSigned};
+ghost use Rattle.node_logs.specs.Nodes.{sender_of};
+ghost use Rattle.peer_calls.specs.Answers.{Taken, delivered_text};
+ghost use Rattle.peer_calls.specs.NodeRequests.{node_ask};
+ghost use Rattle.hosting.specs.Hosting.{Does, IsAckTold, IsAudited, IsDelivered, IsGreeted, IsNumber, IsShown};
+ghost use Rattle.hosting.specs.Hosting.{IsSignedText, MayDo, ack_spelling, audited_text, reply_spelling};
+
+use crate::host::Host;
+use authenticator::{LogVersion, is_same_hash};
+use commitment::{Received, Refusal};
+use envelopes::{AckRef, EnvelopeRef};
+use nfs_items::Time;
+use node_logs::{AckTaken, Receipt};
+use nodes::{HonestServer, ServerNode};
+use packets::{write_ack, write_answer_text, write_challenge, write_learn};
+use peer_calls::{After, Greeting, NodeRequest, Numbers};
+use secure_log::SegmentFault;
+use std::alloc::{AllocError, Global};
+use xdr::Writer;
+
+/// The results of a procedure that was done, and of one that was done before (section 4.5 of RFC 4506: words).
+const DONE: u32 = 0;
+
+const BEFORE: u32 = 10;
+
+/// Has a request done, and appends its results. Where memory is refused, a part of them may stand.
+pub(crate) fn add_results(
+    server: &mut HonestServer,
+    alloc: Global,
+    time: Time,
+    host: &Host,
+    request: &NodeRequest<'_>,
+    out: &mut Vec<u8>,
+) -> Result<(), AllocError>
+    ensures done { OnOk result ((results : List ℕ)
+        × Does host.now server.old time (node_ask request.now) results server.new
+        × (out.new.items ≡ out.old.items ++ results)) }
+    ensures refused { OnErr result (MayDo server.old time (node_ask request.now) server.new) }
+{
+    match request {
+        NodeRequest::Null => Ok(()),
+        NodeRequest::Greet(greeting) => add_greeted(greeting, host, out),
+        NodeRequest::Deliver(text) => {
+            let received = server.receive(alloc, time, text);
+            add_delivered(server.server(), received, out)
+        }
+        NodeRequest::Acknowledge(text) => add_ack_told(server.take_ack(alloc, text), out),
+        NodeRequest::Signed(after) => add_signed(server.server(), alloc, after, out),
+        NodeRequest::Segment(numbers) => add_segment(server.server(), alloc, numbers, out),
+    }
+}
+
+/// Appends whether both go by one roster.
+fn add_greeted(greeting: &Greeting, host: &Host, out: &mut Vec<u8>) -> Result<(), AllocError>
+    ensures { OnOk result ((results : List ℕ) × IsGreeted greeting.now.digest host.now.digest results
+        × (out.new.items ≡ out.old.items ++ results)) }
+{
+    if is_same_hash(&greeting.digest, &host.digest) {
+        return out.put_u32(0);
+    }
+    out.put_u32(1)?;
+    out.put_fixed(&host.digest)
+}
+
+/// Appends a refusal's number. Being out of memory has none, and is given back.
+fn add_refusal(refusal: Refusal, out: &mut Vec<u8>) -> Result<(), AllocError>
+    ensures { OnOk result ((results : List ℕ) × IsNumber (refusal_number refusal) results
+        × (out.new.items ≡ out.old.items ++ results)) }
+{
+    match refusal.number() {
+        Some(number) => out.put_u32(number),
+        None => Err(AllocError),
+    }
+}
+
+/// Appends what a server shows of a message that it received, or its refusal.
+fn add_delivered(
+    server: &ServerNode,
+    received: Result<Received<Receipt>, Refusal>,
+    out: &mut Vec<u8>,
+) -> Result<(), AllocError>
+    ensures { OnOk result ((results : List ℕ) × IsDelivered received server.now results
+        × (out.new.items ≡ out.old.items ++ results)) }
+{
+    match received {
+        Ok(Received::New(receipt)) | Ok(Received::Repeat(receipt)) => {
+            add_shown(server, &receipt, out)
+        }
+        Err(refusal) => add_refusal(refusal, out),
+    }
+}
+
+/// Appends the acknowledgement of a message, and the envelope of its reply, if one is owed.
+fn add_shown(server: &ServerNode, receipt: &Receipt, out: &mut Vec<u8>) -> Result<(), AllocError>
+    ensures { OnOk result ((results : List ℕ) × IsShown server.now receipt.now results
+        × (out.new.items ≡ out.old.items ++ results)) }
+{
+    let Some(ack) = server.ack(receipt.ack.get()) else {
+        return Err(AllocError);
+    };
+    let Some(number) = receipt.reply else {
+        return add_ack(&ack, out);
+    };
+    let Some(envelope) = server.envelope(number.get()) else {
+        return Err(AllocError);
+    };
+    add_ack_and_reply(&ack, &envelope, out)
+}
+
+/// Appends an acknowledgement to which no reply belongs.
+fn add_ack(ack: &AckRef<'_>, out: &mut Vec<u8>) -> Result<(), AllocError>
+    ensures { Adds (delivered_text (Taken (ack_spelling (ack_in ack.now)) None)) out.old.items result out.new.items }
+{
+    out.put_u32(DONE)?;
+    write_ack(ack, out)?;
+    out.put_bool(false)
+}
+
+/// Appends an acknowledgement and the envelope of the reply.
+fn add_ack_and_reply(
+    ack: &AckRef<'_>,
+    envelope: &EnvelopeRef<'_>,
+    out: &mut Vec<u8>,
+) -> Result<(), AllocError>
+    ensures { Adds (delivered_text (Taken (ack_spelling (ack_in ack.now))
+        (reply_spelling (Some (envelope_in envelope.now))))) out.old.items result out.new.items }
+{
+    out.put_u32(DONE)?;
+    write_ack(ack, out)?;
+    out.put_bool(true)?;
+    write_challenge(envelope, out)
+}
+
+/// Appends what became of an acknowledgement.
+fn add_ack_told(taken: Result<AckTaken, Refusal>, out: &mut Vec<u8>) -> Result<(), AllocError>
+    ensures { OnOk result ((results : List ℕ) × IsAckTold taken results
+        × (out.new.items ≡ out.old.items ++ results)) }
+{
+    match taken {
+        Ok(AckTaken::Logged(_)) => out.put_u32(DONE),
+        Ok(AckTaken::Already) => out.put_u32(BEFORE),
+        Err(refusal) => add_refusal(refusal, out),
+    }
+}
+
+/// Appends the last authenticator after a number, if there is one.
+fn add_signed(
+    server: &ServerNode,
+    alloc: Global,
+    after: &After,
+    out: &mut Vec<u8>,
+) -> Result<(), AllocError>
+    ensures { OnOk result ((results : List ℕ)
+        × ((l : Option ℕ) × IsLastSigned (sender_of server.now) after.now.number l
+        × IsSignedText (sender_of server.now) l results)
+        × (out.new.items ≡ out.old.items ++ results)) }
+{
+    let Some(number) = server.signed_after(after.number) else {
+        return out.put_bool(false);
+    };
+    let Some(authenticator) = server.authenticator(alloc, number.get())? else {
+        return Err(AllocError);
+    };
+    out.put_bool(true)?;
+    write_learn(&authenticator, out)
+}
+
+/// Appends a segment, or why there is none.
+fn add_segment(
+    server: &ServerNode,
+    alloc: Global,
+    numbers: &Numbers,
+    out: &mut Vec<u8>,
+) -> Result<(), AllocError>
+    ensures { OnOk result ((results : List ℕ) × IsAudited server.now numbers.now.first numbers.now.last results
+        × (out.new.items ≡ out.old.items ++ results)) }
+{
+    match server.answer_challenge(alloc, numbers.first, numbers.last) {
+        Ok(text) => add_answer(server.log_version(), &text, out),
+        Err(SegmentFault::OutOfRange) => out.put_u32(1),
+        Err(SegmentFault::TooLong) => out.put_u32(2),
+        Err(_) => Err(AllocError),
+    }
+}
+
+/// Appends a segment's packet.
+fn add_answer(version: LogVersion, text: &[u8], out: &mut Vec<u8>) -> Result<(), AllocError>
+    ensures { Adds (audited_text version text.now) out.old.items result out.new.items }
+{
+    out.put_u32(DONE)?;
+    write_answer_text(version, text, out)
+}

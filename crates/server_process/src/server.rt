@@ -1,0 +1,256 @@
+//! A server with its node: connections as they come, each in a thread of its own.
+
+use crate::locked::LockedServer;
+use frames::FrameReader;
+use hosting::Host;
+use nodes::HonestServer;
+use peer_connections::{
+    Accepting, Output, PeerStream, Phase, Place, Waiting, attend, set_timeouts,
+};
+use request_streams::{ServeEnd, ServeFault, serve_requests};
+use rpc::records::Counting;
+use secure_log::log_entries::Entry;
+use std::alloc::{AllocError, Global};
+use std::io::{BufReader, Write};
+use std::net::{OpenListener, SocketAddr, TcpStream};
+use std::os::unix::net::UnixListener;
+use std::sync::{Mutex, Wait};
+use std::thread;
+use std::thread::{Scope, Threads};
+use system_clock::SystemClock;
+
+/// The bytes that are read of a stream at once.
+const READ_AHEAD: usize = 65536;
+
+/// What a server serves.
+#[derive(Drop)]
+pub struct ServerOrder<'a, L> {
+    /// The server, with its keys.
+    pub server: HonestServer,
+    /// The digest of its roster's text.
+    pub digest: [u8; 32],
+    /// Where clients connect.
+    pub listener: L,
+    /// Where audits are answered, if not at the first address too.
+    pub audits: Option<L>,
+    /// The control socket, by which the process can be told to stop.
+    pub control: Option<&'a UnixListener>,
+}
+
+/// Why a server no longer serves.
+#[derive(Clone, Copy, Debug, PartialEq, Eq)]
+pub enum Ending {
+    /// It was told to stop, or a listener failed.
+    Stopped,
+    /// Its keys are used up, after it received so many messages.
+    KeysUsedUp { calls: u64 },
+}
+
+/// What all connections of a server share.
+struct Context<'a, R, T, W, E> {
+    rt: &'a R,
+    alloc: Global,
+    clock: &'a T,
+    server: &'a Mutex<HonestServer>,
+    phase: &'a Mutex<Phase>,
+    output: &'a Mutex<Output<W, E>>,
+    digest: [u8; 32],
+}
+
+impl<'a, R, T, W, E> Clone for Context<'a, R, T, W, E> {
+    fn clone(&self) -> Result<Context<'a, R, T, W, E>, AllocError> {
+        Ok(*self)
+    }
+}
+
+impl<'a, R, T, W, E> Copy for Context<'a, R, T, W, E> {}
+
+/// Serves until the process is told to stop, or the server's keys are used up: then the calls in hand are answered
+/// first. Lines go to the output. Gives why it ended.
+pub fn host_server<'a, R, T, L, W, E>(
+    rt: &'a R,
+    alloc: Global,
+    clock: &'a T,
+    order: ServerOrder<'a, L>,
+    output: &'a Mutex<Output<W, E>>,
+) -> Ending
+where
+    R: Threads + Wait + Sync,
+    T: std::time::Clock + Sync,
+    L: OpenListener<Stream = TcpStream> + Drop + Sync,
+    W: Write + Send,
+    E: Write + Send,
+{
+    let ServerOrder {
+        server,
+        digest,
+        listener,
+        audits,
+        control,
+    } = order;
+    let server = Mutex::new(server);
+    let phase = Mutex::new(Phase::Serving);
+    serve_until_end(
+        rt,
+        alloc,
+        clock,
+        &phase,
+        output,
+        &server,
+        digest,
+        &listener,
+        audits.as_ref(),
+        control,
+    );
+    end_of(rt, &phase, &server)
+}
+
+/// Serves until the process is to end, and all connections have ended.
+fn serve_until_end<'a, R, T, L, W, E>(
+    rt: &'a R,
+    alloc: Global,
+    clock: &'a T,
+    phase: &'a Mutex<Phase>,
+    output: &'a Mutex<Output<W, E>>,
+    server: &'a Mutex<HonestServer>,
+    digest: [u8; 32],
+    first: &'a L,
+    second: Option<&'a L>,
+    control: Option<&'a UnixListener>,
+)
+where
+    R: Threads + Wait + Sync,
+    T: std::time::Clock + Sync,
+    L: OpenListener<Stream = TcpStream> + Sync,
+    W: Write + Send,
+    E: Write + Send,
+{
+    let accepting = Accepting {
+        rt,
+        alloc,
+        clock,
+        phase,
+        output,
+        first,
+        second,
+    };
+    let context = Context {
+        rt,
+        alloc,
+        clock,
+        server,
+        phase,
+        output,
+        digest,
+    };
+    thread::scope(thread::scope_env(), context.rt, |scope| {
+        if let Some(control) = control {
+            let run = move || attend(context.rt, context.clock, context.phase, control);
+            let _ = scope.spawn(run);
+        }
+        serve_all(context, accepting, scope)
+    });
+}
+
+/// Why the process no longer serves.
+fn end_of<R: Wait>(rt: &R, phase: &Mutex<Phase>, server: &Mutex<HonestServer>) -> Ending {
+    match *phase.lock(rt) {
+        Phase::KeysUsedUp => Ending::KeysUsedUp {
+            calls: count_received(server.lock(rt).server().node().log().entries()),
+        },
+        Phase::Serving | Phase::Stopping => Ending::Stopped,
+    }
+}
+
+/// How many messages were received, by the entries of a log.
+fn count_received(entries: &[Entry]) -> u64 {
+    let mut count = 0_u64;
+    for entry in entries {
+        if let Entry::Recv { .. } = entry {
+            count = count.saturating_add(1);
+        }
+    }
+    count
+}
+
+/// Accepts connections, and starts a thread for each. With two listeners segments are given out at the second alone.
+fn serve_all<'s, V, R, T, L, W, E>(
+    context: Context<'s, R, T, W, E>,
+    accepting: Accepting<'s, R, T, L, W, E>,
+    scope: &Scope<'s, V>,
+)
+where
+    R: Threads + Wait + Sync,
+    T: std::time::Clock + Sync,
+    L: OpenListener<Stream = TcpStream>,
+    W: Write + Send,
+    E: Write + Send,
+{
+    accepting.begin();
+    let is_alone = accepting.second.is_none();
+    for _ in 0..u64::MAX {
+        let Some((stream, address, place)) = accepting.next() else {
+            return;
+        };
+        let gives_segments = is_alone || place == Place::Second;
+        let run = move || serve_peer(context, stream, address, gives_segments);
+        // Where no thread can be made the connection is closed.
+        let _ = scope.spawn(run);
+    }
+}
+
+/// Serves a peer's connection to its end.
+fn serve_peer<R, T, W, E>(
+    context: Context<'_, R, T, W, E>,
+    stream: TcpStream,
+    address: SocketAddr,
+    gives_segments: bool,
+)
+where
+    R: Threads + Wait + Sync,
+    T: std::time::Clock,
+    W: Write,
+    E: Write,
+{
+    if let Err(fault) = serve_records(context, &stream, gives_segments) {
+        let line = format!(in context.alloc; "nfsacc: {address}: {fault}\n");
+        context.output.lock(context.rt).say(line);
+    }
+}
+
+/// Answers the records of a connection to its end.
+fn serve_records<R, T, W, E>(
+    context: Context<'_, R, T, W, E>,
+    stream: &TcpStream,
+    gives_segments: bool,
+) -> Result<ServeEnd, ServeFault>
+where
+    R: Threads + Wait + Sync,
+    T: std::time::Clock,
+    W: Write,
+    E: Write,
+{
+    let Context {
+        rt,
+        alloc,
+        clock,
+        phase,
+        ..
+    } = context;
+    // Where it can't be set, replies come later, and nothing else changes.
+    let _ = stream.set_nodelay(true);
+    set_timeouts(stream);
+    let waiting = Mutex::new(Waiting::new());
+    let input = PeerStream::new(rt, clock, stream, phase, &waiting);
+    let Ok(input) = BufReader::with_capacity(alloc, READ_AHEAD, input) else {
+        return Err(ServeFault::NoMemory);
+    };
+    let mut reader = FrameReader::new(Counting::new(input));
+    let mut writer = Counting::new(PeerStream::new(rt, clock, stream, phase, &waiting));
+    let host = Host {
+        digest: context.digest,
+        gives_segments,
+    };
+    let mut locked = LockedServer::new(rt, context.server, SystemClock::new(clock), host, phase);
+    serve_requests(alloc, &mut locked, &mut reader, &mut writer)
+}
