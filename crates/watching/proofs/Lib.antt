@@ -1,0 +1,9 @@
+pub mod OfEnds
+pub mod OfPutting
+pub mod OfOpening
+pub mod OfEnding
+pub mod OfDelivering
+pub mod OfAsking
+pub mod OfTelling
+pub mod OfResults
+pub mod OfAnswering

@@ -1,0 +1,4 @@
+pub mod Ends
+pub mod Telling
+pub mod Answers
+pub mod Segments

@@ -1,0 +1,18 @@
+//! What a witness says to others: the answers of its books to calls, and the line of a node.
+#![tactic(auto)]
+
+mod answer;
+mod bound;
+mod deliver;
+mod ends;
+pub mod laws;
+mod results;
+mod standing;
+mod told;
+
+pub use answer::{Outcome, answer_request};
+pub use bound::{MOST, SegmentsAsked};
+pub use deliver::Delivered;
+pub use results::{Host, Opened};
+pub use standing::Standing;
+pub use told::NodeTold;

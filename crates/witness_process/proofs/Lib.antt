@@ -1,0 +1,2 @@
+pub mod UnderLock
+pub mod OfLines

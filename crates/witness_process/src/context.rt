@@ -1,0 +1,66 @@
+//! What all threads of a witness are handed.
+
+use crate::watch::Watch;
+use authenticator::Roster;
+use peer_connections::{Output, Phase, is_serving};
+use std::alloc::{AllocError, Global};
+use std::sync::{Mutex, MutexGuard, Wait};
+use std::time::{Clock, Duration};
+
+/// How many milliseconds pass between two looks at the phase.
+const PAUSE: u64 = 100;
+
+/// What all threads of a witness are handed.
+pub(crate) struct Context<'a, R, T, W, E, S> {
+    pub(crate) rt: &'a R,
+    pub(crate) alloc: Global,
+    pub(crate) clock: &'a T,
+    pub(crate) roster: &'a Roster,
+    pub(crate) digest: [u8; 32],
+    pub(crate) watch: &'a Mutex<Watch>,
+    pub(crate) phase: &'a Mutex<Phase>,
+    pub(crate) output: &'a Mutex<Output<W, E>>,
+    pub(crate) shelf: &'a Mutex<S>,
+    pub(crate) evidence: Option<&'a str>,
+    pub(crate) every: u32,
+    pub(crate) patience: u32,
+    pub(crate) workers: usize,
+}
+
+impl<'a, R, T, W, E, S> Clone for Context<'a, R, T, W, E, S> {
+    fn clone(&self) -> Result<Context<'a, R, T, W, E, S>, AllocError> {
+        Ok(*self)
+    }
+}
+
+impl<'a, R, T, W, E, S> Copy for Context<'a, R, T, W, E, S> {}
+
+impl<'a, R: Wait, T: Clock, W, E, S> Context<'a, R, T, W, E, S> {
+    /// What all threads share, with the clock read.
+    pub(crate) fn lock(&self) -> MutexGuard<'a, Watch> {
+        let mut watch = self.watch.lock(self.rt);
+        watch.look(self.clock);
+        watch
+    }
+
+    /// Whether the process still serves.
+    pub(crate) fn is_serving(&self) -> bool {
+        is_serving(self.rt, self.phase)
+    }
+
+    /// Waits a moment.
+    pub(crate) fn pause(&self) {
+        self.clock.sleep(Duration::from_millis(PAUSE));
+    }
+
+    /// Waits for some seconds, at least 1. Says whether the process still serves.
+    pub(crate) fn wait(&self, seconds: u32) -> bool {
+        for _ in 0..u64::from(seconds.max(1)) * (1000 / PAUSE) {
+            if !self.is_serving() {
+                return false;
+            }
+            self.pause();
+        }
+        self.is_serving()
+    }
+}

@@ -1,0 +1,23 @@
+//! The process of a witness on a host of its own.
+#![tactic(auto)]
+
+mod account;
+mod answering;
+mod brought;
+mod context;
+mod due;
+mod evidence;
+mod filing;
+mod links;
+mod opened;
+mod orders;
+mod printing;
+mod rounds;
+mod rows;
+mod times;
+mod visits;
+mod watch;
+mod witness;
+
+pub use orders::{Ending, WatchedServer, WitnessOrder};
+pub use witness::run_witness;

@@ -1,0 +1,205 @@
+//! The connections of a witness to the servers that it audits.
+
+use crate::context::Context;
+use crate::orders::WatchedServer;
+use crate::printing::say_line;
+use hex::encode;
+use peer_calls::{Greeted, Greeting, NodeRequest, ResultsFault, read_greeted};
+use peer_connections::{CallFault, PeerCaller};
+use std::alloc::{AllocError, Global};
+use std::io::{self, Write};
+use std::net::{Net, TcpListener, TcpStream};
+use std::sync::Wait;
+use std::time::Clock;
+use thiserror::Error;
+
+/// The most bytes of an answer to GREET.
+const MOST_GREETED: u32 = 60;
+
+/// A server that is audited, and the connection to it.
+#[derive(Drop)]
+pub(crate) struct Link<'a> {
+    /// Its number.
+    pub(crate) node: u32,
+    /// Where it answers audits.
+    pub(crate) address: &'a str,
+    /// The connection, where one stands from the round before.
+    pub(crate) caller: Option<PeerCaller>,
+    /// The digest of its roster, where it greeted with another one.
+    pub(crate) other: Option<[u8; 32]>,
+    /// What was said of the connection last.
+    pub(crate) said: Option<String>,
+}
+
+/// Why a server can't be audited now.
+#[derive(Clone, Copy, Debug, Error)]
+pub(crate) enum Cause {
+    /// A growth was refused.
+    #[error("out of memory")]
+    NoMemory,
+    /// There is no connection.
+    #[error("{0}")]
+    NoConnection(io::Error),
+    /// The connection ended, or brought nothing in time.
+    #[error("the connection broke")]
+    Broken,
+    /// What came is no answer.
+    #[error("an answer that is none to the call")]
+    NoAnswer,
+    /// Its log hasn't the part that is asked for.
+    #[error("its log isn't shown from {first} to {last}")]
+    NotShown { first: u64, last: u64 },
+    /// What it showed isn't what it was asked for.
+    #[error("what it showed isn't what it was asked for")]
+    Refused,
+}
+
+impl Cause {
+    /// Whether it is that a log wasn't shown as it was asked for: the connection still stands.
+    pub(crate) fn is_of_log(&self) -> bool {
+        matches!(self, Cause::NotShown { .. } | Cause::Refused)
+    }
+}
+
+impl From<AllocError> for Cause {
+    fn from(_error: AllocError) -> Cause {
+        Cause::NoMemory
+    }
+}
+
+impl From<CallFault> for Cause {
+    fn from(fault: CallFault) -> Cause {
+        match fault {
+            CallFault::NoMemory => Cause::NoMemory,
+            CallFault::Broken => Cause::Broken,
+            CallFault::NoSuccess => Cause::NoAnswer,
+        }
+    }
+}
+
+impl From<ResultsFault> for Cause {
+    fn from(fault: ResultsFault) -> Cause {
+        match fault {
+            ResultsFault::NoMemory => Cause::NoMemory,
+            ResultsFault::Garbage => Cause::NoAnswer,
+        }
+    }
+}
+
+/// A link to each server, without a connection.
+pub(crate) fn links_to<'a>(
+    alloc: Global,
+    servers: &[WatchedServer<'a>],
+) -> Result<Vec<Link<'a>>, AllocError> {
+    let mut links = Vec::new(alloc);
+    for server in servers {
+        let link = Link {
+            node: server.node,
+            address: server.address,
+            caller: None,
+            other: None,
+            said: None,
+        };
+        if links.push(link).is_err() {
+            return Err(AllocError);
+        }
+    }
+    Ok(links)
+}
+
+impl Link<'_> {
+    /// The connection to the server: that of the round before, or a new one, on which both have greeted. None where the
+    /// server goes by another roster, which is said.
+    pub(crate) fn connect<R, T, W, E, S>(
+        &mut self,
+        context: Context<'_, R, T, W, E, S>,
+    ) -> Result<Option<PeerCaller>, Cause>
+    where
+        R: Wait + Net<Listener = TcpListener, Stream = TcpStream>,
+        T: Clock,
+        W: Write,
+        E: Write,
+    {
+        if let Some(caller) = self.caller.take() {
+            return Ok(Some(caller));
+        }
+        let mut caller = match PeerCaller::connect(context.rt, context.alloc, self.address) {
+            Ok(caller) => caller,
+            Err(error) => return Err(Cause::NoConnection(error)),
+        };
+        match greet(context.alloc, context.digest, &mut caller)? {
+            Greeted::Same => {
+                self.other = None;
+                Ok(Some(caller))
+            }
+            Greeted::Other(digest) => {
+                self.note_other(context, digest);
+                Ok(None)
+            }
+        }
+    }
+
+    /// Says that the server goes by another roster, once until it goes by yet another.
+    fn note_other<R, T, W, E, S>(&mut self, context: Context<'_, R, T, W, E, S>, digest: [u8; 32])
+    where
+        R: Wait,
+        T: Clock,
+        W: Write,
+        E: Write,
+    {
+        if self.other == Some(digest) {
+            return;
+        }
+        self.other = Some(digest);
+        say_line(context, other_line(context.alloc, self.node, &digest));
+    }
+
+    /// Says why the server can't be audited now, once until that changes.
+    pub(crate) fn note_cause<R, T, W, E, S>(
+        &mut self,
+        context: Context<'_, R, T, W, E, S>,
+        cause: &Cause,
+    )
+    where
+        R: Wait,
+        W: Write,
+        E: Write,
+    {
+        let Ok(line) = cause_line(context.alloc, self.node, self.address, cause) else {
+            return;
+        };
+        if let Some(said) = &self.said {
+            if said.as_str() == line.as_str() {
+                return;
+            }
+        }
+        context
+            .output
+            .lock(context.rt)
+            .say(String::from_str(context.alloc, &line));
+        self.said = Some(line);
+    }
+}
+
+/// Greets a server.
+fn greet(alloc: Global, digest: [u8; 32], caller: &mut PeerCaller) -> Result<Greeted, Cause> {
+    let greeting = Greeting { digest, node: 0 };
+    let answer = caller.ask_node(&NodeRequest::Greet(greeting), MOST_GREETED)?;
+    Ok(read_greeted(alloc, answer.results())?)
+}
+
+/// That a server goes by another roster.
+fn other_line(alloc: Global, node: u32, digest: &[u8; 32]) -> Result<String, AllocError> {
+    let digest = encode(alloc, digest.as_slice())?;
+    format!(in alloc; "{node} greets another roster sha256:{digest}")
+}
+
+/// Why a server can't be audited.
+fn cause_line(
+    alloc: Global,
+    node: u32,
+    address: &str,
+    cause: &Cause,
+) -> Result<String, AllocError> {
+    format!(in alloc; "nfsacc: server {node} at {address}: {cause}\n")
+}

@@ -1,0 +1,47 @@
+//! What a witness watches.
+
+use authenticator::Roster;
+use std::os::unix::net::UnixListener;
+
+/// A server that is audited.
+#[derive(Clone, Copy, Debug)]
+pub struct WatchedServer<'a> {
+    /// Its number in the roster.
+    pub node: u32,
+    /// Where it answers audits, as HOST:PORT.
+    pub address: &'a str,
+}
+
+/// What a witness watches.
+#[derive(Drop)]
+pub struct WitnessOrder<'a, L, S> {
+    /// The members of the service.
+    pub roster: Roster,
+    /// The digest of the roster's text.
+    pub digest: [u8; 32],
+    /// The servers that are audited.
+    pub servers: &'a [WatchedServer<'a>],
+    /// The seconds between two rounds, at least 1.
+    pub every: u32,
+    /// A node is called suspected once a challenge to it has been open for more than so many seconds.
+    pub patience: u32,
+    /// The folder where evidence is put, if it is to be put anywhere.
+    pub evidence: Option<&'a str>,
+    /// Where files are put.
+    pub shelf: S,
+    /// Where gateways and others connect.
+    pub listener: L,
+    /// The control socket, by which the process can be told to stop.
+    pub control: Option<&'a UnixListener>,
+    /// How many threads replay at once, 1 to 16; another number counts as the nearest of these.
+    pub workers: usize,
+}
+
+/// Why a witness no longer runs.
+#[derive(Clone, Copy, Debug, PartialEq, Eq)]
+pub enum Ending {
+    /// It was told to stop, or the listener failed.
+    Stopped,
+    /// Memory was refused for its books or its rounds, or for a replay that was to go back to the books.
+    NoMemory,
+}

@@ -1,0 +1,90 @@
+//! What a witness keeps of a node beside its books.
+
+ghost use Rattle.std.specs.Prelude.{IfSome};
+ghost use Rattle.witness_process.specs.Lines.{IsSaidAt};
+
+use crate::account::Account;
+use crate::due::{Saying, line_due, seconds_open};
+use crate::opened::{OpenChallenge, Wanted, note_opened, oldest_of, open_after};
+use peer_calls::Numbers;
+use std::alloc::{AllocError, Global};
+use watching::{Host, Standing};
+
+/// What a witness keeps of a node beside its books.
+#[derive(Drop)]
+pub(crate) struct Row {
+    /// The node.
+    pub(crate) node: u32,
+    /// What the books told of it.
+    account: Account,
+    /// Its open challenges, and since when each is.
+    challenges: Vec<OpenChallenge>,
+    /// What was said of it last.
+    printed: Option<Saying>,
+    /// Whether the books may have changed since.
+    pub(crate) is_stale: bool,
+    /// Whether a segment of its log came that is to be replayed.
+    pub(crate) has_given: bool,
+    /// Whether the evidence against it was put in its place.
+    pub(crate) has_evidence: bool,
+}
+
+impl Row {
+    /// What is kept of a node of which nothing was said.
+    pub(crate) fn new(alloc: Global, node: u32, account: Account) -> Row {
+        Row {
+            node,
+            account,
+            challenges: Vec::new(alloc),
+            printed: None,
+            is_stale: false,
+            has_given: false,
+            has_evidence: false,
+        }
+    }
+
+    /// Asks the books what they say of the node, and which challenges to it are open. Where memory is refused it is
+    /// still stale.
+    pub(crate) fn refresh(
+        &mut self,
+        alloc: Global,
+        standing: &mut Standing,
+        host: &mut Host,
+    ) -> Result<(), AllocError> {
+        self.is_stale = true;
+        let challenges = standing.wanted(alloc, self.node)?;
+        let listed = open_after(alloc, &challenges, &self.challenges, host.time)?;
+        if let Some(account) = Account::ask(standing, alloc, self.node)? {
+            self.account = account;
+        }
+        if let Some(oldest) = oldest_of(&listed) {
+            note_opened(&mut host.opened, self.node, oldest.since);
+        }
+        self.challenges = listed;
+        self.is_stale = false;
+        Ok(())
+    }
+
+    /// The line of the node that is due at a time, if one is. It counts as said.
+    #[tactic(auto, using(crate::proofs::OfLines::said_at))]
+    pub(crate) fn take_due(&mut self, time: u64, patience: u32) -> Option<Saying>
+        ensures { IfSome result (IsSaidAt time patience) }
+    {
+        let oldest = oldest_of(&self.challenges);
+        let seconds = seconds_open(oldest, time);
+        let told = self.account.told();
+        let saying = line_due(&told, oldest, seconds, patience, self.printed)?;
+        self.printed = Some(saying);
+        Some(saying)
+    }
+
+    /// The part of its log that is asked for, if an audit is open.
+    pub(crate) fn audit(&self) -> Option<Numbers> {
+        for challenge in &self.challenges {
+            if let Wanted::Segment { first, last } = challenge.wanted {
+                return Some(Numbers { first, last });
+            }
+        }
+        None
+    }
+}

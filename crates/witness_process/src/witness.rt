@@ -1,0 +1,292 @@
+//! A witness: it audits servers, and answers connections as they come, each in a thread of its own.
+
+use crate::answering::LockedWatch;
+use crate::context::Context;
+use crate::orders::{Ending, WatchedServer, WitnessOrder};
+use crate::rounds::{catch_up, go_round, keep_up};
+use crate::times::seconds_now;
+use crate::watch::Watch;
+use authenticator::Roster;
+use frames::FrameReader;
+use peer_connections::{
+    Accepting, Output, PeerStream, Phase, Waiting, attend, end_serving, set_timeouts,
+};
+use request_streams::{ServeEnd, ServeFault, serve_requests};
+use rpc::records::Counting;
+use std::alloc::{AllocError, Global};
+use std::io::{BufReader, Write};
+use std::net::{Net, OpenListener, SocketAddr, TcpListener, TcpStream};
+use std::os::unix::net::UnixListener;
+use std::sync::{Mutex, Wait};
+use std::thread;
+use std::thread::{Scope, Threads};
+use witness_calls::Shelf;
+
+/// The bytes that are read of a stream at once.
+const READ_AHEAD: usize = 65536;
+
+/// Audits the servers round by round and answers others, until the process is told to stop or the listener fails. What
+/// the books say of each member is said by a line whenever it has changed; other lines, as of a server that can't be
+/// reached, go to the errors. Gives why it ended. `NoMemory` comes where a growth was refused for the books or the
+/// rounds, before anything was done, where a replay couldn't be put back into the books, or for the last lines. It may take half a minute to stop, or as long as
+/// the system takes to give a connection up.
+pub fn run_witness<'a, R, T, L, S, W, E>(
+    rt: &'a R,
+    alloc: Global,
+    clock: &'a T,
+    order: WitnessOrder<'a, L, S>,
+    output: &'a Mutex<Output<W, E>>,
+) -> Ending
+where
+    R: Threads + Wait + Sync + Net<Listener = TcpListener, Stream = TcpStream>,
+    T: std::time::Clock + Sync,
+    L: OpenListener<Stream = TcpStream> + Drop + Sync,
+    S: Shelf + Drop + Send,
+    W: Write + Send,
+    E: Write + Send,
+{
+    let WitnessOrder {
+        roster,
+        digest,
+        servers,
+        every,
+        patience,
+        evidence,
+        shelf,
+        listener,
+        control,
+        workers,
+    } = order;
+    let Ok(watch) = open_watch(alloc, clock, &roster, digest) else {
+        return Ending::NoMemory;
+    };
+    let watch = Mutex::new(watch);
+    let phase = Mutex::new(Phase::Serving);
+    let shelf = Mutex::new(shelf);
+    let context = Context {
+        rt,
+        alloc,
+        clock,
+        roster: &roster,
+        digest,
+        watch: &watch,
+        phase: &phase,
+        output,
+        shelf: &shelf,
+        evidence,
+        every,
+        patience,
+        workers,
+    };
+    run_until_end(context, servers, &listener, control);
+    end_of(context)
+}
+
+/// New books, with a copy of the roster.
+fn open_watch<T: std::time::Clock>(
+    alloc: Global,
+    clock: &T,
+    roster: &Roster,
+    digest: [u8; 32],
+) -> Result<Watch, AllocError> {
+    let roster = roster.try_clone(alloc)?;
+    Watch::open(alloc, roster, digest, seconds_now(clock, 0))
+}
+
+/// Runs until the process is to end, and all threads have ended.
+fn run_until_end<'a, R, T, L, S, W, E>(
+    context: Context<'a, R, T, W, E, S>,
+    servers: &'a [WatchedServer<'a>],
+    listener: &'a L,
+    control: Option<&'a UnixListener>,
+)
+where
+    R: Threads + Wait + Sync + Net<Listener = TcpListener, Stream = TcpStream>,
+    T: std::time::Clock + Sync,
+    L: OpenListener<Stream = TcpStream> + Sync,
+    S: Shelf + Send,
+    W: Write + Send,
+    E: Write + Send,
+{
+    let accepting = Accepting {
+        rt: context.rt,
+        alloc: context.alloc,
+        clock: context.clock,
+        phase: context.phase,
+        output: context.output,
+        first: listener,
+        second: None,
+    };
+    thread::scope(thread::scope_env(), context.rt, |scope| {
+        run_threads(context, accepting, servers, control, scope)
+    });
+}
+
+/// Starts the threads, and accepts connections until the process is to end.
+fn run_threads<'s, V, R, T, L, W, E, S>(
+    context: Context<'s, R, T, W, E, S>,
+    accepting: Accepting<'s, R, T, L, W, E>,
+    servers: &'s [WatchedServer<'s>],
+    control: Option<&'s UnixListener>,
+    scope: &Scope<'s, V>,
+)
+where
+    R: Threads + Wait + Sync + Net<Listener = TcpListener, Stream = TcpStream>,
+    T: std::time::Clock + Sync,
+    L: OpenListener<Stream = TcpStream>,
+    S: Shelf + Send,
+    W: Write + Send,
+    E: Write + Send,
+{
+    attend_control(context, control, scope);
+    start_rounds(context, servers, scope);
+    serve_all(context, accepting, scope)
+}
+
+/// Starts the thread that waits for the command to stop, if there is a control socket.
+fn attend_control<'s, V, R, T, W, E, S>(
+    context: Context<'s, R, T, W, E, S>,
+    control: Option<&'s UnixListener>,
+    scope: &Scope<'s, V>,
+)
+where
+    R: Threads + Wait + Sync,
+    T: std::time::Clock + Sync,
+{
+    let Some(control) = control else {
+        return;
+    };
+    let Context {
+        rt,
+        clock,
+        phase,
+        ..
+    } = context;
+    let run = move || attend(rt, clock, phase, control);
+    let _ = scope.spawn(run);
+}
+
+/// Starts the threads that go round the servers and keep up with what is pushed.
+fn start_rounds<'s, V, R, T, W, E, S>(
+    context: Context<'s, R, T, W, E, S>,
+    servers: &'s [WatchedServer<'s>],
+    scope: &Scope<'s, V>,
+)
+where
+    R: Threads + Wait + Sync + Net<Listener = TcpListener, Stream = TcpStream>,
+    T: std::time::Clock + Sync,
+    S: Shelf + Send,
+    W: Write + Send,
+    E: Write + Send,
+{
+    let go = move || go_round(context, servers);
+    if scope.spawn(go).is_err() {
+        return end_without_threads(context);
+    }
+    let keep = move || keep_up(context);
+    if scope.spawn(keep).is_err() {
+        end_without_threads(context);
+    }
+}
+
+/// Ends the process where the system makes no threads for it.
+fn end_without_threads<R, T, W, E, S>(context: Context<'_, R, T, W, E, S>)
+where
+    R: Wait,
+    W: Write,
+    E: Write,
+{
+    let line = String::from_str(context.alloc, "nfsacc: the system makes no threads\n");
+    context.output.lock(context.rt).say(line);
+    end_serving(context.rt, context.phase, Phase::Stopping);
+}
+
+/// What the last steps have changed is said. Why the process no longer runs.
+fn end_of<R, T, W, E, S>(context: Context<'_, R, T, W, E, S>) -> Ending
+where
+    R: Threads + Wait + Sync,
+    T: std::time::Clock,
+    W: Write,
+    E: Write,
+    S: Shelf,
+{
+    let caught_up = catch_up(context);
+    if context.lock().is_lost() || caught_up.is_err() {
+        Ending::NoMemory
+    } else {
+        Ending::Stopped
+    }
+}
+
+/// Accepts connections, and starts a thread for each. Once there are no more the process ends.
+fn serve_all<'s, V, R, T, L, W, E, S>(
+    context: Context<'s, R, T, W, E, S>,
+    accepting: Accepting<'s, R, T, L, W, E>,
+    scope: &Scope<'s, V>,
+)
+where
+    R: Threads + Wait + Sync,
+    T: std::time::Clock + Sync,
+    L: OpenListener<Stream = TcpStream>,
+    W: Write + Send,
+    E: Write + Send,
+    S: Send,
+{
+    accepting.begin();
+    for _ in 0..u64::MAX {
+        let Some((stream, address, _)) = accepting.next() else {
+            return end_serving(context.rt, context.phase, Phase::Stopping);
+        };
+        let run = move || serve_peer(context, stream, address);
+        // Where no thread can be made the connection is closed.
+        let _ = scope.spawn(run);
+    }
+}
+
+/// Serves a peer's connection to its end.
+fn serve_peer<R, T, W, E, S>(
+    context: Context<'_, R, T, W, E, S>,
+    stream: TcpStream,
+    address: SocketAddr,
+)
+where
+    R: Threads + Wait + Sync,
+    T: std::time::Clock,
+    W: Write,
+    E: Write,
+{
+    if let Err(fault) = serve_records(context, &stream) {
+        let line = format!(in context.alloc; "nfsacc: {address}: {fault}\n");
+        context.output.lock(context.rt).say(line);
+    }
+}
+
+/// Answers the records of a connection to its end.
+fn serve_records<R, T, W, E, S>(
+    context: Context<'_, R, T, W, E, S>,
+    stream: &TcpStream,
+) -> Result<ServeEnd, ServeFault>
+where
+    R: Threads + Wait + Sync,
+    T: std::time::Clock,
+{
+    let Context {
+        rt,
+        alloc,
+        clock,
+        phase,
+        ..
+    } = context;
+    // Where it can't be set, answers come later, and nothing else changes.
+    let _ = stream.set_nodelay(true);
+    set_timeouts(stream);
+    let waiting = Mutex::new(Waiting::new());
+    let input = PeerStream::new(rt, clock, stream, phase, &waiting);
+    let Ok(input) = BufReader::with_capacity(alloc, READ_AHEAD, input) else {
+        return Err(ServeFault::NoMemory);
+    };
+    let mut reader = FrameReader::new(Counting::new(input));
+    let mut writer = Counting::new(PeerStream::new(rt, clock, stream, phase, &waiting));
+    let mut locked = LockedWatch::new(rt, alloc, clock, context.watch, context.digest);
+    serve_requests(alloc, &mut locked, &mut reader, &mut writer)
+}
