@@ -1,5 +1,5 @@
 -- What the matches of the commands ask for. Serves: parse, request_by_rules, flag_of.
-use Rattle.std.proofs.Common.{◌≡◌, ◌∙◌, Bool, true, false, List, [], ◌∷◌, Option, Some, None, Result, Ok, Err}
+use Rattle.std.proofs.Common.{◌≡◌, ◌∙◌, ◌++◌, Bool, true, false, List, [], ◌∷◌, Option, Some, None, Result, Ok, Err}
 use Rattle.std.proofs.Common.{Bor, IfErr, ◌⊎◌, inl, inr, codes, option_map, refl, sym, ap, ap₂, unwrap_or}
 use Rattle.std.proofs.Common.{subst}
 use Rattle.std.specs.Prelude.{◌||◌, IsErrAnd, is_some}
@@ -20,6 +20,8 @@ use Rattle.clap.proofs.OnLiterals.{clap_on_literals}
 use Rattle.command_line.specs.CommandLine.{Base, Check, CheckAsked, Roster, Rpc, Run, RunAsked, asked_in, asked_of}
 use Rattle.command_line.specs.CommandLine.{asked_without, check_of, commands, run_of}
 use Rattle.command_line.specs.CommandLine.{is_flag_text, is_set, is_told}
+use Rattle.command_line.specs.Hosts.{hosts_names}
+use Rattle.command_line.specs.Keys.{keys_names}
 use Rattle.command_line.specs.declared.request.Request.{Request}
 use Rattle.command_line.proofs.Taken.{entered_is, flag_is, is_plain_app, name_is_one, value_is}
 
@@ -211,7 +213,8 @@ run_is words rows a none is asks =
 
 -- the subcommands that have words of their own
 abbrev others : List Text
-others = codes "check" ∷ codes "roster" ∷ codes "base" ∷ codes "run" ∷ codes "serve" ∷ []
+others =
+    codes "check" ∷ codes "roster" ∷ codes "base" ∷ codes "run" ∷ codes "serve" ∷ (keys_names ++ hosts_names)
 
 -- another subcommand is `rpc`
 pub rpc_is : (words : List Text) → fault_of commands words ≡ []

@@ -11,7 +11,14 @@ use Rattle.clap.specs.Simple.{with_subcommand}
 use Rattle.clap.specs.Faults.{fault_of}
 use Rattle.clap.specs.declared.builder.action.ArgAction.TheVariants.{SetTrue}
 use Rattle.clap.specs.declared.parser.matches.ArgMatches.{ArgMatches}
-use Rattle.command_line.specs.Serve.{ServeAsked, serve_asked, serve_command}
+use Rattle.command_line.specs.Hosts.{AskAsked, GatewayAsked, ServerAsked, WitnessAsked, ask_asked}
+use Rattle.command_line.specs.Hosts.{ask_command}
+use Rattle.command_line.specs.Hosts.{gateway_asked, gateway_command, server_asked, server_command}
+use Rattle.command_line.specs.Hosts.{stop_command}
+use Rattle.command_line.specs.Hosts.{witness_asked, witness_command}
+use Rattle.command_line.specs.Keys.{MemberAsked, RostersAsked, member_asked, member_command, rosters_asked}
+use Rattle.command_line.specs.Keys.{rosters_command, secret_command}
+use Rattle.command_line.specs.Serve.{ServeAsked, serve_asked, serve_command, word_in}
 use Rattle.command_line.specs.declared.request.Request.{Request}
 use Rattle.command_line.specs.declared.request.Request.TheVariants as requests
 
@@ -69,12 +76,24 @@ run_command =
     with_rule (with_rule (with_rule (with_rule (new_app (codes "run")) (file_option (codes "roster-out")))
     (file_option (codes "base-out"))) (file_option (codes "base"))) file_argument
 
--- `nfsacc`, with its subcommands `rpc`, `check`, `roster`, `base`, `run` and `serve`
-abbrev pub commands : App
-commands =
+-- with its subcommands `rpc`, `check`, `roster`, `base`, `run` and `serve`
+abbrev pub first_commands : App
+first_commands =
     with_subcommand (with_subcommand (with_subcommand
     (with_subcommand (with_subcommand (with_subcommand nfsacc rpc_command) check_command.top)
     roster_command.top) base_command.top) run_command.top) serve_command.top
+
+-- and those of keys: `secret`, `member` and `rosters`
+abbrev pub keys_commands : App
+keys_commands =
+    with_subcommand (with_subcommand (with_subcommand first_commands secret_command.top) member_command.top)
+    rosters_command.top
+
+-- and those of parties on hosts of their own: `server`, `gateway`, `witness`, `ask` and `stop`
+abbrev pub commands : App
+commands =
+    with_subcommand (with_subcommand (with_subcommand (with_subcommand (with_subcommand keys_commands
+    server_command.top) gateway_command.top) witness_command.top) ask_command.top) stop_command.top
 
 -- ---- what is asked for
 
@@ -89,8 +108,8 @@ pub record CheckAsked : Type 0 where
   pub json : Bool
   pub roster : Option Text
 
--- what `run` is asked: the name of a script's file, that of the file that the roster's text goes to, what the names
--- of files with bases begin with, and the name of the file with the base at which the witness begins
+-- what `run` is asked: the name of a script's file, that of the file that the roster's text goes to, what
+-- the names of files with bases begin with, and the name of the file with the base at which the witness begins
 pub record RunAsked : Type 0 where
   pub file : Text
   pub roster_out : Option Text
@@ -108,6 +127,16 @@ pub data Asked : Type 0 where
   Base : Text → Asked
   Run : RunAsked → Asked
   Serve : ServeAsked → Asked
+  -- a file of secret bytes of this name
+  Secret : Text → Asked
+  Member : MemberAsked → Asked
+  Rosters : RostersAsked → Asked
+  Server : ServerAsked → Asked
+  Gateway : GatewayAsked → Asked
+  Witness : WitnessAsked → Asked
+  Ask : AskAsked → Asked
+  -- an end of the process of the state folder of this name
+  Stop : Text → Asked
 
 -- what a request asks for
 abbrev pub asked_by : Request → Asked
@@ -145,6 +174,55 @@ asked_by (requests.Serve r) = Serve (record {
   check_every = option_map (λ s. s.now) r.check_every;
   progress = r.progress;
 })
+asked_by (requests.Secret name) = Secret name.now
+asked_by (requests.Member r) = Member (record {
+  secret = r.secret.now;
+  node = r.node.now;
+  kind = r.kind.now;
+  height = option_map (λ s. s.now) r.height;
+  epochs = option_map (λ s. s.now) r.epochs;
+  log_version = option_map (λ s. s.now) r.log_version;
+})
+asked_by (requests.Rosters r) = Rosters (record {
+  out = r.out.now;
+  file = r.file.now;
+})
+asked_by (requests.Server r) = Server (record {
+  secret = r.secret.now;
+  rosters = r.rosters.now;
+  state = r.state.now;
+  node = r.node.now;
+  listen = r.listen.now;
+  audit = option_map (λ s. s.now) r.audit;
+  progress = r.progress;
+})
+asked_by (requests.Gateway r) = Gateway (record {
+  secret = r.secret.now;
+  rosters = r.rosters.now;
+  state = r.state.now;
+  nodes = r.nodes.now;
+  server = r.server.now;
+  witness = option_map (λ s. s.now) r.witness;
+  listen = option_map (λ s. s.now) r.listen;
+  every = option_map (λ s. s.now) r.every;
+  reserve = option_map (λ s. s.now) r.reserve;
+})
+asked_by (requests.Witness r) = Witness (record {
+  rosters = r.rosters.now;
+  at = r.at.now;
+  listen = r.listen.now;
+  every = option_map (λ s. s.now) r.every;
+  patience = option_map (λ s. s.now) r.patience;
+  evidence = option_map (λ s. s.now) r.evidence;
+  epoch = option_map (λ s. s.now) r.epoch;
+  state = option_map (λ s. s.now) r.state;
+})
+asked_by (requests.Ask r) = Ask (record {
+  rosters = option_map (λ s. s.now) r.rosters;
+  nodes = option_map (λ s. s.now) r.nodes;
+  witness = r.witness.now;
+})
+asked_by (requests.Stop name) = Stop name.now
 
 -- what was found for the arguments of a subcommand
 abbrev pub rows_in : ArgMatches → List Row
@@ -207,6 +285,14 @@ asked_of (name, rows) =
     else if bytes_eq (codes "base") name then base_asked rows
     else if bytes_eq (codes "run") name then run_asked rows
     else if bytes_eq (codes "serve") name then option_map Serve (serve_asked rows)
+    else if bytes_eq (codes "secret") name then Some (Secret (word_in (codes "file") rows))
+    else if bytes_eq (codes "member") name then Some (Member (member_asked rows))
+    else if bytes_eq (codes "rosters") name then Some (Rosters (rosters_asked rows))
+    else if bytes_eq (codes "server") name then Some (Server (server_asked rows))
+    else if bytes_eq (codes "gateway") name then Some (Gateway (gateway_asked rows))
+    else if bytes_eq (codes "witness") name then Some (Witness (witness_asked rows))
+    else if bytes_eq (codes "ask") name then Some (Ask (ask_asked rows))
+    else if bytes_eq (codes "stop") name then Some (Stop (word_in (codes "state") rows))
     else None
 
 -- the same, where the rules find no fault

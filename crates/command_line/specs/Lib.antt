@@ -1,5 +1,10 @@
 pub mod Serve
 pub mod ServeOrders
+pub mod Keys
+pub mod Hosts
 pub mod CommandLine
 pub mod Examples
 pub mod CheckNumbers
+pub mod MemberOrders
+pub mod Lists
+pub mod HostOrders

@@ -1,5 +1,6 @@
 -- What the words after `serve` ask for.
-use Rattle.std.specs.Prelude.{Bool, true, false, List, Option, Some, codes, option_and_then, option_map}
+use Rattle.std.specs.Prelude.{Bool, true, false, List, [], Option, Some, codes, option_and_then, option_map}
+use Rattle.std.specs.Prelude.{unwrap_or}
 use Rattle.std.specs.Option.{option_map_or}
 use Rattle.std.specs.Str.{bytes_eq}
 use Rattle.clap.specs.Walk.{Row, Rule, Text, first_of, one_of}
@@ -14,15 +15,33 @@ word_argument name = record (new_rule name) { value_names = 1; required = true }
 abbrev pub word_option : Text → Rule
 word_option name = record (new_rule name) { long = Some name; value_names = 1 }
 
+-- an option that must be given, with a word after it
+abbrev pub needed_option : Text → Rule
+needed_option name = record (new_rule name) { long = Some name; value_names = 1; required = true }
+
+-- a flag, given as `--` and its name
+abbrev pub flag_option : Text → Rule
+flag_option name = record (new_rule name) { long = Some name; action = Some SetTrue }
+
+-- the word of an argument that must be given, by what was found
+abbrev pub word_in : Text → List Row → Text
+word_in name rows = unwrap_or (first_of name rows) []
+
+-- whether a flag is set, by what was found
+abbrev pub is_flag_set : Text → List Row → Bool
+is_flag_set name rows = option_map_or (bytes_eq (codes "true")) (one_of name rows) false
+
 -- `serve`, with its options, a port and a count of connections
 abbrev pub serve_options : App
 serve_options =
     with_rule (with_rule (with_rule (with_rule (with_rule (with_rule
-    (with_rule (with_rule (with_rule (with_rule (with_rule (with_rule (new_app (codes "serve")) (word_option (codes "address")))
+    (with_rule (with_rule (with_rule (with_rule (with_rule (with_rule (new_app (codes "serve"))
+    (word_option (codes "address")))
     (word_option (codes "server-height")))
     (word_option (codes "client-height"))) (word_option (codes "master"))) (word_option (codes "roster-out")))
     (word_option (codes "evidence"))) (word_option (codes "control"))) (word_option (codes "idle")))
-    (word_option (codes "log-version"))) (word_option (codes "base-out"))) (word_option (codes "check-every")))
+    (word_option (codes "log-version"))) (word_option (codes "base-out"))) (word_option
+    (codes "check-every")))
     (record (new_rule (codes "progress")) { long = Some (codes "progress"); action = Some SetTrue })
 
 abbrev pub serve_command : App

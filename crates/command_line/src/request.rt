@@ -1,18 +1,30 @@
 //! What the words of the command line ask for.
 
-ghost use Rattle.std.specs.Prelude.{◌≡◌, ◌⊎◌, map, codes, None, Some, IfOk, IfErr, string_bytes};
+ghost use Rattle.std.specs.Prelude.{◌≡◌, ◌⊎◌, map, codes, None, Some, IfOk, IfErr, IfNone, IfSome};
+ghost use Rattle.std.specs.Prelude.{string_bytes};
 ghost use Rattle.std.specs.Prelude.{ℕ, List, [], true, false, unwrap_or, option_map};
 ghost use Rattle.clap.specs.Faults.{fault_of};
 ghost use Rattle.clap.specs.Kinds.{FailsBy};
 ghost use Rattle.clap.specs.Walk.{first_of};
-ghost use Rattle.clap.specs.Words.{App, app_of, kind_of, rule_of, subcommand_of, subcommand_rows_of};
-ghost use Rattle.clap.specs.Words.{with_subcommand};
-ghost use Rattle.command_line.specs.CommandLine.{commands, base_command, check_command, roster_command};
+ghost use Rattle.clap.specs.Words.{App, app_of, kind_of, rule_of, subcommand_name_of, subcommand_of};
+ghost use Rattle.clap.specs.Words.{subcommand_rows_of, with_subcommand};
+ghost use Rattle.std.specs.List.{AllByRecursion};
+ghost use Rattle.command_line.specs.CommandLine.{commands, base_command, check_command, first_commands};
+ghost use Rattle.command_line.specs.CommandLine.{keys_commands, roster_command};
+ghost use Rattle.command_line.specs.Keys.{keys_names};
+ghost use Rattle.command_line.specs.Hosts.{hosts_names};
 ghost use Rattle.command_line.specs.CommandLine.{run_command};
 ghost use Rattle.command_line.specs.CommandLine.{asked_by, asked_in, file_argument, file_option, flag};
 ghost use Rattle.command_line.specs.CommandLine.{number_option};
 ghost use Rattle.command_line.specs.CommandLine.{is_set, is_told, rows_in};
 
+use crate::hosts::{
+    AskRequest, GatewayRequest, ServerRequest, WitnessRequest, ask_command, gateway_command,
+    hosts_request_in, server_command, stop_command, witness_command,
+};
+use crate::keys::{
+    MemberRequest, RostersRequest, keys_request_in, member_command, rosters_command, secret_command,
+};
 use crate::serve::{ServeRequest, serve_command, serve_request};
 use clap::error::ErrorKind;
 use clap::{Arg, ArgAction, ArgMatches, Command, Error};
@@ -28,12 +40,29 @@ pub enum Request<'a> {
     Check(CheckRequest<'a>),
     /// `nfsacc roster FILE`: the members of the roster in the file of this name; `-` is standard input.
     Roster(&'a str),
-    /// `nfsacc base FILE`: whether the base in the file of this name, after a roster, is good; `-` is standard input.
+    /// `nfsacc base FILE`: whether the base in the file of this name, after a roster, is good; `-` is standard
+    /// input.
     Base(&'a str),
     /// `nfsacc run FILE`: the lines of a script.
     Run(RunRequest<'a>),
     /// `nfsacc serve PORT COUNT`: clients over TCP.
     Serve(ServeRequest<'a>),
+    /// `nfsacc secret FILE`: a file of secret bytes of this name.
+    Secret(&'a str),
+    /// `nfsacc member`: the lines that say a node's keys.
+    Member(MemberRequest<'a>),
+    /// `nfsacc rosters FILE`: the rosters of member lines.
+    Rosters(RostersRequest<'a>),
+    /// `nfsacc server`: a server on a host of its own.
+    Server(ServerRequest<'a>),
+    /// `nfsacc gateway`: a user's gateway to a server.
+    Gateway(GatewayRequest<'a>),
+    /// `nfsacc witness`: a witness on a host of its own.
+    Witness(WitnessRequest<'a>),
+    /// `nfsacc ask HOST:PORT`: what a witness knows.
+    Ask(AskRequest<'a>),
+    /// `nfsacc stop DIR`: an end of the process of the state folder of this name.
+    Stop(&'a str),
 }
 
 /// What `nfsacc check` is asked.
@@ -237,6 +266,28 @@ fn with_subcommand<'a>(
 fn commands<'a>(alloc: Global) -> Result<Command<'a>, AllocError>
     ensures { IfOk result (λ c. app_of c ≡ commands) }
 {
+    let nfsacc = keys_commands(alloc)?;
+    let nfsacc = with_subcommand(nfsacc, server_command(alloc))?;
+    let nfsacc = with_subcommand(nfsacc, gateway_command(alloc))?;
+    let nfsacc = with_subcommand(nfsacc, witness_command(alloc))?;
+    let nfsacc = with_subcommand(nfsacc, ask_command(alloc))?;
+    with_subcommand(nfsacc, stop_command(alloc))
+}
+
+/// The same without the commands of parties on hosts of their own.
+fn keys_commands<'a>(alloc: Global) -> Result<Command<'a>, AllocError>
+    ensures { IfOk result (λ c. app_of c ≡ keys_commands) }
+{
+    let nfsacc = first_commands(alloc)?;
+    let nfsacc = with_subcommand(nfsacc, secret_command(alloc))?;
+    let nfsacc = with_subcommand(nfsacc, member_command(alloc))?;
+    with_subcommand(nfsacc, rosters_command(alloc))
+}
+
+/// The same without those of keys, too.
+fn first_commands<'a>(alloc: Global) -> Result<Command<'a>, AllocError>
+    ensures { IfOk result (λ c. app_of c ≡ first_commands) }
+{
     let rpc = Command::new(alloc, "rpc").about(
         "Answers the RPC records of standard input on standard output, as the server of node 1",
     );
@@ -330,7 +381,26 @@ fn request_in<'a>(matches: &ArgMatches<'a>) -> Request<'a>
     if let Some(serve) = matches.subcommand_matches("serve") {
         return Request::Serve(serve_request(serve));
     }
-    Request::Rpc
+    match more_request_in(matches) {
+        Some(request) => request,
+        None => Request::Rpc,
+    }
+}
+
+/// The request of one of the commands of keys or of parties on hosts of their own, if it is one of them.
+fn more_request_in<'a>(matches: &ArgMatches<'a>) -> Option<Request<'a>>
+    ensures some { IfSome result (λ r. (words : List (List ℕ)) → fault_of commands words ≡ []
+        → subcommand_rows_of matches.now ≡ subcommand_of commands words
+        → asked_in words ≡ Some (asked_by r)) }
+    ensures keys { IfNone result (AllByRecursion (λ name. subcommand_name_of matches.now ≡ Some name
+        → ⊥) keys_names) }
+    ensures hosts { IfNone result (AllByRecursion (λ name. subcommand_name_of matches.now ≡ Some name
+        → ⊥) hosts_names) }
+{
+    match keys_request_in(matches) {
+        Some(request) => Some(request),
+        None => hosts_request_in(matches),
+    }
 }
 
 /// The same as `parse`.
@@ -345,9 +415,10 @@ fn request_by_rules(alloc: Global, words: &[String]) -> Result<Request<'_>, Erro
 /// The request that the words of a command line make, the program's name first: `rpc` alone, or with `--`
 /// after it, is `Rpc`; `check` with a file's name is `Check`, with or without `--explain`, `--entries`,
 /// `--json`, `--state` with a word and `--roster` with another name, in any order; `roster` with a file's
-/// name is `Roster`, `base` with one `Base`; `run` with a file's name is `Run`, with `--roster-out`, `--base-out`
-/// and `--base`, each with another name, before it or after it, or without; `serve` with two words is `Serve`,
-/// with its options before, between or after them.
+/// name is `Roster`, `base` with one `Base`; `run` with a file's name is `Run`, with `--roster-out`,
+/// `--base-out` and `--base`, each with another name, before it or after it, or without; `serve` with two
+/// words is `Serve`, with its options before, between or after them; and so on for the commands of keys and of
+/// parties on hosts of their own, whose help lists their options.
 /// After `--` each word is a name. It comes exactly where clap's rules find no fault in the words, memory
 /// aside, and has what they say the words hold.
 /// The error says what is wrong with other words, or is the help or the version that they ask for: its kind

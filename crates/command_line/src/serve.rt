@@ -4,7 +4,8 @@ ghost use Rattle.std.specs.Prelude.{◌≡◌, codes, IfOk, [], true, false, opt
 ghost use Rattle.clap.specs.Walk.{first_of};
 ghost use Rattle.clap.specs.Words.{app_of, rule_of};
 ghost use Rattle.command_line.specs.CommandLine.{is_set, is_told, rows_in};
-ghost use Rattle.command_line.specs.Serve.{serve_command, serve_options, word_argument, word_option};
+ghost use Rattle.command_line.specs.Serve.{needed_option, serve_command, serve_options, word_argument};
+ghost use Rattle.command_line.specs.Serve.{word_option};
 
 use crate::request::{flag, flag_of, text_of};
 use clap::{Arg, ArgMatches, Command};
@@ -56,7 +57,7 @@ const CLIENT_HEIGHT_HELP: &str =
     "The height of each client's tree of keys, 1 to 15; 10 where none is named";
 
 const MASTER_HELP: &str =
-    "A file of 32 secret bytes that all keys are made of, for one run; `-` is standard input";
+    "A file of 32 secret bytes that all keys are made of, as `nfsacc secret` makes it";
 
 const ROSTER_OUT_HELP: &str =
     "Writes the text of the nodes' roster to this file, before it listens";
@@ -111,9 +112,9 @@ Each connection is a client of its own, whose log is audited when the connection
 says of each node whether it is trusted, suspected or exposed.
 
 Without --master node N's master secret is 28 zero bytes and N: anybody can sign for each node, so that is for tests and
-trials on this machine alone. With it that secret is the SHA-256 of the file's 32 bytes and N in four. A file serves one
-run: another one with the same bytes would use the same keys again, and two such logs look like a fork of honest nodes.
-Nobody but the file's owner may use it.
+trials on this machine alone. With it that secret is the SHA-256 of the file's 32 bytes, N in four and the number of the run
+in four. That number is noted in FILE.spent before the first key is made, so no run uses the keys of another one. No other
+process may use the file meanwhile, and nobody but its owner ever.
 
 With --control DIR the run ends in order once DIR/control is sent the word `stop` and a line feed: no further connection is
 accepted, those that stand end after the calls that were read of them, and everybody is audited. DIR must be there, and
@@ -122,7 +123,12 @@ nobody but its owner may use it. A signal ends the run at once, and nobody is au
 Statuses: 0 done, 1 a fault in the input, 2 the command line, 3 no memory, 4 a device";
 
 /// An option with a word after it.
-fn word_option<'a>(alloc: Global, name: &'a str, value: &'a str, help: &'a str) -> Arg<'a>
+pub(crate) fn word_option<'a>(
+    alloc: Global,
+    name: &'a str,
+    value: &'a str,
+    help: &'a str,
+) -> Arg<'a>
     ensures rule { rule_of result ≡ word_option name.now }
     ensures local { result.global ≡ false }
 {
@@ -132,8 +138,30 @@ fn word_option<'a>(alloc: Global, name: &'a str, value: &'a str, help: &'a str) 
         .help(help)
 }
 
+/// An option that must be given, with a word after it.
+pub(crate) fn needed_option<'a>(
+    alloc: Global,
+    name: &'a str,
+    value: &'a str,
+    help: &'a str,
+) -> Arg<'a>
+    ensures rule { rule_of result ≡ needed_option name.now }
+    ensures local { result.global ≡ false }
+{
+    Arg::new(alloc, name)
+        .long(name)
+        .value_name(value)
+        .help(help)
+        .required(true)
+}
+
 /// A word that must be given.
-fn word_argument<'a>(alloc: Global, name: &'a str, value: &'a str, help: &'a str) -> Arg<'a>
+pub(crate) fn word_argument<'a>(
+    alloc: Global,
+    name: &'a str,
+    value: &'a str,
+    help: &'a str,
+) -> Arg<'a>
     ensures rule { rule_of result ≡ word_argument name.now }
     ensures local { result.global ≡ false }
 {
@@ -218,7 +246,7 @@ pub(crate) fn serve_request<'a>(matches: &ArgMatches<'a>) -> ServeRequest<'a>
 }
 
 /// The word of an option, if it is given.
-fn word_of<'a>(matches: &ArgMatches<'a>, id: &str) -> Option<&'a str>
+pub(crate) fn word_of<'a>(matches: &ArgMatches<'a>, id: &str) -> Option<&'a str>
     ensures { option_map (λ s. s.now) result ≡ first_of id.now (rows_in matches.now) }
 {
     matches.get_str(id)

@@ -1,4 +1,8 @@
-use Rattle.std.proofs.Common.{◌∙◌, refl}
+use Rattle.std.proofs.Common.{◌≡◌, ◌∙◌, ◌++◌, List, [], ◌∷◌, Option, Some, refl, subst}
+use Rattle.std.specs.List.{AllByRecursion}
+use Rattle.clap.specs.Walk.{Text}
+use Rattle.command_line.specs.Hosts.{hosts_names}
+use Rattle.command_line.specs.Keys.{keys_names}
 use Rattle.command_line.proofs.Asked.{base_is, check_is, found_is, name_is, roster_is, rpc_is, run_is}
 use Rattle.command_line.proofs.ServeAsked.{serve_is}
 use Rattle.command_line.proofs.request.request_in.Goals as goal
@@ -75,10 +79,26 @@ returns-in-Some-subcommand_matches-4 c words none found =
       progress = asks.progress;
     })
 
+pub returns-in-Some-more_request_in : goal.returns-in-Some-more_request_in
+returns-in-Some-more_request_in c = c.in-Some-more_request_in.ensures.some
+
+-- names of which none is found, before others
+before_others : (found : Option Text) (names others : List Text)
+    → AllByRecursion (λ name. found ≡ Some name → ⊥) names
+    → AllByRecursion (λ name. found ≡ Some name → ⊥) others
+    → AllByRecursion (λ name. found ≡ Some name → ⊥) (names ++ others)
+before_others found [] others h i = i
+before_others found (name ∷ names) others h i = (h.0, before_others found names others h.1 i)
+
+of_found : (a b : Option Text) (names : List Text) → a ≡ b → AllByRecursion (λ name. a ≡ Some name → ⊥) names
+    → AllByRecursion (λ name. b ≡ Some name → ⊥) names
+of_found a b names is h = subst (λ o. AllByRecursion (λ name. o ≡ Some name → ⊥) names) is h
+
 -- no other subcommand was found: `rpc` is asked for
-pub returns : goal.returns
-returns c words none found =
+pub returns-in-None : goal.returns-in-None
+returns-in-None c words none found =
     let name = name_is c.args.matches.now _ found in
+    let more = before_others _ keys_names hosts_names c.in-None.ensures.keys c.in-None.ensures.hosts in
     rpc_is words none (
       λ e.
           let bad = rw c.in_default.is at c.subcommand_matches.ensures.found.1 (name ∙ e) in
@@ -103,7 +123,7 @@ returns c words none found =
                   let bad = rw c.in_default-subcommand_matches-4.is
                   at c.subcommand_matches-5.ensures.found.1 (name ∙ e) in
                   cc,
-              tt,
+              of_found _ _ (keys_names ++ hosts_names) name more,
             ),
           ),
         ),

@@ -1,0 +1,362 @@
+//! The numbers, the addresses and the lists in what a party on a host of its own is asked.
+
+ghost use Rattle.std.specs.Prelude.{◌≡◌, ◌≤◌, IfOk, IfSome, None, map, option_map, true};
+ghost use Rattle.std.specs.Net.Grammar.{IsSocketText};
+ghost use Rattle.command_line.specs.HostOrders.{HasLoopback, IsNoSocket, OrdersAsk, OrdersGateway};
+ghost use Rattle.command_line.specs.HostOrders.{OrdersServer};
+ghost use Rattle.command_line.specs.HostOrders.{OrdersWitness, SocketIf};
+ghost use Rattle.command_line.specs.MemberOrders.{WritesRangeOr};
+ghost use Rattle.command_line.specs.Lists.{ArePeers, items_of};
+ghost use Rattle.command_line.specs.ServeOrders.{WritesIf, WritesOr};
+
+use crate::hosts::{AskRequest, GatewayRequest, ServerRequest, WitnessRequest};
+use crate::lists::{ListFault, Peer, hosts_of, is_host, peer_of, peers_of};
+use crate::member_numbers::range_within;
+use crate::serve_numbers::number_within;
+use authenticator::MAX_NODE;
+use std::alloc::Global;
+use std::net::{IpAddr, Ipv4Addr, SocketAddr};
+use thiserror::Error;
+
+/// What `nfsacc server` is asked, with its numbers read.
+#[derive(Clone, Copy, Debug)]
+pub struct ServerOrder<'a> {
+    /// The name of the file with the secret bytes.
+    pub secret: &'a str,
+    /// The name of the folder with the rosters.
+    pub rosters: &'a str,
+    /// The name of the folder of the control socket.
+    pub state: &'a str,
+    /// The node's number, from 1 to 64.
+    pub node: u32,
+    /// Where gateways connect; witnesses too where no other address is named for them.
+    pub listen: SocketAddr,
+    /// Where witnesses connect, if it is named.
+    pub audit: Option<SocketAddr>,
+    /// Whether it is told how far keys and audits are.
+    pub progress: bool,
+}
+
+/// What `nfsacc gateway` is asked, with its numbers read.
+#[derive(Debug, Drop)]
+pub struct GatewayOrder<'a> {
+    /// The name of the file with the secret bytes.
+    pub secret: &'a str,
+    /// The name of the folder with the rosters.
+    pub rosters: &'a str,
+    /// The name of the folder of the control socket.
+    pub state: &'a str,
+    /// The user's first number, from 1 on.
+    pub first: u32,
+    /// The user's last number, no less than the first and at most 64.
+    pub last: u32,
+    /// The server.
+    pub server: Peer<'a>,
+    /// Where witnesses listen.
+    pub witnesses: Vec<&'a str>,
+    /// Where local programs connect: an address that only this machine reaches.
+    pub listen: SocketAddr,
+    /// After how many seconds witnesses are told again, from 1 to 86,400.
+    pub every: u32,
+    /// How many calls are kept for what is still to be received, up to 16,384.
+    pub reserve: u32,
+}
+
+/// What `nfsacc witness` is asked, with its numbers read.
+#[derive(Debug, Drop)]
+pub struct WitnessOrder<'a> {
+    /// The name of the folder with the rosters.
+    pub rosters: &'a str,
+    /// The servers.
+    pub servers: Vec<Peer<'a>>,
+    /// Where others connect.
+    pub listen: SocketAddr,
+    /// After how many seconds servers are asked again, from 1 to 86,400.
+    pub every: u32,
+    /// After how many seconds without an answer a node is said to be suspected, up to 86,400.
+    pub patience: u32,
+    /// The name of the folder that evidence goes to, if one is named.
+    pub evidence: Option<&'a str>,
+    /// The epoch, from 1 on; the greatest for which there is a roster where none is named.
+    pub epoch: Option<u32>,
+    /// The name of the folder of the control socket, if one is named.
+    pub state: Option<&'a str>,
+}
+
+/// What `nfsacc ask` is asked, with its numbers read.
+#[derive(Clone, Copy, Debug, PartialEq, Eq)]
+pub struct AskOrder<'a> {
+    /// Where the witness listens.
+    pub witness: &'a str,
+    /// The name of the folder with the rosters, one of which the witness must have, if one is named.
+    pub rosters: Option<&'a str>,
+    /// The first number that is asked for, from 1 on.
+    pub first: u32,
+    /// The last number that is asked for, no less than the first and at most 64.
+    pub last: u32,
+}
+
+/// Why what a party on a host of its own is asked makes no order.
+#[derive(Clone, Copy, Debug, PartialEq, Eq, Error)]
+pub enum HostRefusal {
+    /// The node's number is no decimal number from 1 to 64.
+    #[error("--node is a number from 1 to 64")]
+    Node,
+    /// The numbers aren't two decimal numbers from 1 to 64 with `-` between, the second no less than the
+    /// first.
+    #[error("--nodes is A-B, numbers from 1 to 64")]
+    Nodes,
+    /// The address that is listened on is none.
+    #[error("--listen is ADDRESS:PORT")]
+    Listen,
+    /// The address that local programs connect to is one that others reach.
+    #[error("--listen is a loopback address: whoever connects acts as this user")]
+    Outside,
+    /// The address that witnesses connect to is none.
+    #[error("--audit is ADDRESS:PORT")]
+    Audit,
+    /// The server isn't a number and where it listens.
+    #[error("--server is N=HOST:PORT, N from 1 to 64")]
+    Server,
+    /// The witnesses aren't a list of where they listen.
+    #[error("--witness is HOST:PORT, with commas between")]
+    Witness,
+    /// The servers aren't a list of numbers and where they listen.
+    #[error("--at is N=HOST:PORT, with commas between, N from 1 to 64")]
+    At,
+    /// The seconds are no decimal number from 1 to 86,400.
+    #[error("--every is a number of seconds from 1 to 86400")]
+    Every,
+    /// The calls are no decimal number from 0 to 16,384.
+    #[error("--reserve is a number of calls from 0 to 16384")]
+    Reserve,
+    /// The seconds are no decimal number from 0 to 86,400.
+    #[error("--patience is a number of seconds from 0 to 86400")]
+    Patience,
+    /// The epoch is no decimal number from 1 to 4,294,967,295.
+    #[error("--epoch is a number from 1 to 4294967295")]
+    Epoch,
+    /// It isn't said where the witness listens.
+    #[error("HOST:PORT is a host's name or address, and a port from 1 to 65535")]
+    Peer,
+    /// Memory was refused.
+    #[error("out of memory")]
+    NoMemory,
+}
+
+/// The most seconds of an option: a day.
+const MOST_SECONDS: u32 = 86400;
+
+/// The most calls that are kept: as many as a server has keys for.
+const MOST_CALLS: u32 = 16384;
+
+/// The port that local programs connect to where none is named: that of NFS.
+const NFS_PORT: u16 = 2049;
+
+/// The order that a request makes. It is refused for the first of the number and the two addresses that is
+/// none.
+pub fn server_order<'a>(request: &ServerRequest<'a>) -> Result<ServerOrder<'a>, HostRefusal>
+    ensures order { IfOk result (OrdersServer request.now) }
+    ensures node { IfOk result (λ o. (1 ≤ o.node) × (o.node ≤ 64)) }
+{
+    let node = number_within(request.node, 1, MAX_NODE).ok_or(HostRefusal::Node)?;
+    let listen = socket_of(request.listen).ok_or(HostRefusal::Listen)?;
+    let audit = audit_of(request.audit)?;
+    Ok(ServerOrder {
+        secret: request.secret,
+        rosters: request.rosters,
+        state: request.state,
+        node,
+        listen,
+        audit,
+        progress: request.progress,
+    })
+}
+
+/// The order that a request makes. It is refused for the first of the numbers, the server, the witnesses, the
+/// address, the seconds and the calls that is none, and where others reach the address.
+pub fn gateway_order<'a>(
+    alloc: Global,
+    request: &GatewayRequest<'a>,
+) -> Result<GatewayOrder<'a>, HostRefusal>
+    ensures order { IfOk result (OrdersGateway request.now) }
+    ensures nodes { IfOk result (λ o. (1 ≤ o.first) × (o.first ≤ o.last) × (o.last ≤ 64)) }
+{
+    let (first, last) = range_within(request.nodes, 1, MAX_NODE).ok_or(HostRefusal::Nodes)?;
+    let server = peer_of(request.server).ok_or(HostRefusal::Server)?;
+    let witnesses = witnesses_of(alloc, request.witness)?;
+    let listen = loopback_of(request.listen)?;
+    let every = seconds_of(request.every, 1, 10).ok_or(HostRefusal::Every)?;
+    let reserve = calls_of(request.reserve).ok_or(HostRefusal::Reserve)?;
+    Ok(GatewayOrder {
+        secret: request.secret,
+        rosters: request.rosters,
+        state: request.state,
+        first,
+        last,
+        server,
+        witnesses,
+        listen,
+        every,
+        reserve,
+    })
+}
+
+/// The order that a request makes. It is refused for the first of the servers, the address, the two numbers
+/// of seconds and the epoch that is none.
+pub fn witness_order<'a>(
+    alloc: Global,
+    request: &WitnessRequest<'a>,
+) -> Result<WitnessOrder<'a>, HostRefusal>
+    ensures order { IfOk result (OrdersWitness request.now) }
+{
+    let servers = servers_of(alloc, request.at)?;
+    let listen = socket_of(request.listen).ok_or(HostRefusal::Listen)?;
+    let every = seconds_of(request.every, 1, 10).ok_or(HostRefusal::Every)?;
+    let patience = seconds_of(request.patience, 0, 60).ok_or(HostRefusal::Patience)?;
+    let epoch = epoch_of(request.epoch)?;
+    Ok(WitnessOrder {
+        rosters: request.rosters,
+        servers,
+        listen,
+        every,
+        patience,
+        evidence: request.evidence,
+        epoch,
+        state: request.state,
+    })
+}
+
+/// The order that a request makes. It is refused where it isn't said where the witness listens, and where the
+/// numbers are none.
+pub fn ask_order<'a>(request: &AskRequest<'a>) -> Result<AskOrder<'a>, HostRefusal>
+    ensures order { IfOk result (OrdersAsk request.now) }
+    ensures nodes { IfOk result (λ o. (1 ≤ o.first) × (o.first ≤ o.last) × (o.last ≤ 64)) }
+{
+    if !is_host(request.witness) {
+        return Err(HostRefusal::Peer);
+    }
+    let (first, last) = numbers_of(request.nodes).ok_or(HostRefusal::Nodes)?;
+    Ok(AskOrder {
+        witness: request.witness,
+        rosters: request.rosters,
+        first,
+        last,
+    })
+}
+
+/// The address and the port that a word is.
+fn socket_of(word: &str) -> Option<SocketAddr>
+    ensures some { IfSome result (IsSocketText word.now) }
+    ensures none { result ≡ None → IsNoSocket word.now }
+{
+    word.parse::<SocketAddr>().ok()
+}
+
+/// The address in an option's word, if it is given.
+fn audit_of(word: Option<&str>) -> Result<Option<SocketAddr>, HostRefusal>
+    ensures { IfOk result (SocketIf (option_map (λ s. s.now) word.entry)) }
+{
+    let Some(word) = word else {
+        return Ok(None);
+    };
+    match socket_of(word) {
+        Some(address) => Ok(Some(address)),
+        None => Err(HostRefusal::Audit),
+    }
+}
+
+/// The address that local programs connect to, which only this machine reaches: 127.0.0.1:2049 where none is
+/// named.
+fn loopback_of(word: Option<&str>) -> Result<SocketAddr, HostRefusal>
+    ensures address { IfOk result (λ a. IfSome word.entry (λ text. IsSocketText text.now a)) }
+    ensures own { IfOk result HasLoopback }
+{
+    let Some(word) = word else {
+        return Ok(SocketAddr::new(IpAddr::V4(Ipv4Addr::LOCALHOST), NFS_PORT));
+    };
+    let Some(address) = socket_of(word) else {
+        return Err(HostRefusal::Listen);
+    };
+    if is_own(&address) {
+        Ok(address)
+    } else {
+        Err(HostRefusal::Outside)
+    }
+}
+
+/// Whether only this machine reaches an address.
+fn is_own(address: &SocketAddr) -> bool
+    ensures { result ≡ true → HasLoopback address.now }
+{
+    address.ip().is_loopback()
+}
+
+/// The witnesses in an option's word; none where it isn't given.
+fn witnesses_of<'a>(alloc: Global, word: Option<&'a str>) -> Result<Vec<&'a str>, HostRefusal>
+    ensures { IfOk result (λ v. IfSome word.entry (λ text. map (λ s. s.now) v.items ≡ items_of text.now)) }
+{
+    let Some(word) = word else {
+        return Ok(Vec::new(alloc));
+    };
+    match hosts_of(alloc, word) {
+        Ok(hosts) => Ok(hosts),
+        Err(ListFault::Bad) => Err(HostRefusal::Witness),
+        Err(ListFault::NoMemory) => Err(HostRefusal::NoMemory),
+    }
+}
+
+/// The servers in an option's word.
+fn servers_of<'a>(alloc: Global, word: &'a str) -> Result<Vec<Peer<'a>>, HostRefusal>
+    ensures { IfOk result (λ v. ArePeers (items_of word.now) v.items) }
+{
+    match peers_of(alloc, word) {
+        Ok(peers) => Ok(peers),
+        Err(ListFault::Bad) => Err(HostRefusal::At),
+        Err(ListFault::NoMemory) => Err(HostRefusal::NoMemory),
+    }
+}
+
+/// The seconds in an option's word, or others where it isn't given.
+fn seconds_of(word: Option<&str>, least: u32, other: u32) -> Option<u32>
+    ensures { IfSome result (WritesOr least 86400 other (option_map (λ s. s.now) word.entry)) }
+{
+    match word {
+        Some(word) => number_within(word, least, MOST_SECONDS),
+        None => Some(other),
+    }
+}
+
+/// The calls in an option's word, or none where it isn't given.
+fn calls_of(word: Option<&str>) -> Option<u32>
+    ensures { IfSome result (WritesOr 0 16384 0 (option_map (λ s. s.now) word.entry)) }
+{
+    match word {
+        Some(word) => number_within(word, 0, MOST_CALLS),
+        None => Some(0),
+    }
+}
+
+/// The epoch in an option's word, if it is given.
+fn epoch_of(word: Option<&str>) -> Result<Option<u32>, HostRefusal>
+    ensures { IfOk result (WritesIf 1 4294967295 (option_map (λ s. s.now) word.entry)) }
+{
+    let Some(word) = word else {
+        return Ok(None);
+    };
+    match number_within(word, 1, u32::MAX) {
+        Some(epoch) => Ok(Some(epoch)),
+        None => Err(HostRefusal::Epoch),
+    }
+}
+
+/// The numbers in an option's word, or all where it isn't given.
+fn numbers_of(word: Option<&str>) -> Option<(u32, u32)>
+    ensures some { IfSome result (λ p. WritesRangeOr 1 64 1 64 (option_map (λ s. s.now) word.entry) p.0 p.1) }
+    ensures bounds { IfSome result (λ p. (1 ≤ p.0) × (p.0 ≤ p.1) × (p.1 ≤ 64)) }
+{
+    match word {
+        Some(word) => range_within(word, 1, MAX_NODE),
+        None => Some((1, MAX_NODE)),
+    }
+}

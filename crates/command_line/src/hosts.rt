@@ -1,0 +1,353 @@
+//! What the words after `server`, `gateway`, `witness`, `ask` and `stop` ask for.
+
+ghost use Rattle.std.specs.Prelude.{◌≡◌, codes, List, ℕ, [], IfNone, IfOk, IfSome, Some, option_map, true};
+ghost use Rattle.std.specs.Prelude.{unwrap_or};
+ghost use Rattle.std.specs.List.{AllByRecursion};
+ghost use Rattle.clap.specs.Faults.{fault_of};
+ghost use Rattle.clap.specs.Walk.{first_of};
+ghost use Rattle.clap.specs.Words.{app_of, subcommand_name_of, subcommand_of, subcommand_rows_of};
+ghost use Rattle.command_line.specs.CommandLine.{asked_by, asked_in, commands, is_set, is_told, rows_in};
+ghost use Rattle.command_line.specs.Hosts.{ask_command, gateway_command, hosts_names, server_command};
+ghost use Rattle.command_line.specs.Hosts.{stop_command, witness_command};
+
+use crate::request::{Request, flag, flag_of, text_of};
+use crate::serve::{needed_option, word_argument, word_of, word_option};
+use clap::{ArgMatches, Command};
+use std::alloc::{AllocError, Global};
+
+/// What `nfsacc server` is asked, word by word.
+#[derive(Clone, Copy, Debug, PartialEq, Eq)]
+pub struct ServerRequest<'a> {
+    /// The name of the file with the secret bytes.
+    pub secret: &'a str,
+    /// The name of the folder with the rosters.
+    pub rosters: &'a str,
+    /// The name of the folder of the control socket.
+    pub state: &'a str,
+    /// The node's number.
+    pub node: &'a str,
+    /// Where gateways connect.
+    pub listen: &'a str,
+    /// Where witnesses connect, if it is named.
+    pub audit: Option<&'a str>,
+    /// Whether it is told how far keys and audits are.
+    pub progress: bool,
+}
+
+/// What `nfsacc gateway` is asked, word by word.
+#[derive(Clone, Copy, Debug, PartialEq, Eq)]
+pub struct GatewayRequest<'a> {
+    /// The name of the file with the secret bytes.
+    pub secret: &'a str,
+    /// The user's first and last number.
+    pub nodes: &'a str,
+    /// The server's number, and where it listens.
+    pub server: &'a str,
+    /// The name of the folder with the rosters.
+    pub rosters: &'a str,
+    /// The name of the folder of the control socket.
+    pub state: &'a str,
+    /// Where witnesses listen, if some are named.
+    pub witness: Option<&'a str>,
+    /// Where local programs connect, if it is named.
+    pub listen: Option<&'a str>,
+    /// How often witnesses are told, if that is given.
+    pub every: Option<&'a str>,
+    /// How many calls are kept for what is still to be received, if that is given.
+    pub reserve: Option<&'a str>,
+}
+
+/// What `nfsacc witness` is asked, word by word.
+#[derive(Clone, Copy, Debug, PartialEq, Eq)]
+pub struct WitnessRequest<'a> {
+    /// The name of the folder with the rosters.
+    pub rosters: &'a str,
+    /// Where servers give out their logs.
+    pub at: &'a str,
+    /// Where others connect.
+    pub listen: &'a str,
+    /// How often servers are asked, if that is given.
+    pub every: Option<&'a str>,
+    /// After how long without an answer a node is said to be suspected, if that is given.
+    pub patience: Option<&'a str>,
+    /// The name of the folder that evidence goes to, if one is named.
+    pub evidence: Option<&'a str>,
+    /// The epoch, if it is named.
+    pub epoch: Option<&'a str>,
+    /// The name of the folder of the control socket, if one is named.
+    pub state: Option<&'a str>,
+}
+
+/// What `nfsacc ask` is asked, word by word.
+#[derive(Clone, Copy, Debug, PartialEq, Eq)]
+pub struct AskRequest<'a> {
+    /// The name of the folder with the rosters, if one is named.
+    pub rosters: Option<&'a str>,
+    /// The first and the last number that is asked for, if they are named.
+    pub nodes: Option<&'a str>,
+    /// Where the witness listens.
+    pub witness: &'a str,
+}
+
+const SERVER_SECRET_HELP: &str = "The party's file of 32 secret bytes";
+
+const SERVER_ROSTERS_HELP: &str = "The folder with the roster of each epoch";
+
+const SERVER_STATE_HELP: &str = "The folder of the control socket; nobody but its owner may use it";
+
+const SERVER_NODE_HELP: &str = "The node's number, 1 to 64";
+
+const SERVER_LISTEN_HELP: &str = "Where gateways connect, and witnesses without --audit";
+
+const SERVER_AUDIT_HELP: &str = "Where witnesses connect";
+
+const SERVER_PROGRESS_HELP: &str =
+    "Tells on standard error how far keys and audits are, each line with its time";
+
+const GATEWAY_SECRET_HELP: &str = "The party's file of 32 secret bytes";
+
+const GATEWAY_NODES_HELP: &str =
+    "The user's numbers, of which each start takes the next one, 1 to 64";
+
+const GATEWAY_SERVER_HELP: &str = "The server's number, and where it listens";
+
+const GATEWAY_ROSTERS_HELP: &str = "The folder with the roster of each epoch";
+
+const GATEWAY_STATE_HELP: &str =
+    "The folder of the control socket; nobody but its owner may use it";
+
+const GATEWAY_WITNESS_HELP: &str = "Where witnesses listen: HOST:PORT, with commas between";
+
+const GATEWAY_LISTEN_HELP: &str =
+    "Where local programs connect, a loopback address; 127.0.0.1:2049 where none is named";
+
+const GATEWAY_EVERY_HELP: &str =
+    "How often witnesses are told, 1 to 86400; 10 where it isn't given";
+
+const GATEWAY_RESERVE_HELP: &str =
+    "How many calls are kept for what is still to be received, 0 to 16384; 0 where it isn't given";
+
+const WITNESS_ROSTERS_HELP: &str = "The folder with the roster of each epoch";
+
+const WITNESS_AT_HELP: &str = "Where servers give out their logs: N=HOST:PORT, with commas between";
+
+const WITNESS_LISTEN_HELP: &str = "Where gateways, other witnesses and `ask` connect";
+
+const WITNESS_EVERY_HELP: &str = "How often servers are asked, 1 to 86400; 10 where it isn't given";
+
+const WITNESS_PATIENCE_HELP: &str =
+    "After how long without an answer a node is said to be suspected, 0 to 86400; 60 where it isn't given";
+
+const WITNESS_EVIDENCE_HELP: &str =
+    "Writes node-N.evidence to this folder as soon as node N is exposed";
+
+const WITNESS_EPOCH_HELP: &str =
+    "The epoch; the greatest for which there is a roster where none is named";
+
+const WITNESS_STATE_HELP: &str =
+    "The folder of the control socket; nobody but its owner may use it";
+
+const ASK_ROSTERS_HELP: &str = "The folder with the rosters, one of which the witness must have";
+
+const ASK_NODES_HELP: &str =
+    "The first and the last number that is asked for; all where none are named";
+
+const ASK_WITNESS_HELP: &str = "Where the witness listens";
+
+const STOP_STATE_HELP: &str = "The folder of its control socket";
+
+/// What the help of a party's process ends with.
+const STATUSES: &str =
+    "Statuses: 0 ended by `stop`, 1 a fault in the input, 2 the command line, 3 no memory, 4 a device, 5 keys used up, 6 the other
+side can't be accepted";
+
+/// What the help of `ask` ends with.
+const ASK_NOTES: &str =
+    "Statuses: 0 all are trusted, 2 the command line, 3 no memory, 4 no connection, 6 another roster, 7 somebody is suspected, 8
+somebody is exposed";
+
+/// The subcommand `server`.
+pub(crate) fn server_command<'a>(alloc: Global) -> Result<Command<'a>, AllocError>
+    ensures { IfOk result (λ c. app_of c ≡ server_command) }
+{
+    Command::new(alloc, "server")
+        .about("Serves the files of a node to gateways, and its log to witnesses")
+        .after_help(STATUSES)
+        .arg(needed_option(alloc, "secret", "FILE", SERVER_SECRET_HELP))?
+        .arg(needed_option(alloc, "rosters", "DIR", SERVER_ROSTERS_HELP))?
+        .arg(needed_option(alloc, "state", "DIR", SERVER_STATE_HELP))?
+        .arg(needed_option(alloc, "node", "N", SERVER_NODE_HELP))?
+        .arg(needed_option(alloc, "listen", "ADDRESS:PORT", SERVER_LISTEN_HELP))?
+        .arg(word_option(alloc, "audit", "ADDRESS:PORT", SERVER_AUDIT_HELP))?
+        .arg(flag(alloc, "progress", SERVER_PROGRESS_HELP))
+}
+
+/// The subcommand `gateway`.
+pub(crate) fn gateway_command<'a>(alloc: Global) -> Result<Command<'a>, AllocError>
+    ensures { IfOk result (λ c. app_of c ≡ gateway_command) }
+{
+    Command::new(alloc, "gateway")
+        .about("Lets the programs of this machine use a server by NFS, as nodes of its user")
+        .after_help(STATUSES)
+        .arg(needed_option(alloc, "secret", "FILE", GATEWAY_SECRET_HELP))?
+        .arg(needed_option(alloc, "nodes", "A-B", GATEWAY_NODES_HELP))?
+        .arg(needed_option(alloc, "server", "N=HOST:PORT", GATEWAY_SERVER_HELP))?
+        .arg(needed_option(alloc, "rosters", "DIR", GATEWAY_ROSTERS_HELP))?
+        .arg(needed_option(alloc, "state", "DIR", GATEWAY_STATE_HELP))?
+        .arg(word_option(alloc, "witness", "LIST", GATEWAY_WITNESS_HELP))?
+        .arg(word_option(alloc, "listen", "ADDRESS:PORT", GATEWAY_LISTEN_HELP))?
+        .arg(word_option(alloc, "every", "SECONDS", GATEWAY_EVERY_HELP))?
+        .arg(word_option(alloc, "reserve", "CALLS", GATEWAY_RESERVE_HELP))
+}
+
+/// The subcommand `witness`.
+pub(crate) fn witness_command<'a>(alloc: Global) -> Result<Command<'a>, AllocError>
+    ensures { IfOk result (λ c. app_of c ≡ witness_command) }
+{
+    Command::new(alloc, "witness")
+        .about("Audits servers and gateways, and says what it knows of them")
+        .after_help(STATUSES)
+        .arg(needed_option(alloc, "rosters", "DIR", WITNESS_ROSTERS_HELP))?
+        .arg(needed_option(alloc, "at", "LIST", WITNESS_AT_HELP))?
+        .arg(needed_option(alloc, "listen", "ADDRESS:PORT", WITNESS_LISTEN_HELP))?
+        .arg(word_option(alloc, "every", "SECONDS", WITNESS_EVERY_HELP))?
+        .arg(word_option(alloc, "patience", "SECONDS", WITNESS_PATIENCE_HELP))?
+        .arg(word_option(alloc, "evidence", "DIR", WITNESS_EVIDENCE_HELP))?
+        .arg(word_option(alloc, "epoch", "E", WITNESS_EPOCH_HELP))?
+        .arg(word_option(alloc, "state", "DIR", WITNESS_STATE_HELP))
+}
+
+/// The subcommand `ask`.
+pub(crate) fn ask_command<'a>(alloc: Global) -> Result<Command<'a>, AllocError>
+    ensures { IfOk result (λ c. app_of c ≡ ask_command) }
+{
+    Command::new(alloc, "ask")
+        .about("Asks a witness what it knows of nodes")
+        .after_help(ASK_NOTES)
+        .arg(word_option(alloc, "rosters", "DIR", ASK_ROSTERS_HELP))?
+        .arg(word_option(alloc, "nodes", "A-B", ASK_NODES_HELP))?
+        .arg(word_argument(alloc, "witness", "HOST:PORT", ASK_WITNESS_HELP))
+}
+
+/// The subcommand `stop`.
+pub(crate) fn stop_command<'a>(alloc: Global) -> Result<Command<'a>, AllocError>
+    ensures { IfOk result (λ c. app_of c ≡ stop_command) }
+{
+    Command::new(alloc, "stop")
+        .about("Ends the server, the gateway or the witness of a state folder in order")
+        .arg(word_argument(alloc, "state", "DIR", STOP_STATE_HELP))
+}
+
+/// What `server` is asked.
+fn server_request<'a>(matches: &ArgMatches<'a>) -> ServerRequest<'a>
+    ensures secret { result.secret.now ≡ unwrap_or (first_of (codes "secret") (rows_in matches.now)) [] }
+    ensures rosters { result.rosters.now ≡ unwrap_or (first_of (codes "rosters") (rows_in matches.now)) [] }
+    ensures state { result.state.now ≡ unwrap_or (first_of (codes "state") (rows_in matches.now)) [] }
+    ensures node { result.node.now ≡ unwrap_or (first_of (codes "node") (rows_in matches.now)) [] }
+    ensures listen { result.listen.now ≡ unwrap_or (first_of (codes "listen") (rows_in matches.now)) [] }
+    ensures audit { option_map (λ s. s.now) result.audit ≡ first_of (codes "audit") (rows_in matches.now) }
+    ensures progress { is_told (codes "progress") (rows_in matches.now) ≡ true
+        → result.progress ≡ is_set (codes "progress") (rows_in matches.now) }
+{
+    ServerRequest {
+        secret: text_of(matches, "secret"),
+        rosters: text_of(matches, "rosters"),
+        state: text_of(matches, "state"),
+        node: text_of(matches, "node"),
+        listen: text_of(matches, "listen"),
+        audit: word_of(matches, "audit"),
+        progress: flag_of(matches, "progress"),
+    }
+}
+
+/// What `gateway` is asked.
+fn gateway_request<'a>(matches: &ArgMatches<'a>) -> GatewayRequest<'a>
+    ensures secret { result.secret.now ≡ unwrap_or (first_of (codes "secret") (rows_in matches.now)) [] }
+    ensures nodes { result.nodes.now ≡ unwrap_or (first_of (codes "nodes") (rows_in matches.now)) [] }
+    ensures server { result.server.now ≡ unwrap_or (first_of (codes "server") (rows_in matches.now)) [] }
+    ensures rosters { result.rosters.now ≡ unwrap_or (first_of (codes "rosters") (rows_in matches.now)) [] }
+    ensures state { result.state.now ≡ unwrap_or (first_of (codes "state") (rows_in matches.now)) [] }
+    ensures witness { option_map (λ s. s.now) result.witness
+        ≡ first_of (codes "witness") (rows_in matches.now) }
+    ensures listen { option_map (λ s. s.now) result.listen ≡ first_of (codes "listen") (rows_in matches.now) }
+    ensures every { option_map (λ s. s.now) result.every ≡ first_of (codes "every") (rows_in matches.now) }
+    ensures reserve { option_map (λ s. s.now) result.reserve
+        ≡ first_of (codes "reserve") (rows_in matches.now) }
+{
+    GatewayRequest {
+        secret: text_of(matches, "secret"),
+        nodes: text_of(matches, "nodes"),
+        server: text_of(matches, "server"),
+        rosters: text_of(matches, "rosters"),
+        state: text_of(matches, "state"),
+        witness: word_of(matches, "witness"),
+        listen: word_of(matches, "listen"),
+        every: word_of(matches, "every"),
+        reserve: word_of(matches, "reserve"),
+    }
+}
+
+/// What `witness` is asked.
+fn witness_request<'a>(matches: &ArgMatches<'a>) -> WitnessRequest<'a>
+    ensures rosters { result.rosters.now ≡ unwrap_or (first_of (codes "rosters") (rows_in matches.now)) [] }
+    ensures at { result.at.now ≡ unwrap_or (first_of (codes "at") (rows_in matches.now)) [] }
+    ensures listen { result.listen.now ≡ unwrap_or (first_of (codes "listen") (rows_in matches.now)) [] }
+    ensures every { option_map (λ s. s.now) result.every ≡ first_of (codes "every") (rows_in matches.now) }
+    ensures patience { option_map (λ s. s.now) result.patience
+        ≡ first_of (codes "patience") (rows_in matches.now) }
+    ensures evidence { option_map (λ s. s.now) result.evidence
+        ≡ first_of (codes "evidence") (rows_in matches.now) }
+    ensures epoch { option_map (λ s. s.now) result.epoch ≡ first_of (codes "epoch") (rows_in matches.now) }
+    ensures state { option_map (λ s. s.now) result.state ≡ first_of (codes "state") (rows_in matches.now) }
+{
+    WitnessRequest {
+        rosters: text_of(matches, "rosters"),
+        at: text_of(matches, "at"),
+        listen: text_of(matches, "listen"),
+        every: word_of(matches, "every"),
+        patience: word_of(matches, "patience"),
+        evidence: word_of(matches, "evidence"),
+        epoch: word_of(matches, "epoch"),
+        state: word_of(matches, "state"),
+    }
+}
+
+/// What `ask` is asked.
+fn ask_request<'a>(matches: &ArgMatches<'a>) -> AskRequest<'a>
+    ensures rosters { option_map (λ s. s.now) result.rosters
+        ≡ first_of (codes "rosters") (rows_in matches.now) }
+    ensures nodes { option_map (λ s. s.now) result.nodes ≡ first_of (codes "nodes") (rows_in matches.now) }
+    ensures witness { result.witness.now ≡ unwrap_or (first_of (codes "witness") (rows_in matches.now)) [] }
+{
+    AskRequest {
+        rosters: word_of(matches, "rosters"),
+        nodes: word_of(matches, "nodes"),
+        witness: text_of(matches, "witness"),
+    }
+}
+
+/// The request of one of these commands, if it is one of them.
+pub(crate) fn hosts_request_in<'a>(matches: &ArgMatches<'a>) -> Option<Request<'a>>
+    ensures some { IfSome result (λ r. (words : List (List ℕ)) → fault_of commands words ≡ []
+        → subcommand_rows_of matches.now ≡ subcommand_of commands words
+        → asked_in words ≡ Some (asked_by r)) }
+    ensures none { IfNone result (AllByRecursion (λ name. subcommand_name_of matches.now ≡ Some name
+        → ⊥) hosts_names) }
+{
+    if let Some(server) = matches.subcommand_matches("server") {
+        return Some(Request::Server(server_request(server)));
+    }
+    if let Some(gateway) = matches.subcommand_matches("gateway") {
+        return Some(Request::Gateway(gateway_request(gateway)));
+    }
+    if let Some(witness) = matches.subcommand_matches("witness") {
+        return Some(Request::Witness(witness_request(witness)));
+    }
+    if let Some(ask) = matches.subcommand_matches("ask") {
+        return Some(Request::Ask(ask_request(ask)));
+    }
+    if let Some(stop) = matches.subcommand_matches("stop") {
+        return Some(Request::Stop(text_of(stop, "state")));
+    }
+    None
+}
