@@ -45,8 +45,8 @@ fn fails(alloc: Global, roster: Roster, bases: Vec<Checked<Base>>, wanted: Start
     }
 }
 
-/// Whether books begin at the base of a server, which is none of another roster; two of one node are too many,
-/// whatever the roster.
+/// Whether books begin at the base of a server, which is none of another roster; two of one node are too
+/// many, whatever the roster.
 fn are_started(alloc: Global, both: &mut Parties) -> Option<bool> {
     let text = base_text(alloc, both)?;
     let one = bases_of(alloc, &both.roster, &text, 1)?;

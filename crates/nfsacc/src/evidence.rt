@@ -1,13 +1,13 @@
 //! `nfsacc check`, `nfsacc roster` and `nfsacc base`.
 
-use crate::devices::Remembering;
-use crate::{
-    COMMAND_LINE, DASH, INPUT_FAULT, STANDARD_INPUT, report_file, report_no_memory, report_output,
-};
+use crate::{DASH, STANDARD_INPUT};
 use command_line::{CheckRequest, state_number};
 use console::{
     Base, BaseJudgement, CheckFault, Checked, Detail, Format, Judgement, Reason, Roster, check,
     check_base, read_base, read_roster, write_roster,
+};
+use program_output::{
+    COMMAND_LINE, INPUT_FAULT, Remembering, report_file, report_no_memory, report_output,
 };
 use rpc::records::Counting;
 use shown_names::ShownName;

@@ -1,59 +1,36 @@
 //! `nfsacc`: an accountable file service.
 #![tactic(auto)]
 
-ghost use Rattle.std.specs.Prelude.{◌≡◌, ◌⊎◌};
-
-mod control;
-mod devices;
-mod errors;
 mod evidence;
-mod master;
 mod run;
 mod serve;
-mod shelf;
-mod times;
 mod words;
 
 use command_line::{Request, ServeRefusal, parse, serve_order};
-use devices::Remembering;
-use errors::TimedErrors;
 use evidence::{check_base_file, check_file, show_roster};
+use host_commands::{
+    ask_witness, make_rosters, make_secret, run_server, show_members, stop_process,
+};
+use party_files::FileShelf;
+use program_output::{
+    COMMAND_LINE, INPUT_FAULT, Remembering, TimedErrors, report_file, report_no_memory,
+    report_output, report_words,
+};
 use rpc::records::{Counting, RecordFault, RecordReader};
 use rpc_streams::run_rpc;
 use run::run_file;
 use serve::{Opened, open, order_of, report_served};
 use serving::serve;
-use shelf::FileShelf;
-use shown_names::ShownName;
 use std::io;
 use std::io::BufReader;
 use std::process::ExitCode;
-use std::random::RandomSource;
-use std::rt::Files;
-use std::sync::Wait;
-use std::thread::Threads;
-use words::{report_words, words_of};
-
-/// The status of the program, beside 0, for a fault in the input: the records end with one, a file is no
-/// evidence or has no roster or no base, or a script has a bad line.
-pub(crate) const INPUT_FAULT: u8 = 1;
-
-/// The words of the command line ask for nothing that there is.
-pub(crate) const COMMAND_LINE: u8 = 2;
-
-/// Memory was refused.
-const NO_MEMORY: u8 = 3;
-
-/// A read or a write failed.
-pub(crate) const DEVICE: u8 = 4;
+use words::{report_parse, words_of};
 
 /// How a command line names standard input where it takes a file to read.
 pub(crate) const DASH: &str = "-";
 
 /// How lines on standard error name the devices that have no name of their own.
 pub(crate) const STANDARD_INPUT: &str = "standard input";
-
-const STANDARD_OUTPUT: &str = "standard output";
 
 /// The name of the file that standard input is read from.
 pub(crate) const INPUT_FILE: &str = "/dev/stdin";
@@ -92,44 +69,15 @@ fn report_fault(rt: &impl Eprint, fault: RecordFault) -> u8 {
     }
 }
 
-/// Says on standard error what is wrong with a file.
-pub(crate) fn report_file(rt: &impl Eprint, name: &str, error: &io::Error) -> u8
-    ensures { (result ≡ 3) ⊎ (result ≡ 4) }
-{
-    if error.kind() == io::ErrorKind::OutOfMemory {
-        return report_no_memory(rt);
-    }
-    let name = ShownName::new(name);
-    let _ = eprintln!(rt; "nfsacc: {name}: {error}");
-    DEVICE
-}
-
-/// Says on standard error that standard output takes no more, and why: where no error was
-/// answered, a write took nothing.
-pub(crate) fn report_output(rt: &impl Eprint, error: Option<io::Error>) -> u8
-    ensures { (result ≡ 3) ⊎ (result ≡ 4) }
-{
-    match error {
-        Some(error) => report_file(rt, STANDARD_OUTPUT, &error),
-        None => {
-            let _ = eprintln!(rt; "nfsacc: {STANDARD_OUTPUT}: a write took nothing");
-            DEVICE
-        }
-    }
-}
-
-/// Says on standard error that memory was refused, and gives the status for it.
-pub(crate) fn report_no_memory(rt: &impl Eprint) -> u8
-    ensures { result ≡ 3 }
-{
-    let _ = rt.eprintln("nfsacc: out of memory");
-    NO_MEMORY
-}
-
 /// Says on standard error what can't be served, and gives the status for it.
 fn report_order(rt: &impl Eprint, refusal: ServeRefusal) -> u8 {
     let _ = eprintln!(rt; "nfsacc: {refusal}");
     COMMAND_LINE
+}
+
+/// Says on standard error that a command isn't there yet, and gives the status for it.
+fn report_missing(rt: &impl Eprint) -> u8 {
+    report_words(rt, "this command is not there yet", COMMAND_LINE)
 }
 
 /// The threads of a service write to standard error and to files, so all of its types are made here.
@@ -145,11 +93,15 @@ fn main(rt: HostRuntime) -> ExitCode {
         Ok(Request::Roster(name)) => show_roster(&rt, name),
         Ok(Request::Base(name)) => check_base_file(&rt, name),
         Ok(Request::Run(request)) => run_file(&rt, request),
+        Ok(Request::Secret(name)) => make_secret(&rt, name),
+        Ok(Request::Member(request)) => show_members(&rt, &request),
+        Ok(Request::Rosters(request)) => make_rosters(&rt, &request),
         Ok(Request::Serve(request)) => match serve_order(&request) {
             Ok(order) => match open(&rt, &order) {
                 Ok(opened) => {
                     let Opened {
                         listener,
+                        secret: _secret,
                         masters,
                         control,
                         stand_ins: _stand_ins,
@@ -171,7 +123,11 @@ fn main(rt: HostRuntime) -> ExitCode {
             },
             Err(refusal) => report_order(&rt, refusal),
         },
-        Err(error) => report_words(&rt, words.as_slice(), &error),
+        Ok(Request::Server(request)) => run_server(&rt, &request),
+        Ok(Request::Stop(folder)) => stop_process(&rt, folder),
+        Ok(Request::Ask(request)) => ask_witness(&rt, &request),
+        Ok(Request::Gateway(_) | Request::Witness(_)) => report_missing(&rt),
+        Err(error) => report_parse(&rt, words.as_slice(), &error),
     };
     ExitCode::from(status)
 }

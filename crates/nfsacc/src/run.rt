@@ -1,14 +1,13 @@
 //! `nfsacc run`.
 
-use crate::devices::Remembering;
 use crate::evidence::read_base_file;
-use crate::shelf::{FileShelf, leads_to};
-use crate::{
-    COMMAND_LINE, DASH, INPUT_FAULT, INPUT_FILE, READ_AHEAD, STANDARD_INPUT, report_file,
-    report_no_memory, report_output,
-};
+use crate::{DASH, INPUT_FILE, READ_AHEAD, STANDARD_INPUT};
 use command_line::RunRequest;
 use console::{Base, Checked};
+use party_files::{FileShelf, leads_to};
+use program_output::{
+    COMMAND_LINE, INPUT_FAULT, Remembering, report_file, report_no_memory, report_output,
+};
 use scripts::{ScriptEnd, ScriptFault, ScriptFiles, StartFault, run_script};
 use shown_names::ShownName;
 use std::fs::{Metadata, OpenFile};

@@ -3,24 +3,16 @@
 ghost use Rattle.std.specs.Prelude.{◌≡◌, ◌≢◌, ◌⊎◌, true, false, IsOk, IsErr, IfOk, IfErr};
 ghost use Rattle.std.specs.declared.io.Error.{Error};
 
-use crate::control::{Control, ControlFault};
-use crate::master::{MasterFault, read_master};
-use crate::shelf::FileShelf;
-use crate::{
-    COMMAND_LINE, DEVICE, INPUT_FAULT, STANDARD_INPUT, report_file, report_no_memory, report_output,
-};
 use command_line::ServeOrder;
+use party_files::{Control, FileShelf, HeldSecret, report_control, report_secret, stand_ins};
+use program_output::{DEVICE, INPUT_FAULT, report_file, report_no_memory, report_output};
 use serving::{Finished, Masters, Order, ServeFault};
-use shown_names::ShownName;
 use std::fs::File;
+use std::io;
 use std::net::{Net, SocketAddr, TcpListener, TcpStream};
 use std::os::unix::net::UnixListener;
 use std::random::RandomSource;
 use std::rt::Files;
-use std::{fs, io};
-
-/// The device that has nothing to read.
-const NOTHING: &str = "/dev/null";
 
 /// What is said where the witness's journal isn't what it answered.
 const NOT_IN_JOURNAL: &str = "nfsacc: what the witness answered does not stand in its journal";
@@ -29,6 +21,9 @@ const NOT_IN_JOURNAL: &str = "nfsacc: what the witness answered does not stand i
 #[derive(Drop)]
 pub struct Opened {
     pub listener: TcpListener,
+    /// The secret that the keys are made of, which no other process uses until the run is over, if one is
+    /// named.
+    pub secret: Option<HeldSecret>,
     pub masters: Masters,
     /// The control socket, by which the run can be told to stop, if there is one.
     pub control: Option<Control>,
@@ -38,20 +33,15 @@ pub struct Opened {
 }
 
 /// Opens the port and the control socket, reads the secret bytes if a file of them is named, and tries the
-/// folders for evidence and for bases. Gives the status of the program where one of them fails.
+/// folders for evidence and for bases; then it notes beside the secret that a run is begun. Gives the status
+/// of the program where one of them fails.
 pub fn open<R>(rt: &R, order: &ServeOrder<'_>) -> Result<Opened, u8>
 where
-    R: Files<File = File> + Input + Eprint + AllocGlobal + RandomSource,
+    R: Files<File = File> + Eprint + AllocGlobal + RandomSource,
     R: Net<Listener = TcpListener, Stream = TcpStream>,
 {
-    let stand_ins = [nothing(rt), nothing(rt), nothing(rt)];
-    let masters = match order.master {
-        None => Masters::Known,
-        Some(name) => match read_master(rt, name) {
-            Ok(secret) => Masters::Secret(secret),
-            Err(fault) => return Err(report_master(rt, name, &fault)),
-        },
-    };
+    let stand_ins = stand_ins(rt);
+    let mut secret = open_secret(rt, order)?;
     try_named(rt, order.options.evidence)?;
     try_named(rt, order.options.base_out)?;
     let address = SocketAddr::new(order.address, order.port);
@@ -62,12 +52,43 @@ where
             return Err(DEVICE);
         }
     };
+    let control = open_control(rt, order)?;
+    let masters = begin(rt, order, &mut secret)?;
     Ok(Opened {
         listener,
+        secret,
         masters,
-        control: open_control(rt, order)?,
+        control,
         stand_ins,
     })
+}
+
+/// Opens the file of secret bytes, if one is named, or says why it can't be used and gives the status for it.
+fn open_secret<R>(rt: &R, order: &ServeOrder<'_>) -> Result<Option<HeldSecret>, u8>
+where
+    R: Files<File = File> + Eprint + AllocGlobal,
+{
+    let Some(name) = order.master else {
+        return Ok(None);
+    };
+    match HeldSecret::open(rt, name) {
+        Ok(secret) => Ok(Some(secret)),
+        Err(fault) => Err(report_secret(rt, name, &fault)),
+    }
+}
+
+/// What the keys of the run are made of: it is noted on the disk first that the run has begun.
+fn begin<R>(rt: &R, order: &ServeOrder<'_>, secret: &mut Option<HeldSecret>) -> Result<Masters, u8>
+where
+    R: Files + Eprint + AllocGlobal + RandomSource,
+{
+    let Some(secret) = secret else {
+        return Ok(Masters::Known);
+    };
+    match secret.begin_run(rt) {
+        Ok(masters) => Ok(masters),
+        Err(fault) => Err(report_secret(rt, order.master.unwrap_or(""), &fault)),
+    }
 }
 
 /// Makes the control socket where a folder is named for it, or says why it can't be made and gives the status
@@ -81,22 +102,8 @@ where
     };
     match Control::open(rt, rt.alloc(), folder) {
         Ok(control) => Ok(Some(control)),
-        Err(ControlFault::NoMemory) => Err(report_no_memory(rt)),
-        Err(ControlFault::Open) => {
-            Err(report_words_of(rt, folder, "others than its owner may use it", COMMAND_LINE))
-        }
-        Err(ControlFault::Folder(error)) => Err(report_file(rt, folder, &error)),
-        Err(ControlFault::Socket(error)) => {
-            let name = ShownName::new(folder);
-            let _ = eprintln!(rt; "nfsacc: {name}/control: {error}");
-            Err(DEVICE)
-        }
+        Err(fault) => Err(report_control(rt, folder, &fault)),
     }
-}
-
-/// A file that has nothing to read and takes no writes, if it can be opened.
-fn nothing<R: Files<File = File>>(rt: &R) -> Option<File> {
-    fs::open(rt, NOTHING).ok()
 }
 
 /// The order for a run: its options, and what was opened for it.
@@ -161,33 +168,6 @@ where
 /// That a folder is there and takes files: before anybody is served, since files may come at any time.
 fn try_folder<R: Files + AllocGlobal + RandomSource>(rt: &R, name: &str) -> io::Result<()> {
     FileShelf::new(rt, rt.alloc()).try_folder(name)
-}
-
-/// Says on standard error what is wrong with a file of secret bytes.
-fn report_master(rt: &impl Eprint, name: &str, fault: &MasterFault) -> u8 {
-    let name = if name == "-" { STANDARD_INPUT } else { name };
-    match fault {
-        MasterFault::File(error) => report_file(rt, name, error),
-        MasterFault::Device => {
-            let _ = eprintln!(rt; "nfsacc: {name}: it is a device, and no file");
-            COMMAND_LINE
-        }
-        MasterFault::Open => {
-            let _ = eprintln!(rt; "nfsacc: {name}: others than its owner may use it");
-            COMMAND_LINE
-        }
-        MasterFault::Size => {
-            let _ = eprintln!(rt; "nfsacc: {name}: it doesn't have 32 bytes");
-            INPUT_FAULT
-        }
-    }
-}
-
-/// Says this of a file on standard error, and gives the status for it.
-fn report_words_of(rt: &impl Eprint, name: &str, words: &str, status: u8) -> u8 {
-    let name = ShownName::new(name);
-    let _ = eprintln!(rt; "nfsacc: {name}: {words}");
-    status
 }
 
 /// The status of a run that came to its end: a journal that isn't what the witness answered is the first

@@ -1,8 +1,8 @@
 //! The words of the command line.
 
-use crate::{COMMAND_LINE, DEVICE, report_no_memory, report_output};
 use clap::error::ErrorKind;
 use command_line::parse;
+use program_output::{COMMAND_LINE, DEVICE, report_no_memory, report_output};
 use shown_names::ShownName;
 use std::alloc::{AllocError, Global};
 use std::rt::Env;
@@ -26,7 +26,7 @@ pub fn words_of<R: Env + Eprint + AllocGlobal>(rt: &R) -> Result<Vec<String>, u8
 
 /// The status of a command line that asks for nothing that there is, or for help. What is said of it has some
 /// of its words; where one of them isn't shown as it is, the same is said of the words as they are shown.
-pub fn report_words<R>(rt: &R, words: &[String], error: &clap::Error) -> u8
+pub fn report_parse<R>(rt: &R, words: &[String], error: &clap::Error) -> u8
 where
     R: Print + Eprint + AllocGlobal,
 {

@@ -1,14 +1,25 @@
 //! The control socket in a folder.
 
+use program_output::{COMMAND_LINE, DEVICE, report_file, report_name, report_no_memory};
+use shown_names::ShownName;
+use sockets::STOP;
 use std::alloc::Global;
+use std::io::Write;
 use std::net::Net;
 use std::os::unix::fs::{FileTypeExt, PermissionsExt};
 use std::os::unix::net::{UnixListener, UnixStream};
 use std::rt::Files;
+use std::time::Duration;
 use std::{fs, io};
 
 /// The bits of a folder's mode by which others than its owner may do something there.
 const OTHERS: u32 = 0o077;
+
+/// The most bytes of the name of a Unix socket.
+const MAX_NAME: usize = 107;
+
+/// How many seconds a process that is told to stop may take to hear it.
+const PATIENCE: u64 = 10;
 
 /// Why there is no control socket in a folder.
 #[derive(Debug, Drop)]
@@ -17,6 +28,8 @@ pub enum ControlFault {
     Folder(io::Error),
     /// Others than its owner may use the folder, and so the socket.
     Open,
+    /// The socket's name has more bytes than the system takes.
+    TooLong,
     /// The socket can't be made there.
     Socket(io::Error),
     /// Memory was refused.
@@ -49,6 +62,9 @@ impl Control {
         let Ok(name) = format!(in alloc; "{folder}/control") else {
             return Err(ControlFault::NoMemory);
         };
+        if name.len() > MAX_NAME {
+            return Err(ControlFault::TooLong);
+        }
         match listen(rt, &name) {
             Ok(listener) => Ok(Control { name, listener }),
             Err(error) => Err(ControlFault::Socket(error)),
@@ -56,7 +72,7 @@ impl Control {
     }
 
     /// Removes the socket's file.
-    pub fn close<R: Files>(self, rt: &R) {
+    pub fn close<R: Files>(&self, rt: &R) {
         let _ = fs::remove_file(rt, self.name.as_str());
     }
 }
@@ -80,5 +96,40 @@ fn is_left<R: Files + Net>(rt: &R, name: &str) -> bool {
             Err(error) => error.kind() == io::ErrorKind::ConnectionRefused,
         },
         _ => false,
+    }
+}
+
+/// Tells the process whose control socket lies in a folder to stop.
+pub fn tell_to_stop<R: Net>(rt: &R, alloc: Global, folder: &str) -> io::Result<()> {
+    let name = format!(in alloc; "{folder}/control")?;
+    let mut stream = UnixStream::connect(rt, name.as_str())?;
+    stream.set_write_timeout(Some(Duration::from_secs(PATIENCE)))?;
+    stream.write_all(STOP)
+}
+
+/// Says on standard error why there is no control socket in a folder, and gives the status for it.
+pub fn report_control(rt: &impl Eprint, folder: &str, fault: &ControlFault) -> u8 {
+    match fault {
+        ControlFault::NoMemory => report_no_memory(rt),
+        ControlFault::Open => report_name(
+            rt,
+            folder,
+            "others than its owner may use it",
+            COMMAND_LINE,
+        ),
+        ControlFault::TooLong => {
+            report_name(
+                rt,
+                folder,
+                "the name of its control socket has more than 107 bytes",
+                COMMAND_LINE,
+            )
+        }
+        ControlFault::Folder(error) => report_file(rt, folder, error),
+        ControlFault::Socket(error) => {
+            let name = ShownName::new(folder);
+            let _ = eprintln!(rt; "nfsacc: {name}/control: {error}");
+            DEVICE
+        }
     }
 }

@@ -1,5 +1,5 @@
 use Rattle.std.proofs.Common.{◌-◌, ◌≤◌}
-use Rattle.nfsacc.proofs.master.read_secret.Given as goal
+use Rattle.party_files.proofs.secret.read_bytes.Given as goal
 
 abbrev pub invariant-loop-filled : goal.invariant-loop-filled
 invariant-loop-filled g l = l.filled ≤ 33

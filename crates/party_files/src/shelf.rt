@@ -1,16 +1,22 @@
 //! Files by their names.
 
-use scripts::Shelf;
 use std::alloc::Global;
-use std::fs::{Metadata, OpenFile, OpenOptions};
+use std::fs::{File, Metadata, OpenFile, OpenOptions, Permissions};
 use std::io::Write;
-use std::os::unix::fs::MetadataExt;
+use std::os::unix::fs::{MetadataExt, PermissionsExt};
 use std::random::RandomSource;
 use std::rt::Files;
 use std::{fs, io};
+use witness_calls::Shelf;
 
 /// How many names are tried for a new file.
 const TRIES: usize = 16;
+
+/// The device that has nothing to read.
+const NOTHING: &str = "/dev/null";
+
+/// The mode of a file that anybody may read.
+pub const PUBLIC_MODE: u32 = 0o644;
 
 /// The folder whose names are the system's.
 const SYSTEM_FOLDER: &str = "/dev/";
@@ -54,6 +60,22 @@ impl<'a, R: Files + RandomSource> FileShelf<'a, R> {
             let _ = fs::remove_file(self.runtime, new.name.as_str());
         }
         put
+    }
+
+    /// Puts a new file of this mode in the place of the one that is named. Once this is done it is on the
+    /// disk, whole, and so is its name; after an error the one or the other file stands there.
+    pub fn put_durably(&self, name: &str, bytes: &[u8], mode: u32) -> io::Result<()> {
+        let mut new = self.new_file_beside(name)?;
+        let put = write_durably(&mut new.file, bytes, mode).and_then(|()| fs::rename(
+            self.runtime,
+            new.name.as_str(),
+            name,
+        ));
+        if put.is_err() {
+            let _ = fs::remove_file(self.runtime, new.name.as_str());
+            return put;
+        }
+        sync_folder_of(self.runtime, name)
     }
 
     /// Makes a file in the folder of another one, with a name that isn't there yet: it opens nothing that is
@@ -100,6 +122,27 @@ impl<'a, R: Files + RandomSource> FileShelf<'a, R> {
     }
 }
 
+/// Writes all bytes to a new file and gives it a mode; they are on the disk once this is done.
+fn write_durably<F: Write + OpenFile>(file: &mut F, bytes: &[u8], mode: u32) -> io::Result<()> {
+    file.write_all(bytes)?;
+    file.set_permissions(Permissions::from_mode(mode))?;
+    file.sync_all()
+}
+
+/// Lets the folder of a file reach the disk, and so the file's name.
+pub fn sync_folder_of<R: Files>(rt: &R, name: &str) -> io::Result<()> {
+    fs::open(rt, folder_of(name))?.sync_all()
+}
+
+/// The folder of a file.
+fn folder_of(name: &str) -> &str {
+    match name.rsplit_once('/') {
+        None => ".",
+        Some(("", _)) => "/",
+        Some((folder, _)) => folder,
+    }
+}
+
 /// Whether a name is one of the system's, which stay as they are where they lead to files: as `/dev/stdout`
 /// does where standard output goes to one.
 fn is_system(name: &str) -> bool {
@@ -119,6 +162,38 @@ impl<R: Files + RandomSource> Shelf for FileShelf<'_, R> {
             _ => self.replace(name, bytes),
         }
     }
+}
+
+/// The same files, of which each that is put is on the disk, whole, once that is done, and so is its name.
+#[derive(Drop)]
+pub struct DurableShelf<'a, R> {
+    files: FileShelf<'a, R>,
+}
+
+impl<'a, R: Files + RandomSource> DurableShelf<'a, R> {
+    /// The files that a runtime reaches.
+    pub fn new(runtime: &'a R, alloc: Global) -> DurableShelf<'a, R> {
+        DurableShelf {
+            files: FileShelf::new(runtime, alloc),
+        }
+    }
+}
+
+impl<R: Files + RandomSource> Shelf for DurableShelf<'_, R> {
+    fn put(&mut self, name: &str, bytes: &[u8]) -> io::Result<()> {
+        self.files.put_durably(name, bytes, PUBLIC_MODE)
+    }
+}
+
+/// /dev/null in the place of standard input, output and error where they are closed, for as long as it is kept:
+/// so no socket becomes descriptor 0 to 2, and no peer gets messages about others.
+pub fn stand_ins<R: Files<File = File>>(rt: &R) -> [Option<File>; 3] {
+    [nothing(rt), nothing(rt), nothing(rt)]
+}
+
+/// A file that has nothing to read and takes no writes, if it can be opened.
+fn nothing<R: Files<File = File>>(rt: &R) -> Option<File> {
+    fs::open(rt, NOTHING).ok()
 }
 
 /// Whether a name leads to a file that is known already.
