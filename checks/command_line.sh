@@ -398,8 +398,8 @@ check_memory() {
     local try words input last usual least
     # The input, more requests than its run makes, the status with memory, in how many runs at least memory runs out, and
     # the words of the command line.
-    local tries=('crates/nfsacc/stdin 100 0 60 rpc' 'crates/nfsacc/stdin 200 2 80 serve-all'
-        'checks/scripts/lie.script 450 0 250 run -')
+    local tries=('crates/nfsacc/stdin 250 0 60 rpc' 'crates/nfsacc/stdin 400 2 80 serve-all'
+        'checks/scripts/lie.script 700 0 250 run -')
     for try in "${tries[@]}"; do
         read -r input last usual least words <<< "$try"
         cp "$top/$input" in

@@ -11,6 +11,7 @@ CONTRACT = "a function and the private one that does its work have one contract"
 FIELDS = "a pattern names each field of an entry"
 ORDER = "the refusals of a check in their order, with a cache of signatures and without"
 SHAPE = "proofs of two functions of one shape, whose goals have names of their own"
+CONNECTION = "the stream, reader and writer of a connection borrow each other, so no function can hand them out"
 LENDS = "segments of logs of version 1, and of either version, lend their parts alike"
 
 # Pairs of files whose lines may agree, each with the reason. Paths begin at crates/.
@@ -44,6 +45,7 @@ ALIKE = {
      "evidence_showings/proofs/showing/Showing/of_segment/Answers.antt"): SHAPE,
     ("replay/proofs/verdict/replay/Answers.antt", "replay/proofs/verdict/replay/Answers.antt"): SHAPE,
     ("secure_log/src/segment.rt", "secure_log/src/versioned.rt"): LENDS,
+    ("server_process/src/server.rt", "witness_process/src/witness.rt"): CONNECTION,
 }
 
 SKIPPED = re.compile(r"^(\s*(//|--).*|\s*(pub |ghost )*use .*|\s*[\]\[(){};,.]*\s*)$")

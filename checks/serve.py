@@ -662,7 +662,7 @@ def check_roster(program: str):
         master.write_bytes(secret)
         master.chmod(0o600)
         for options, of in (([], lambda node: bytes(28) + word(node)),
-                            (['--master', str(master)], lambda node: sha256(secret + word(node)).digest())):
+                            (['--master', str(master)], lambda node: sha256(secret + word(node) + word(1)).digest())):
             roster = folder / 'roster'
             roster.unlink(missing_ok=True)
             service = Service(program, 2, *heights(2, 1), '--roster-out', str(roster), '--progress', *options)
@@ -680,9 +680,13 @@ def check_roster(program: str):
             told = untimed(said.splitlines())
             assert told[:3] == made and sorted(told[3:5]) == clients and told[5:] in ([one] for one in server), said
         outside = Service(program, 1, *heights(1, 1), '--address', '0.0.0.0', '--master', str(master))
+        status, printed, said = run(program, 'serve', '0', '1', '--master', str(master))
+        assert (status, printed, said) == (4, b'', f'nfsacc: {master}: another process uses it\n'), (status, said)
         assert null_client(outside.port) == NULL_REPLY
         all_good(outside, 1)
-    print('the roster is there before it listens, with the keys that their master secrets make')
+        spent = Path(f'{master}.spent')
+        assert spent.read_text() == 'run 1\nrun 2\n' and spent.stat().st_mode & 0o777 == 0o600, spent.read_text()
+    print('the roster is there before it listens, with the keys that their master secrets make; each run has keys of its own')
 
 
 def check_bases(program: str):
@@ -742,6 +746,41 @@ REFUSED = [
 NO_MASTERS = [(0o600 | bit, 32, 2) for bit in (0o40, 0o20, 0o10, 0o4, 0o2, 0o1)] + [(0o600, size, 1) for size in (31, 33, 0)]
 
 
+# What a file beside a secret may not say.
+NO_SPENT = [b'\n', b'run 1', b'run 01\n', b'run 0\n', b'run 4294967296\n', b'run 2\nrun 2\n', b'run 2\nrun 1\n', b'run 1 \n',
+            b'run 1\r\n', b'\xff\n']
+
+
+def check_spent(program: str, folder: Path):
+    """A run whose number can't be noted beside its secret doesn't begin."""
+    master = folder / 'master'
+    master.write_bytes(bytes(32))
+    master.chmod(0o600)
+    spent = Path(f'{master}.spent')
+    for text in NO_SPENT:
+        spent.write_bytes(text)
+        status, printed, said = run(program, 'serve', '0', '1', '--master', str(master))
+        wanted = f'nfsacc: {spent}: it does not say what was begun with a secret\n'
+        assert (status, printed, said) == (1, b'', wanted) and spent.read_bytes() == text, (text, status, said)
+    spent.write_bytes(b'run 4294967295\n')
+    status, printed, said = run(program, 'serve', '0', '1', '--master', str(master))
+    assert (status, printed, said) == (1, b'', f'nfsacc: {spent}: no number is left for a run\n'), (status, said)
+    spent.unlink()
+    spent.mkdir()
+    status, printed, said = run(program, 'serve', '0', '1', '--master', str(master))
+    assert (status, printed) == (4, b'') and said.startswith(f'nfsacc: {spent}: '), (status, said)
+    spent.rmdir()
+    for other in (folder / 'soft', folder / 'hard'):
+        if other.name == 'soft':
+            other.symlink_to(master)
+        else:
+            other.hardlink_to(master)
+        status, printed, said = run(program, 'serve', '0', '1', '--master', str(other))
+        assert (status, said) == (2, f'nfsacc: {other}: it is a link, or has another name\n'), (status, said)
+        other.unlink()
+    assert not spent.exists()
+
+
 def check_refused(program: str):
     for words in REFUSED:
         status, printed, said = run(program, 'serve', *words)
@@ -759,9 +798,9 @@ def check_refused(program: str):
         assert (status, printed) == (4, b'') and said.startswith(f'nfsacc: {name}: Is a directory'), (status, said)
         status, printed, said = run(program, 'serve', '0', '1', '--master', '/dev/null')
         assert (status, said) == (2, 'nfsacc: /dev/null: it is a device, and no file\n'), (status, said)
-        for size in (0, 31, 33):
-            status, printed, said = run(program, 'serve', '0', '1', '--master', '-', data=bytes(size))
-            assert (status, said) == (1, "nfsacc: standard input: it doesn't have 32 bytes\n"), (size, status, said)
+        status, printed, said = run(program, 'serve', '0', '1', '--master', '-', data=bytes(32))
+        assert (status, said) == (4, "nfsacc: standard input: what is begun can't be noted beside it\n"), (status, said)
+        check_spent(program, Path(name))
         Path(name).chmod(0o755)
         status, printed, said = run(program, 'serve', '0', '1', '--control', name)
         assert (status, said) == (2, f'nfsacc: {name}: others than its owner may use it\n'), (status, said)

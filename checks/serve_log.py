@@ -10,60 +10,32 @@ usage: checks/serve_log.py PROGRAM [CALLS]    CALLS of each client, 125 if not g
 import subprocess
 import sys
 from concurrent.futures import ThreadPoolExecutor
-from random import Random
 
 sys.dont_write_bytecode = True
-from serve.client import ROOT, Connection, call, mount_call, record, sattr  # noqa: E402
+from serve.calls import Calls  # noqa: E402
+from serve.client import Connection, record  # noqa: E402
 from serve.service import trusted  # noqa: E402
-from verifier.rpc import NFS  # noqa: E402
-from verifier.xdr import opaque, word  # noqa: E402
 
 CLIENTS = 16
 MOST_CALLS = 1000
 NO_CALL = b'no call'
 NO_CALL_AFTER = 42
-GIVES_HANDLE = (4, 9)
-MOUNTS = 0
-NAMES = [opaque(b'name%d' % number) for number in range(12)]
 PATIENCE = 600
 
 
-class Client:
-    """Makes calls on names that all clients use, so that what is owed to a call depends on those that were heard before
-    it. Keeps what it sent, and what it got over TCP."""
+class Client(Calls):
+    """Makes calls, and keeps what it sent and what it got over TCP."""
 
     def __init__(self, port: int, number: int):
+        super().__init__(number)
         self.connection = Connection(port)
-        self.random = Random(number)
-        self.xid = number << 16
-        self.handle = ROOT
         self.records: list[bytes] = []
         self.replies: list[bytes] = []
 
-    def name(self) -> bytes:
-        return ROOT + self.random.choice(NAMES)
-
-    def next_call(self) -> bytes:
-        self.xid += 1
-        place = self.random.randrange(600)
-        data = opaque(self.random.randbytes(self.random.choice([1, 40, 512, 3000])))
-        calls = {
-            2: ROOT + sattr(0o777), 4: self.name(), 6: self.handle + word(place, 1000, 0),
-            8: self.handle + word(0, place, 0) + data, 9: self.name() + sattr(0o644), 10: self.name(),
-            11: self.name() + self.name(), 14: self.name() + sattr(0o755), 15: self.name(), 16: ROOT + word(0, 2000),
-        }
-        procedure = self.random.choice([*calls, 8, 9, 9, MOUNTS])
-        if procedure == MOUNTS:
-            return mount_call(self.xid, self.random.choice([1, 2, 3]), opaque(b'/'))
-        return call(self.xid, procedure, calls[procedure])
-
     def take(self, body: bytes, reply: bytes):
-        """Keeps a call and its reply, and the handle that it gives, if it gives one."""
         self.records.append(body)
         self.replies.append(reply)
-        procedure = int.from_bytes(body[20:24], 'big')
-        if body[12:16] == word(NFS) and procedure in GIVES_HANDLE and reply[24:28] == word(0):
-            self.handle = reply[28:60]
+        super().take(body, reply)
 
     def make(self, calls: int):
         for number in range(1, calls + 1):

@@ -1,0 +1,646 @@
+#!/usr/bin/env python3
+"""Parties on hosts of their own, from outside: `nfsacc server`, `gateway` and `witness` as processes, with each other
+and with the parties of checks/peer, which were written from docs/WIRE.md.
+
+usage: checks/hosts.py PROGRAM [--calls CALLS] [NAME..]    CALLS through a gateway, 200 if not given
+"""
+
+import argparse
+import os
+import shutil
+import sys
+import time
+from concurrent.futures import ThreadPoolExecutor
+from pathlib import Path
+
+sys.dont_write_bytecode = True
+from hosts.logs import ServedLog, last_signed, log_of  # noqa: E402
+from hosts.parties import EVERY, Hosts, Party, spelled  # noqa: E402
+from hosts.proxy import Garbler, Proxy  # noqa: E402
+from peer import rows  # noqa: E402
+from peer.gateway import Gateway, ask, handed  # noqa: E402
+from peer.lies import (Fork, HidesLog, Liar, NoReply, OldReply, OtherAck, OtherMember, ReceivesTwice,  # noqa: E402
+                       Silent, Slow, Swapped, UnsignedAck, UnsignedReply, WrongReply, WrongXid)
+from peer.server import Server  # noqa: E402
+from peer.wire import DELIVER, NODE, WITNESS, Address, Caller  # noqa: E402
+from peer.witness import Witness  # noqa: E402
+from serve.calls import Calls  # noqa: E402
+from serve.client import ROOT, Connection, call, record  # noqa: E402
+from verifier.evidence import judge  # noqa: E402
+from verifier.keys import CLIENT, SERVER, digest  # noqa: E402
+from verifier.log import ACK  # noqa: E402
+from verifier.mount import World  # noqa: E402
+from verifier.nfs import Files  # noqa: E402
+from verifier.packets import ENVELOPE  # noqa: E402
+from verifier.replay import Fault  # noqa: E402
+from verifier.rpc import reply_to  # noqa: E402
+from verifier.xdr import opaque, word  # noqa: E402
+
+LOOKUP = call(7, 4, ROOT + opaque(b'hello'))
+ATTRIBUTES = call(8, 1, ROOT)
+SAME_XID = call(7, 1, ROOT)
+CONNECTIONS = 4
+DEVICE, KEYS_USED_UP, OTHER, SUSPECTED = 4, 5, 6, 7
+
+
+def owed(body: bytes) -> bytes:
+    """The reply to a call that reads, by a server whose files are as at the beginning."""
+    return reply_to(World(Files(1)), body, (0, 0))
+
+
+def are_trusted(end: int):
+    """What is said once everybody is trusted, and the server was audited up to a number."""
+    return lambda told: all(word == 'trusted' for word, _, _ in told.values()) and told[1][2] >= end
+
+
+def last_number(address: Address, hosts: Hosts) -> int:
+    caller = Caller(address, NODE)
+    number = last_signed(caller, hosts.roster(), 1, 0)
+    caller.close()
+    return number
+
+
+def usual(hosts: Hosts, server_height: int = 7, client_height: int = 6, epochs: str = '1-1'):
+    """Rosters of server 1 and clients 2 and 3."""
+    hosts.rosters(hosts.member('one', 1, SERVER, server_height, epochs),
+                  hosts.member('two', 2, CLIENT, client_height, epochs),
+                  hosts.member('three', 3, CLIENT, client_height, epochs))
+
+
+# ---- three programs of ours
+
+def check_three(program: str):
+    """A server, a gateway and a witness, each a process; everybody is trusted, and ends when it is told to."""
+    with Hosts(program) as hosts:
+        usual(hosts)
+        of_server, of_gateway, of_witness = (hosts.state(name) for name in ('s1', 's2', 's3'))
+        server = hosts.server('one', '--audit', '127.0.0.1:0', state=of_server)
+        server.wait_for('epoch 1, 128 keys made')
+        address, audits = server.address(), server.address('audits')
+        witness = hosts.witness({1: audits}, state=of_witness)
+        gateway = hosts.gateway('two', '2-2', address, witness.address(), state=of_gateway)
+        gateway.wait_for('node 2, epoch 1, 64 keys made')
+        gateway.wait_for(f'server 1 at {spelled(address)}')
+        connection = Connection(gateway.address()[1])
+        for body in LOOKUP, ATTRIBUTES, LOOKUP:
+            assert connection.ask(body) == owed(body)
+        connection.send(record(b'no call') + record(ATTRIBUTES))
+        assert connection.reply() == owed(ATTRIBUTES)
+        connection.finish()
+        last = last_number(address, hosts)
+        told = hosts.wait_until(witness.address(), are_trusted(last))
+        assert told[2][2] > 0, f'node 2 was not audited: {told}'
+        _, told = hosts.ask(witness.address(), '1-2')
+        assert list(told) == [1, 2], told
+        witness.wait_for(r'\S+Z 1 trusted 0 to \d+')
+        assert not any('exposed' in line for line in witness.lines), witness.lines
+        for party, state in (gateway, of_gateway), (server, of_server), (witness, of_witness):
+            assert (hosts.stop(party, state), party.said()) == (0, ''), party.said()
+    print('three processes: each reply as it is owed, everybody is trusted, and each ends when it is told to')
+
+
+def check_rows(program: str):
+    """The tables of docs/WIRE.md, of a server and of a witness, and records past their bounds."""
+    with Hosts(program) as hosts:
+        usual(hosts)
+        roster_digest = digest((hosts.folder / 'rosters' / 'epoch-1.roster').read_bytes())
+        server = hosts.server('one', '--audit', '127.0.0.1:0')
+        audits = server.address('audits')
+        rows.try_rows(server.address(), rows.judged(NODE, roster_digest) + rows.of_node())
+        rows.try_rows(server.address(), [(sent, rows.UNKNOWN_PROCEDURE) for sent, _ in rows.of_audits()])
+        rows.try_rows(audits, rows.judged(NODE, roster_digest) + rows.of_node() + rows.of_audits())
+        rows.try_records(server.address(), NODE)
+        rows.try_records(audits, NODE)
+        witness = hosts.witness({1: audits})
+        rows.try_rows(witness.address(), rows.judged(WITNESS, roster_digest) + rows.of_witness())
+        rows.try_records(witness.address(), WITNESS)
+    print('the tables of docs/WIRE.md, and records past their bounds')
+
+
+# ---- our gateway and witness, and a server that lies
+
+def check_lie(program: str):
+    """The third reply is wrong. The witness's evidence is taken under the roster."""
+    with Hosts(program) as hosts:
+        usual(hosts)
+        server = hosts.keep(WrongReply(hosts.keys('one', 1, SERVER, 7), hosts.roster(), at=3))
+        witness, cases = watched(hosts, server)
+        gateway = hosts.gateway('two', '2-2', server.address, witness.address())
+        connection = Connection(gateway.address()[1])
+        for _ in range(2):
+            assert connection.ask(ATTRIBUTES) == owed(ATTRIBUTES)
+        wrong, right = connection.ask(ATTRIBUTES), owed(ATTRIBUTES)
+        assert wrong == right[:-1] + bytes([right[-1] ^ 1]), wrong.hex()
+        fault = exposed(hosts, witness, cases)
+        assert fault is not None and fault[0] == Fault.WRONG_REPLY, fault
+    print('a server that lies: it is exposed, and the evidence is taken under the roster')
+
+
+def watched(hosts: Hosts, server: Server) -> tuple[Party, Path]:
+    """A witness of a server, and the folder for its evidence."""
+    cases = hosts.state('cases')
+    return hosts.witness({1: server.address}, '--evidence', str(cases)), cases
+
+
+def exposed(hosts: Hosts, witness: Party, cases: Path) -> tuple[int, int] | None:
+    """Server 1 is exposed by a file that both verifiers take: the fault and its entry's number, if it is a replay."""
+    found = witness.wait_for(r'\S+Z 1 exposed \d+ to \d+: (.*)')
+    evidence = cases / 'node-1.evidence'
+    assert found[1] == str(evidence), found[1]
+    roster = hosts.folder / 'rosters' / 'epoch-1.roster'
+    assert hosts.run('check', '--roster', str(roster), str(evidence)) == (0, 'exposed 1\n', '')
+    verdict = judge(evidence.read_bytes())
+    assert verdict.exposed == 1
+    others = {2: 'trusted', 3: 'trusted'}
+    hosts.wait_until(witness.address(), lambda told: words_of(told) == {1: 'exposed', **others})
+    return verdict.fault
+
+
+def words_of(told: dict[int, tuple]) -> dict[int, str]:
+    return {node: word for node, (word, _, _) in told.items()}
+
+
+def check_fork(program: str):
+    """Two gateways see one half each, and one witness finds it."""
+    with Hosts(program) as hosts:
+        usual(hosts)
+        server = hosts.keep(Fork(hosts.keys('one', 1, SERVER, 7), hosts.roster(), apart={3}))
+        witness, cases = watched(hosts, server)
+        for name, nodes in ('two', '2-2'), ('three', '3-3'):
+            gateway = hosts.gateway(name, nodes, server.address, witness.address())
+            connection = Connection(gateway.address()[1])
+            for _ in range(2):
+                assert connection.ask(ATTRIBUTES) == owed(ATTRIBUTES)
+        assert exposed(hosts, witness, cases) is None
+    print('a fork between two gateways: one witness finds it')
+
+
+def liar(hosts: Hosts, lie: type[Liar]) -> Server:
+    keys, roster = hosts.keys('one', 1, SERVER, 7), hosts.roster()
+    if lie is OtherMember:
+        return hosts.keep(lie(keys, roster, hosts.keys('three', 3, CLIENT, 6), at=2))
+    return hosts.keep(lie(keys, roster, at=2))
+
+
+def refuses(program: str, lie: type[Liar]):
+    """The second answer is none: the local program gets nothing, and the call that comes after it is answered. A server
+    that never acknowledges the call is suspected, where its log doesn't show in time that it has it."""
+    with Hosts(program) as hosts:
+        usual(hosts)
+        server = liar(hosts, lie)
+        witness = hosts.witness({1: server.address})
+        gateway = hosts.gateway('two', '2-2', server.address, witness.address())
+        address = gateway.address()
+        connection = Connection(address[1])
+        assert connection.ask(ATTRIBUTES) == owed(ATTRIBUTES)
+        connection.send(record(LOOKUP))
+        assert connection.is_cut(), f'{lie.__name__}: an answer came'
+        again = Connection(address[1])
+        assert again.ask(ATTRIBUTES) == owed(ATTRIBUTES), lie.__name__
+        again.finish()
+        words = ('trusted', 'suspected') if lie in (UnsignedAck, OtherAck) else ('trusted',)
+        hosts.wait_until(witness.address(),
+                         lambda told: told[1][0] in words and told[2][0] == 'trusted' and told[2][2] > 3)
+        assert gateway.said(), f'{lie.__name__}: it said nothing'
+
+
+def check_none(program: str):
+    """Replies and acknowledgements that are none: unsigned, old, another's, withheld."""
+    lies = [NoReply, OldReply, UnsignedReply, UnsignedAck, OtherAck, OtherMember]
+    with ThreadPoolExecutor(len(lies)) as pool:
+        list(pool.map(lambda lie: refuses(program, lie), lies))
+    print('replies and acknowledgements that are none: nothing is handed out, and the next call goes on')
+
+
+def check_other_calls(program: str):
+    """A reply that is signed and is another call's: by its xid, or by its number alone; and one that comes with a
+    second acknowledgement."""
+    for lie in WrongXid, Swapped, ReceivesTwice:
+        with Hosts(program) as hosts:
+            usual(hosts)
+            server = liar(hosts, lie)
+            witness = hosts.witness({1: server.address})
+            gateway = hosts.gateway('two', '2-2', server.address, witness.address())
+            address = gateway.address()
+            connection = Connection(address[1])
+            assert connection.ask(ATTRIBUTES) == owed(ATTRIBUTES)
+            connection.send(record(LOOKUP))
+            assert connection.is_cut(), f'{lie.__name__}: an answer came'
+            if lie is Swapped:
+                other = Connection(address[1])
+                other.send(record(SAME_XID))
+                assert other.is_cut(), 'the reply to another call came'
+            why = '' if lie is ReceivesTwice else 'server 1 answered another call: number 7'
+            assert gateway.said() and why in gateway.said(), gateway.said()
+            word = 'trusted' if lie is Swapped else 'exposed'
+            hosts.wait_until(witness.address(), lambda told, word=word: (told[1][0], told[2][0]) == (word, 'trusted'))
+    print('replies to another call, by xid or by number alone: nothing is handed out')
+
+
+def check_suspected(program: str):
+    """A server that is silent, and one that hides its log."""
+    for make in Silent, HidesLog:
+        with Hosts(program) as hosts:
+            usual(hosts)
+            keys, roster = hosts.keys('one', 1, SERVER, 7), hosts.roster()
+            server = hosts.keep(make(keys, roster))
+            witness = hosts.witness({1: server.address}, '--patience', '2')
+            gateway = hosts.gateway('two', '2-2', server.address, witness.address())
+            connection = Connection(gateway.address()[1])
+            connection.send(record(ATTRIBUTES))
+            if make is HidesLog:
+                assert connection.reply() == owed(ATTRIBUTES)
+                witness.wait_for(r'\S+Z 1 suspected 1 to 0: .*')
+                assert hosts.ask(witness.address(), '1-1') == (SUSPECTED, {1: ('suspected', 1, 0)})
+            else:
+                assert hosts.wait_until(witness.address(), lambda told: told[1][2] > 0)
+    print('a server that hides its log is suspected')
+
+
+# ---- the parties of checks/peer with ours
+
+def check_other_gateway(program: str):
+    """The other gateway and the other witness with our server; the other gateway with our witness."""
+    with Hosts(program) as hosts:
+        usual(hosts)
+        server = hosts.server('one')
+        ours = hosts.witness({1: server.address()})
+        other = hosts.keep(Witness(hosts.roster()))
+        gateway = Gateway(hosts.keys('three', 3, CLIENT, 6), hosts.roster(), 1, server.address())
+        calls = Calls(3)
+        for _ in range(8):
+            body = calls.next_call()
+            reply = gateway.exchange(body)
+            assert reply is not None
+            calls.take(body, reply)
+        assert gateway.exchange(b'no call') is None
+        gateway.finish()
+        for _ in range(4):
+            gateway.report(ours.address())
+            gateway.report(other.address)
+            assert other.round({1: server.address()}) == {}
+            time.sleep(float(EVERY))
+        last = last_number(server.address(), hosts)
+        assert ask(other.address, 1).indication == 'trusted' and ask(other.address, 1).end == last
+        assert ask(other.address, 3).indication == 'trusted' and ask(other.address, 3).end > 0
+        hosts.wait_until(ours.address(), lambda told: told[1] == ('trusted', 0, last) and told[3][2] > 0)
+        logged = log_of(server.address(), hosts.roster())
+        assert [each.body for each in logged.calls][-1] == b'no call' and len(logged.calls) == 9
+    print('the other gateway and the other witness with our server')
+
+
+def check_other_witness(program: str):
+    """Our gateway with the other server and the other witness."""
+    with Hosts(program) as hosts:
+        usual(hosts)
+        server = hosts.keep(Server(hosts.keys('one', 1, SERVER, 7), hosts.roster()))
+        other = hosts.keep(Witness(hosts.roster()))
+        gateway = hosts.gateway('two', '2-2', server.address, other.address)
+        connection = Connection(gateway.address()[1])
+        for _ in range(3):
+            assert connection.ask(ATTRIBUTES) == owed(ATTRIBUTES)
+        connection.finish()
+        for _ in range(100):
+            assert other.round({1: server.address}) == {}
+            if other.books[1].end >= 11 and other.books[2].end > 0 and not other.books[2].audit:
+                break
+            time.sleep(0.2)
+        assert [ask(other.address, node).indication for node in (1, 2)] == ['trusted'] * 2
+        assert ask(other.address, 1).end >= 11 and ask(other.address, 2).end > 0
+    print('our gateway with the other server and the other witness')
+
+
+def check_server(program: str):
+    """Our server with the other gateway and the other witness, and `ask` with that; a second process with its secret is
+    refused, and it ends when it is told to."""
+    with Hosts(program) as hosts:
+        usual(hosts)
+        state = hosts.state('s1')
+        server = hosts.server('one', state=state)
+        other = hosts.keep(Witness(hosts.roster()))
+        gateway = Gateway(hosts.keys('three', 3, CLIENT, 6), hosts.roster(), 1, server.address())
+        calls = Calls(3)
+        for _ in range(8):
+            body = calls.next_call()
+            reply = gateway.exchange(body)
+            assert reply is not None
+            calls.take(body, reply)
+        assert gateway.exchange(b'no call') is None
+        gateway.finish()
+        last = last_number(server.address(), hosts)
+        for _ in range(100):
+            gateway.report(other.address)
+            assert other.round({1: server.address()}) == {}
+            if other.books[1].end == last and other.books[3].end > 0 and not other.books[3].audit:
+                break
+            time.sleep(0.2)
+        status, told = hosts.ask(other.address)
+        assert status == 0 and told[1] == ('trusted', 0, last) and told[3][2] > 0, told
+        logged = log_of(server.address(), hosts.roster())
+        assert [each.body for each in logged.calls][-1] == b'no call' and len(logged.calls) == 9
+        second = hosts.server('one')
+        assert second.status() == DEVICE and second.said().startswith('nfsacc: '), second.said()
+        assert (hosts.stop(server, state), server.said()) == (0, ''), server.said()
+        assert server.lines[-1] == 'stopped', server.lines
+    print('our server with the other gateway and the other witness')
+
+
+def check_server_rows(program: str):
+    """The tables of docs/WIRE.md, of a server with two addresses."""
+    with Hosts(program) as hosts:
+        usual(hosts)
+        roster_digest = digest((hosts.folder / 'rosters' / 'epoch-1.roster').read_bytes())
+        server = hosts.server('one', '--audit', '127.0.0.1:0')
+        audits = server.address('audits')
+        rows.try_rows(server.address(), rows.judged(NODE, roster_digest) + rows.of_node())
+        rows.try_rows(server.address(), [(sent, rows.UNKNOWN_PROCEDURE) for sent, _ in rows.of_audits()])
+        rows.try_rows(audits, rows.judged(NODE, roster_digest) + rows.of_node() + rows.of_audits())
+    print('the tables of docs/WIRE.md of a server')
+
+
+def check_server_keys(program: str):
+    """Keys that are used up: the server ends with 5, and its next start takes the next epoch; so does one that was
+    killed. Without another roster it doesn't start."""
+    with Hosts(program) as hosts:
+        usual(hosts, 2, 4, '1-3')
+        server = hosts.server('one')
+        gateway = Gateway(hosts.keys('two', 2, CLIENT, 4), hosts.roster(), 1, server.address())
+        for _ in range(2):
+            assert gateway.exchange(ATTRIBUTES) == owed(ATTRIBUTES)
+        server.wait_for('keys used up after 2 calls')
+        assert server.status() == KEYS_USED_UP
+        for epoch in 2, 3:
+            server = hosts.server('one')
+            server.wait_for(f'epoch {epoch}, 4 keys made')
+            server.address()
+            server.kill()
+        server = hosts.server('one')
+        assert server.status() == 1 and 'there is no roster' in server.said(), server.said()
+    print('a server takes the next epoch, and ends with 5 when its keys are used up')
+
+
+# ---- secrets, epochs and lives
+
+def check_lives(program: str):
+    """A secret is used by one process at a time, and no key twice."""
+    with Hosts(program) as hosts:
+        hosts.rosters(hosts.member('one', 1, SERVER, 7, '1-3'), hosts.member('two', 2, CLIENT, 5, '1-3'),
+                      hosts.member('two', 3, CLIENT, 5, '1-3'))
+        secret = hosts.folder / 'one'
+        assert secret.stat().st_mode & 0o777 == 0o600 and len(secret.read_bytes()) == 32
+        assert hosts.run('secret', str(secret))[0] == DEVICE
+        server = hosts.server('one')
+        address = server.address()
+        assert 'epoch 1 node 1 roster sha256:' in Path(f'{secret}.spent').read_text()
+        second = hosts.server('one')
+        assert second.status() == DEVICE and second.said().startswith('nfsacc: '), second.said()
+        gateway = hosts.gateway('two', '2-3', address)
+        gateway.wait_for('node 2, epoch 1, 32 keys made')
+        assert Connection(gateway.address()[1]).ask(ATTRIBUTES) == owed(ATTRIBUTES)
+        second = hosts.gateway('two', '2-3', address)
+        assert second.status() == DEVICE, second.said()
+        gateway.kill()
+        gateway = hosts.gateway('two', '2-3', address)
+        gateway.wait_for('node 3, epoch 1, 32 keys made')
+        assert Connection(gateway.address()[1]).ask(ATTRIBUTES) == owed(ATTRIBUTES)
+        gateway.kill()
+        server.kill()
+        server = hosts.server('one')
+        server.wait_for('epoch 2, 128 keys made')
+        gateway = hosts.gateway('two', '2-3', server.address())
+        gateway.wait_for('node 2, epoch 2, 32 keys made')
+        assert Connection(gateway.address()[1]).ask(ATTRIBUTES) == owed(ATTRIBUTES)
+    print('a second process with a secret is refused, and one that was killed goes on with the next epoch or life')
+
+
+def check_second_roster(program: str):
+    """An epoch that was begun under one roster isn't begun under another."""
+    with Hosts(program) as hosts:
+        lines = [hosts.member('one', 1, SERVER, 4), hosts.member('two', 2, CLIENT, 4)]
+        lines.append(hosts.member('two', 3, CLIENT, 4))
+        folder = hosts.rosters(*lines[:2])
+        server = hosts.server('one')
+        gateway = hosts.gateway('two', '2-2', server.address())
+        gateway.address()
+        gateway.kill()
+        server.kill()
+        shutil.rmtree(folder)
+        hosts.rosters(*lines)
+        server = hosts.server('one')
+        assert server.status() not in (0, None) and server.said().startswith('nfsacc: '), server.said()
+        assert not any(line.startswith('listening') for line in server.lines)
+    print('a second roster of an epoch is refused')
+
+
+def check_keys_used_up(program: str):
+    """The call in hand is finished; the server ends with 5, and its next start takes the next epoch."""
+    with Hosts(program) as hosts:
+        usual(hosts, 2, 4, '1-2')
+        server = hosts.server('one')
+        gateway = hosts.gateway('two', '2-2', server.address())
+        connection = Connection(gateway.address()[1])
+        for _ in range(2):
+            assert connection.ask(ATTRIBUTES) == owed(ATTRIBUTES)
+        server.wait_for('keys used up after 2 calls')
+        assert server.status() == KEYS_USED_UP
+        gateway.kill()
+        server = hosts.server('one')
+        server.wait_for('epoch 2, 4 keys made')
+    print('keys that are used up: the server ends with 5')
+
+
+def check_ask(program: str):
+    """No connection, and another roster. Trusted, suspected and exposed are asked for above."""
+    with Hosts(program) as hosts:
+        usual(hosts)
+        hosts.rosters(hosts.member('one', 1, SERVER, 5), hosts.member('four', 4, CLIENT, 2), name='others')
+        server = hosts.server('one')
+        witness = hosts.witness({1: server.address()})
+        assert hosts.ask(witness.address()) == (0, {node: ('trusted', 0, 0) for node in (1, 2, 3)})
+        assert hosts.ask(witness.address(), rosters='others')[0] == OTHER
+        stranger = hosts.witness({1: server.address()}, rosters='others')
+        stranger.wait_for(r'(?:\S+Z )?1 greets another roster sha256:[0-9a-f]{64}')
+        witness.kill()
+        assert hosts.ask(witness.address())[0] == DEVICE
+    print('statuses of `ask`, and a witness with another roster')
+
+
+# ---- many calls
+
+class Local:
+    """A plain connection to a gateway that makes calls at random, and keeps each with its reply."""
+
+    def __init__(self, address: Address, number: int):
+        self.connection = Connection(address[1])
+        self.calls = Calls(number)
+        self.made: list[tuple[bytes, bytes]] = []
+
+    def make(self, count: int):
+        for _ in range(count):
+            body = self.calls.next_call()
+            reply = self.connection.ask(body)
+            self.calls.take(body, reply)
+            self.made.append((body, reply))
+        self.connection.finish()
+
+
+def make_calls(address: Address, count: int) -> list[Local]:
+    """So many calls in all, by several connections at once."""
+    locals_ = [Local(address, number) for number in range(1, CONNECTIONS + 1)]
+    with ThreadPoolExecutor(CONNECTIONS) as pool:
+        list(pool.map(lambda each: each.make(count // CONNECTIONS), locals_))
+    return locals_
+
+
+def compare(logged: ServedLog, made: list[Local]):
+    """The log has each call once, in each connection's order, with the reply that the connection got. It was replayed,
+    so these are the replies that are owed in its order."""
+    for number, local in enumerate(made, 1):
+        there = [(each.body, each.reply) for each in logged.calls if each.body[:2] == number.to_bytes(2, 'big')]
+        assert there == local.made, f'connection {number}: {len(there)} calls in the log, and {len(local.made)} made'
+    assert len(logged.calls) == sum(len(local.made) for local in made)
+    acked = [entry.number for entry in logged.entries if entry.kind == ACK]
+    assert acked == [3 * place for place in range(1, len(acked) + 1)], 'a call of a client makes SEND, ACK and RECV'
+
+
+def check_calls(program: str, count: int = 200):
+    """Calls by several connections through one gateway: each reply as one service owes it in the server's order."""
+    with Hosts(program) as hosts:
+        height = (2 * count).bit_length()
+        usual(hosts, height, height)
+        server = hosts.server('one')
+        address = server.address()
+        witness = hosts.witness({1: address})
+        gateway = hosts.gateway('two', '2-2', address, witness.address())
+        made = make_calls(gateway.address(), count)
+        logged = log_of(address, hosts.roster())
+        compare(logged, made)
+        hosts.wait_until(witness.address(), are_trusted(last_number_after(address, hosts, logged)), 600)
+        assert gateway.said() == '', gateway.said()
+    print(f'{count} calls through a gateway: each reply is owed in the order of the log, and takes two keys of each')
+
+
+def last_number_after(address: Address, hosts: Hosts, logged: ServedLog) -> int:
+    """The last signed number, of a log that was read to some number."""
+    caller = Caller(address, NODE)
+    number = last_signed(caller, hosts.roster(), 1, len(logged.entries)) or len(logged.entries)
+    caller.close()
+    return number
+
+
+def short(answer: bytes) -> list[bytes]:
+    """The beginnings of an answer to a message, as records of their own: cut in each of its parts."""
+    return [record(answer[:at]) for at in (0, 4, 20, 24, 28, 32, 100, 9000, 16800, len(answer) - 4)]
+
+
+GARBAGE = [
+    lambda answer: b'', lambda answer: record(answer)[:2], lambda answer: record(answer)[:-1],
+    lambda answer: word(0x7fffffff) + answer, lambda answer: word(0) * 20000, lambda answer: b'HTTP/1.1 400 No\n',
+    lambda answer: record(word(0xffffffff) + answer[4:]), lambda answer: record(answer[:4] + word(0) + answer[8:]),
+    lambda answer: record(answer[:20] + word(5)), lambda answer: record(answer[:20] + word(3)),
+    lambda answer: record(answer[:8] + word(1, 1, 2)), lambda answer: record(answer + word(0)),
+    lambda answer: record(answer[:24] + word(0, 0, 9)), lambda answer: record(answer + bytes(40000)),
+    *[lambda answer, place=place: short(answer)[place] for place in range(10)],
+]
+
+
+def check_garbage(program: str):
+    """What is no answer to a message, and then the answer: each call was made once, and is answered."""
+    with Hosts(program) as hosts:
+        usual(hosts)
+        server = hosts.server('one')
+        garbler = hosts.keep(Garbler(server.address(), DELIVER, GARBAGE))
+        gateway = hosts.gateway('two', '2-2', garbler.address)
+        connection = Connection(gateway.address()[1])
+        for given in range(len(GARBAGE)):
+            assert garbler.given == given
+            assert connection.ask(ATTRIBUTES) == owed(ATTRIBUTES), given
+        assert len(log_of(server.address(), hosts.roster()).calls) == len(GARBAGE)
+    print(f'{len(GARBAGE)} answers that are none: each call goes on, and is made once')
+
+
+def check_same_call(program: str):
+    """A call whose local connection ended, and that comes again while it is in hand, is that call. After its reply it
+    is another."""
+    with Hosts(program) as hosts:
+        usual(hosts)
+        server = hosts.keep(Slow(hosts.keys('one', 1, SERVER, 7), hosts.roster()))
+        gateway = hosts.gateway('two', '2-2', server.address)
+        address = gateway.address()
+        first = Connection(address[1])
+        first.send(record(ATTRIBUTES))
+        time.sleep(1)
+        first.close()
+        time.sleep(1)
+        second = Connection(address[1])
+        second.send(record(ATTRIBUTES))
+        time.sleep(1)
+        server.may_answer.set()
+        assert second.reply() == owed(ATTRIBUTES)
+        assert second.ask(ATTRIBUTES) == owed(ATTRIBUTES)
+        calls = [each.sender for each in log_of(server.address, hosts.roster()).calls]
+        assert calls == [2, 2], f'{len(calls)} calls were made'
+    print('a call that comes again on another connection is made once')
+
+
+def check_open_message(program: str):
+    """A reply that was withheld is received where a witness asks for its acknowledgement, and isn't handed out."""
+    with Hosts(program) as hosts:
+        usual(hosts)
+        server = hosts.keep(NoReply(hosts.keys('one', 1, SERVER, 7), hosts.roster()))
+        witness = hosts.witness({1: server.address})
+        gateway = hosts.gateway('two', '2-2', server.address, witness.address(), more=('--reserve', '2'))
+        connection = Connection(gateway.address()[1])
+        connection.send(record(ATTRIBUTES))
+        while len(server.node.entries) < 3:
+            time.sleep(0.1)
+        caller = Caller(witness.address(), WITNESS)
+        assert handed(caller, word(ENVELOPE) + server.node.envelope(3)) == 0
+        assert hosts.ask(witness.address(), '2-2')[1][2][0] == 'suspected'
+        hosts.wait_until(witness.address(), lambda told: told[2][:2] == ('trusted', 0))
+        caller.close()
+        connection.socket.settimeout(2)
+        try:
+            came = connection.socket.recv(1)
+        except TimeoutError:
+            came = b''
+        assert came == b'', 'the reply was handed out'
+    print('a withheld reply that a witness asks for is acknowledged, and not handed out')
+
+
+def check_breaks(program: str, count: int = 120):
+    """The way to the server breaks again and again, at any byte: each reply comes, and no call is made twice."""
+    with Hosts(program) as hosts:
+        height = (2 * count).bit_length()
+        usual(hosts, height, height)
+        server = hosts.server('one')
+        proxy = hosts.keep(Proxy(server.address(), 1, 600000))
+        gateway = hosts.gateway('two', '2-2', proxy.address)
+        made = make_calls(gateway.address(), count)
+        compare(log_of(server.address(), hosts.roster()), made)
+        assert proxy.cuts > 3, f'{proxy.cuts} cuts'
+    print(f'{count} calls, and {proxy.cuts} breaks of the way to the server: each reply comes, no call is made twice')
+
+
+CHECKS = [check_server, check_server_rows, check_server_keys, check_three, check_rows, check_lie, check_fork, check_none, check_other_calls, check_suspected,
+          check_other_gateway, check_other_witness, check_lives, check_second_roster, check_keys_used_up, check_ask,
+          check_calls, check_breaks, check_garbage, check_same_call, check_open_message]
+
+
+def main():
+    parser = argparse.ArgumentParser()
+    parser.add_argument('program')
+    parser.add_argument('names', nargs='*')
+    parser.add_argument('--calls', type=int, default=200)
+    asked = parser.parse_args()
+    program = os.path.abspath(asked.program)
+    for check in CHECKS:
+        if not asked.names or check.__name__.removeprefix('check_') in asked.names:
+            if check is check_calls:
+                check(program, asked.calls)
+            else:
+                check(program)
+
+
+if __name__ == '__main__':
+    main()
