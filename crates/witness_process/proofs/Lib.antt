@@ -1,2 +1,3 @@
 pub mod UnderLock
 pub mod OfLines
+mod OfListed

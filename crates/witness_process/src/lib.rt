@@ -19,5 +19,8 @@ mod visits;
 mod watch;
 mod witness;
 
+pub use node_book::Indication;
 pub use orders::{Ending, WatchedServer, WitnessOrder};
+pub use watching::NodeTold;
 pub use witness::run_witness;
+pub use witness_calls::Shelf;

@@ -1,7 +1,8 @@
 //! Since when challenges are open.
 
-ghost use Rattle.std.specs.Prelude.{◌≡◌, map};
-ghost use Rattle.witness_process.specs.Opened.{opened_one};
+ghost use Rattle.std.specs.Prelude.{◌≡◌, IfOk, map};
+ghost use Rattle.std.specs.List.{AllZip};
+ghost use Rattle.witness_process.specs.Opened.{IsListed, IsSince, opened_one, wanted_of};
 
 use challenge::Challenge;
 use envelopes::Message;
@@ -26,7 +27,9 @@ pub(crate) struct OpenChallenge {
 
 impl Wanted {
     /// What a challenge asks for.
-    fn of(challenge: &Challenge) -> Wanted {
+    fn of(challenge: &Challenge) -> Wanted
+        ensures { result ≡ wanted_of challenge.now }
+    {
         match challenge {
             Challenge::Audit { first, last } => Wanted::Segment {
                 first: first.get(),
@@ -44,7 +47,9 @@ pub(crate) fn open_after(
     challenges: &[Challenge],
     before: &[OpenChallenge],
     time: u64,
-) -> Result<Vec<OpenChallenge>, AllocError> {
+) -> Result<Vec<OpenChallenge>, AllocError>
+    ensures { IfOk result (λ v. AllZip (IsListed before.now time) challenges.now v.items) }
+{
     let mut listed = Vec::with_capacity(alloc, challenges.len())?;
     for challenge in challenges {
         let wanted = Wanted::of(challenge);
@@ -55,13 +60,19 @@ pub(crate) fn open_after(
 }
 
 /// Since when a challenge is open that asks for this: since then where it was open before, else since this time.
-fn since_of(wanted: &Wanted, before: &[OpenChallenge], time: u64) -> u64 {
-    for one in before {
-        if one.wanted == *wanted {
-            return one.since;
+fn since_of(wanted: &Wanted, before: &[OpenChallenge], time: u64) -> u64
+    ensures { IsSince wanted.now before.now time result }
+{
+    match before.split_first() {
+        Some((first, others)) => {
+            if first.wanted == *wanted {
+                first.since
+            } else {
+                since_of(wanted, others, time)
+            }
         }
+        None => time,
     }
-    time
 }
 
 /// The oldest of the challenges that are open, if one is: they stand in the order in which they came.
