@@ -1,0 +1,198 @@
+//! Local programs, each served over a connection of its own.
+
+use crate::cause::Cause;
+use crate::context::{Context, Shared};
+use crate::local_stream::LocalStream;
+use authenticator::Number;
+use nodes::{ClientNode, Gateway, LinkFault, StreamFault};
+use peer_connections::{PeerStream, Phase, Waiting, set_timeouts};
+use remote::{AcceptFault, CallFault, Courier, CourierFault};
+use remote_sharing::{SharedRemote, serve_shared};
+use rpc::records::{Counting, RecordReader};
+use std::alloc::Global;
+use std::io::{BufReader, Write};
+use std::net::{SocketAddr, TcpStream};
+use std::sync::{Arc, Mutex, Wait};
+use system_clock::SystemClock;
+
+/// The bytes that are read of a stream at once.
+const READ_AHEAD: usize = 65536;
+
+/// Serves a local program to the end of its connection. Where that comes before the end of its stream, says why.
+pub(crate) fn serve_program<R, T, W, E, C>(
+    shared: Shared<'_, R, T, W, E, C>,
+    stream: TcpStream,
+    address: SocketAddr,
+)
+where
+    R: Wait,
+    T: std::time::Clock,
+    W: Write,
+    E: Write,
+    C: Courier + Drop,
+{
+    if let Err(cause) = serve_records(shared, &stream) {
+        let alloc = shared.context.alloc;
+        shared
+            .context
+            .say(format!(in alloc; "nfsacc: {address}: {cause}\n"));
+    }
+}
+
+/// Answers the records of a connection to its end.
+fn serve_records<R, T, W, E, C>(
+    shared: Shared<'_, R, T, W, E, C>,
+    stream: &TcpStream,
+) -> Result<(), Cause>
+where
+    R: Wait,
+    T: std::time::Clock,
+    W: Write,
+    E: Write,
+    C: Courier + Drop,
+{
+    let Context {
+        rt,
+        alloc,
+        clock,
+        phase,
+        ..
+    } = shared.context;
+    // Where it can't be set, replies come later, and nothing else changes.
+    let _ = stream.set_nodelay(true);
+    set_timeouts(stream);
+    let presence = presence_of(alloc, stream)?;
+    let waiting = Mutex::new(Waiting::without_end());
+    let input = PeerStream::new(rt, clock, stream, phase, &waiting);
+    let Ok(input) = BufReader::with_capacity(alloc, READ_AHEAD, input) else {
+        return Err(Cause::Stream(StreamFault::NoMemory, None));
+    };
+    let mut reader = RecordReader::new(Counting::new(input));
+    let mut writer = Counting::new(PeerStream::new(rt, clock, stream, phase, &waiting));
+    let mut times = SystemClock::new(clock);
+    let mut link = SharedRemote::new(rt, shared.remote, shared.flights, presence);
+    let mut gateway = Gateway::new();
+    match serve_shared(
+        &mut gateway,
+        alloc,
+        &mut link,
+        &mut times,
+        &mut reader,
+        &mut writer,
+    ) {
+        Ok(_) => Ok(()),
+        Err(fault) => {
+            let Some(failed) = link.last_fault() else {
+                let read = reader.get_ref().get_ref().get_ref().last();
+                return Err(stream_cause(fault, read.or(writer.get_ref().last())));
+            };
+            Err(shared.call_failed(&failed, link.last_sent()))
+        }
+    }
+}
+
+/// Another handle of a connection, to tell whether it has ended.
+fn presence_of(alloc: Global, stream: &TcpStream) -> Result<Arc<LocalStream>, Cause> {
+    let stream = match stream.try_clone() {
+        Ok(stream) => stream,
+        Err(error) => return Err(Cause::Stream(StreamFault::Device, Some(error))),
+    };
+    match Arc::new(alloc, LocalStream::new(stream)) {
+        Ok(presence) => Ok(presence),
+        Err(_) => Err(Cause::Stream(StreamFault::NoMemory, None)),
+    }
+}
+
+/// Why a stream ended where no call of its own has failed.
+fn stream_cause(fault: StreamFault, error: Option<std::io::Error>) -> Cause {
+    match fault {
+        StreamFault::Failed => Cause::Passed,
+        _ => Cause::Stream(fault, error),
+    }
+}
+
+impl<R, T, W, E, C> Shared<'_, R, T, W, E, C>
+where
+    R: Wait,
+    T: std::time::Clock,
+    W: Write,
+    E: Write,
+    C: Courier + Drop,
+{
+    /// Keeps a SEND's number for witnesses, if there is one. Without memory for it they aren't told of it.
+    fn keep_unanswered(&self, sent: Option<u64>) {
+        if let Some(number) = sent {
+            let _ = self.unanswered.lock(self.context.rt).push(number);
+        }
+    }
+
+    /// A call has failed, whose SEND has this number, if there is one. Where keys are used up the serving ends; where
+    /// nothing came that counts, witnesses are to ask for its acknowledgement.
+    fn call_failed(&self, fault: &CallFault, sent: Option<u64>) -> Cause {
+        let server = self.context.server;
+        if uses_up_keys(fault) {
+            self.context.end(Phase::KeysUsedUp);
+        }
+        if is_unanswered(fault) {
+            self.keep_unanswered(sent);
+        }
+        match self.number_of_another(fault) {
+            Some(number) => Cause::AnotherCall { server, number },
+            None => Cause::Call {
+                server,
+                fault: *fault,
+            },
+        }
+    }
+
+    /// The number in the server's log of the reply to another call, where that is why a call has failed.
+    fn number_of_another(&self, fault: &CallFault) -> Option<u64> {
+        let place = place_of_another(fault)?;
+        let remote = self.remote.lock(self.context.rt);
+        Some(sender_number(remote.client().client(), place))
+    }
+}
+
+/// Whether a call has failed since keys are used up, the client's or the server's.
+fn uses_up_keys(fault: &CallFault) -> bool {
+    (*fault).link_fault() == LinkFault::KeysUsedUp
+}
+
+/// The number at which the client received the reply to another call, where that is why a call has failed.
+fn place_of_another(fault: &CallFault) -> Option<Number> {
+    match fault {
+        CallFault::Refused(why) => place_of_refused(*why),
+        CallFault::NotBegun(_) | CallFault::Uncarried(_) => None,
+    }
+}
+
+/// The number at which the client received the reply to another call, where that is what was refused.
+fn place_of_refused(why: AcceptFault) -> Option<Number> {
+    match why {
+        AcceptFault::AnotherCall(place) | AcceptFault::Repeated(place) => Some(place),
+        _ => None,
+    }
+}
+
+/// Whether nothing came back for a call that counts.
+fn is_unanswered(fault: &CallFault) -> bool {
+    match fault {
+        CallFault::NotBegun(_) => false,
+        CallFault::Uncarried(why) => matches!(why, CourierFault::Lost),
+        CallFault::Refused(why) => {
+            matches!(why, AcceptFault::NotAcknowledged | AcceptFault::Unanswered)
+        }
+    }
+}
+
+/// The number in its sender's log of the message that a client received at a number: its own number where nothing
+/// was received there.
+fn sender_number(client: &ClientNode, place: Number) -> u64 {
+    let Some(ack) = client.ack(place.get()) else {
+        return place.get();
+    };
+    match client.node().roster().member(ack.from) {
+        Some(member) => ack.seq.number(member.log_version).get(),
+        None => ack.seq.get(),
+    }
+}

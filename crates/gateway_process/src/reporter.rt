@@ -1,0 +1,161 @@
+//! The thread that reports to witnesses.
+
+use crate::context::{Context, Shared};
+use crate::trouble::{Trouble, spelled_digest};
+use crate::witness_peer::WitnessPeer;
+use peer_connections::Phase;
+use remote::Courier;
+use std::alloc::{AllocError, Global};
+use std::io::Write;
+use std::net::{Net, TcpListener, TcpStream};
+use std::sync::Wait;
+use std::time::Duration;
+
+/// How many milliseconds pass between two looks at the phase, and how many such looks there are in a second.
+const LOOK: u64 = 100;
+
+const LOOKS_OF_A_SECOND: u64 = 10;
+
+/// The keys that a call takes of its client.
+const KEYS_OF_A_CALL: u32 = 2;
+
+/// Reports to witnesses.
+#[derive(Drop)]
+pub(crate) struct Reporter {
+    witnesses: Vec<WitnessPeer>,
+    /// How many seconds pass between two reports.
+    every: u32,
+    /// How many messages that witnesses ask for may still be received.
+    reserve: u32,
+}
+
+impl Reporter {
+    /// Reports to witnesses at these addresses, every so many seconds. At most `reserve` messages are received for
+    /// them.
+    pub(crate) fn new(
+        alloc: Global,
+        addresses: Vec<String>,
+        every: u32,
+        reserve: u32,
+    ) -> Result<Reporter, AllocError> {
+        let mut witnesses = Vec::new(alloc);
+        for address in addresses {
+            witnesses.push(WitnessPeer::new(address))?;
+        }
+        Ok(Reporter {
+            witnesses,
+            every,
+            reserve,
+        })
+    }
+
+    /// Reports until the process no longer serves.
+    pub(crate) fn run<R, T, W, E, C>(&mut self, shared: Shared<'_, R, T, W, E, C>)
+    where
+        R: Wait + Net<Listener = TcpListener, Stream = TcpStream>,
+        T: std::time::Clock,
+        W: Write,
+        E: Write,
+        C: Courier + Drop,
+    {
+        for _ in 0..u64::MAX {
+            self.report(shared);
+            if !waits(shared, self.every) {
+                return;
+            }
+        }
+    }
+
+    /// Reports to each witness. Where one can't be reached that is said once, and it is tried again at the next
+    /// report; one that goes by another roster is left out from then on.
+    pub(crate) fn report<R, T, W, E, C>(&mut self, shared: Shared<'_, R, T, W, E, C>)
+    where
+        R: Wait + Net<Listener = TcpListener, Stream = TcpStream>,
+        T: std::time::Clock,
+        W: Write,
+        E: Write,
+        C: Courier + Drop,
+    {
+        for witness in &mut self.witnesses {
+            if !witness.is_left_out {
+                report_to(shared, witness, &mut self.reserve);
+            }
+        }
+    }
+}
+
+/// Waits until the next report is due after so many seconds, or the process no longer serves, and has the serving end
+/// where the client's keys are used up. Whether it still serves.
+fn waits<R, T, W, E, C>(shared: Shared<'_, R, T, W, E, C>, seconds: u32) -> bool
+where
+    R: Wait,
+    T: std::time::Clock,
+    W: Write,
+    E: Write,
+    C: Courier + Drop,
+{
+    let looks = u64::from(seconds.max(1)).saturating_mul(LOOKS_OF_A_SECOND);
+    for _ in 0..looks {
+        look_at_keys(shared);
+        if !shared.context.is_serving() {
+            return false;
+        }
+        shared.context.clock.sleep(Duration::from_millis(LOOK));
+    }
+    true
+}
+
+/// Ends the serving where the client has fewer keys left than a call takes. During a call it doesn't look.
+fn look_at_keys<R, T, W, E, C>(shared: Shared<'_, R, T, W, E, C>)
+where
+    R: Wait,
+    W: Write,
+    E: Write,
+    C: Courier + Drop,
+{
+    let Some(remote) = shared.remote.try_lock() else {
+        return;
+    };
+    if remote.client().client().node().left() < KEYS_OF_A_CALL {
+        shared.context.end(Phase::KeysUsedUp);
+    }
+}
+
+/// Reports to a witness, and says what goes wrong.
+fn report_to<R, T, W, E, C>(
+    shared: Shared<'_, R, T, W, E, C>,
+    witness: &mut WitnessPeer,
+    reserve: &mut u32,
+)
+where
+    R: Wait + Net<Listener = TcpListener, Stream = TcpStream>,
+    T: std::time::Clock,
+    W: Write,
+    E: Write,
+    C: Courier + Drop,
+{
+    let Err(trouble) = witness.report(shared, reserve) else {
+        witness.has_failed = false;
+        return;
+    };
+    if let Trouble::OtherRoster(_) = &trouble {
+        witness.is_left_out = true;
+    }
+    if !witness.has_failed {
+        let Context { alloc, .. } = shared.context;
+        let line = trouble_line(alloc, witness.address(), &trouble);
+        shared.context.say(line);
+    }
+    witness.has_failed = true;
+}
+
+/// The line that says what is wrong with a witness.
+fn trouble_line(alloc: Global, address: &str, trouble: &Trouble) -> Result<String, AllocError> {
+    match trouble {
+        Trouble::OtherRoster(digest) => {
+            let digest = spelled_digest(alloc, digest)?;
+            format!(in alloc; "nfsacc: witness {address} greets another roster {digest}\n")
+        }
+        _ => format!(in alloc; "nfsacc: witness {address}: {trouble}\n"),
+    }
+}
