@@ -259,36 +259,6 @@ def check_suspected(program: str):
 
 # ---- the parties of checks/peer with ours
 
-def check_other_gateway(program: str):
-    """The other gateway and the other witness with our server; the other gateway with our witness."""
-    with Hosts(program) as hosts:
-        usual(hosts)
-        server = hosts.server('one')
-        ours = hosts.witness({1: server.address()})
-        other = hosts.keep(Witness(hosts.roster()))
-        gateway = Gateway(hosts.keys('three', 3, CLIENT, 6), hosts.roster(), 1, server.address())
-        calls = Calls(3)
-        for _ in range(8):
-            body = calls.next_call()
-            reply = gateway.exchange(body)
-            assert reply is not None
-            calls.take(body, reply)
-        assert gateway.exchange(b'no call') is None
-        gateway.finish()
-        for _ in range(4):
-            gateway.report(ours.address())
-            gateway.report(other.address)
-            assert other.round({1: server.address()}) == {}
-            time.sleep(float(EVERY))
-        last = last_number(server.address(), hosts)
-        assert ask(other.address, 1).indication == 'trusted' and ask(other.address, 1).end == last
-        assert ask(other.address, 3).indication == 'trusted' and ask(other.address, 3).end > 0
-        hosts.wait_until(ours.address(), lambda told: told[1] == ('trusted', 0, last) and told[3][2] > 0)
-        logged = log_of(server.address(), hosts.roster())
-        assert [each.body for each in logged.calls][-1] == b'no call' and len(logged.calls) == 9
-    print('the other gateway and the other witness with our server')
-
-
 def check_other_witness(program: str):
     """Our gateway with the other server and the other witness."""
     with Hosts(program) as hosts:
@@ -311,12 +281,13 @@ def check_other_witness(program: str):
 
 
 def check_server(program: str):
-    """Our server with the other gateway and the other witness, and `ask` with that; a second process with its secret is
-    refused, and it ends when it is told to."""
+    """Our server with the other gateway and the other witness, and `ask` with that; the other gateway with our witness. A
+    second process with the server's secret is refused, and the server ends when it is told to."""
     with Hosts(program) as hosts:
         usual(hosts)
         state = hosts.state('s1')
         server = hosts.server('one', state=state)
+        ours = hosts.witness({1: server.address()})
         other = hosts.keep(Witness(hosts.roster()))
         gateway = Gateway(hosts.keys('three', 3, CLIENT, 6), hosts.roster(), 1, server.address())
         calls = Calls(3)
@@ -329,6 +300,7 @@ def check_server(program: str):
         gateway.finish()
         last = last_number(server.address(), hosts)
         for _ in range(100):
+            gateway.report(ours.address())
             gateway.report(other.address)
             assert other.round({1: server.address()}) == {}
             if other.books[1].end == last and other.books[3].end > 0 and not other.books[3].audit:
@@ -336,26 +308,14 @@ def check_server(program: str):
             time.sleep(0.2)
         status, told = hosts.ask(other.address)
         assert status == 0 and told[1] == ('trusted', 0, last) and told[3][2] > 0, told
+        hosts.wait_until(ours.address(), lambda told: told[1] == ('trusted', 0, last))
         logged = log_of(server.address(), hosts.roster())
         assert [each.body for each in logged.calls][-1] == b'no call' and len(logged.calls) == 9
         second = hosts.server('one')
         assert second.status() == DEVICE and second.said().startswith('nfsacc: '), second.said()
         assert (hosts.stop(server, state), server.said()) == (0, ''), server.said()
         assert server.lines[-1] == 'stopped', server.lines
-    print('our server with the other gateway and the other witness')
-
-
-def check_server_rows(program: str):
-    """The tables of docs/WIRE.md, of a server with two addresses."""
-    with Hosts(program) as hosts:
-        usual(hosts)
-        roster_digest = digest((hosts.folder / 'rosters' / 'epoch-1.roster').read_bytes())
-        server = hosts.server('one', '--audit', '127.0.0.1:0')
-        audits = server.address('audits')
-        rows.try_rows(server.address(), rows.judged(NODE, roster_digest) + rows.of_node())
-        rows.try_rows(server.address(), [(sent, rows.UNKNOWN_PROCEDURE) for sent, _ in rows.of_audits()])
-        rows.try_rows(audits, rows.judged(NODE, roster_digest) + rows.of_node() + rows.of_audits())
-    print('the tables of docs/WIRE.md of a server')
+    print('our server with the other gateway and the other witness; the other gateway with our witness')
 
 
 def check_server_keys(program: str):
@@ -622,8 +582,8 @@ def check_breaks(program: str, count: int = 120):
     print(f'{count} calls, and {proxy.cuts} breaks of the way to the server: each reply comes, no call is made twice')
 
 
-CHECKS = [check_server, check_server_rows, check_server_keys, check_three, check_rows, check_lie, check_fork, check_none, check_other_calls, check_suspected,
-          check_other_gateway, check_other_witness, check_lives, check_second_roster, check_keys_used_up, check_ask,
+CHECKS = [check_server, check_server_keys, check_three, check_rows, check_lie, check_fork, check_none, check_other_calls, check_suspected,
+          check_other_witness, check_lives, check_second_roster, check_keys_used_up, check_ask,
           check_calls, check_breaks, check_garbage, check_same_call, check_open_message]
 
 

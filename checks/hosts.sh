@@ -1,6 +1,6 @@
 #!/usr/bin/env bash
-# Parties on hosts of their own: a server as a process, with the gateway and the witness of checks/peer, which were written
-# from docs/WIRE.md. The other parts of checks/hosts.py want nfsacc gateway and witness, which aren't there yet. It tries
+# Parties on hosts of their own: a server, a gateway and a witness as processes on loopback, each also with the others of
+# checks/peer, which were written from docs/WIRE.md; servers that lie; and the story of README for two machines. It tries
 # the programs that the gate left in crates/nfsacc/out; where none is there, rt run makes one.
 set -euo pipefail
 cd "$(dirname "$0")/.."
@@ -9,5 +9,6 @@ cd "$(dirname "$0")/.."
 
 built_programs
 for program in "${made[@]}"; do
-    python3 checks/hosts.py "$program" server server_rows server_keys
+    python3 checks/hosts.py "$program"
+    python3 checks/two_machines.py "$program"
 done

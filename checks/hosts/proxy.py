@@ -14,15 +14,11 @@ PIECE = 4096
 MOST_OF_ANY = 1 << 27
 
 
-class Proxy:
-    """Carries bytes to an address and back, and now and then cuts a connection, at any byte."""
+class Way:
+    """Accepts connections, each of which has one to an address behind it."""
 
-    def __init__(self, to: Address, seed: int, most: int):
+    def __init__(self, to: Address):
         self.to = to
-        self.random = Random(seed)
-        self.most = most
-        self.cuts = 0
-        self.broken = False
         self.socket = socket.create_server(('127.0.0.1', 0))
         self.address: Address = self.socket.getsockname()
         threading.Thread(target=self.accept, daemon=True).start()
@@ -34,9 +30,29 @@ class Proxy:
                 far = socket.create_connection(self.to)
             except OSError:
                 return
-            bounds = [self.random.randrange(self.most), self.random.randrange(self.most)]
-            for ends, bound in ((near, far), bounds[0]), ((far, near), bounds[1]):
-                threading.Thread(target=self.carry, args=(*ends, bound), daemon=True).start()
+            self.join(near, far)
+
+    def join(self, near: socket.socket, far: socket.socket):
+        """Starts to carry between the two."""
+        raise NotImplementedError
+
+    def close(self):
+        shut(self.socket)
+
+
+class Proxy(Way):
+    """Carries bytes to an address and back, and now and then cuts a connection, at any byte."""
+
+    def __init__(self, to: Address, seed: int, most: int):
+        self.random = Random(seed)
+        self.most = most
+        self.cuts = 0
+        super().__init__(to)
+
+    def join(self, near: socket.socket, far: socket.socket):
+        bounds = [self.random.randrange(self.most), self.random.randrange(self.most)]
+        for ends, bound in ((near, far), bounds[0]), ((far, near), bounds[1]):
+            threading.Thread(target=self.carry, args=(*ends, bound), daemon=True).start()
 
     def carry(self, source: socket.socket, target: socket.socket, bound: int):
         """Carries up to so many bytes, and then breaks both ends."""
@@ -51,33 +67,21 @@ class Proxy:
             shut(source)
             shut(target)
 
-    def close(self):
-        shut(self.socket)
 
-
-class Delay:
+class Delay(Way):
     """Carries bytes to an address and back, each so many seconds later."""
 
     def __init__(self, to: Address, seconds: float):
-        self.to = to
         self.seconds = seconds
-        self.socket = socket.create_server(('127.0.0.1', 0))
-        self.address: Address = self.socket.getsockname()
-        threading.Thread(target=self.accept, daemon=True).start()
+        super().__init__(to)
 
-    def accept(self):
-        while True:
-            try:
-                near, _ = self.socket.accept()
-                far = socket.create_connection(self.to)
-            except OSError:
-                return
-            for end in near, far:
-                end.setsockopt(socket.IPPROTO_TCP, socket.TCP_NODELAY, 1)
-            for source, target in (near, far), (far, near):
-                pieces: SimpleQueue[tuple[float, bytes]] = SimpleQueue()
-                threading.Thread(target=self.take, args=(source, pieces), daemon=True).start()
-                threading.Thread(target=self.give, args=(target, pieces), daemon=True).start()
+    def join(self, near: socket.socket, far: socket.socket):
+        for end in near, far:
+            end.setsockopt(socket.IPPROTO_TCP, socket.TCP_NODELAY, 1)
+        for source, target in (near, far), (far, near):
+            pieces: SimpleQueue[tuple[float, bytes]] = SimpleQueue()
+            threading.Thread(target=self.take, args=(source, pieces), daemon=True).start()
+            threading.Thread(target=self.give, args=(target, pieces), daemon=True).start()
 
     def take(self, source: socket.socket, pieces: 'SimpleQueue[tuple[float, bytes]]'):
         data = b'more'
@@ -100,32 +104,20 @@ class Delay:
                 shut(target)
                 return
 
-    def close(self):
-        shut(self.socket)
 
-
-class Garbler:
+class Garbler(Way):
     """Carries calls one by one. What is answered to every other call of a procedure it replaces by what the next of
     these makes of it, and then breaks the connection; once each was given it carries these answers, too."""
 
     def __init__(self, to: Address, procedure: int, garbage: list[Callable[[bytes], bytes]]):
-        self.to = to
         self.procedure = procedure
         self.garbage = garbage
         self.given = 0
         self.carried = True
-        self.socket = socket.create_server(('127.0.0.1', 0))
-        self.address: Address = self.socket.getsockname()
-        threading.Thread(target=self.accept, daemon=True).start()
+        super().__init__(to)
 
-    def accept(self):
-        while True:
-            try:
-                near, _ = self.socket.accept()
-                far = socket.create_connection(self.to)
-            except OSError:
-                return
-            threading.Thread(target=self.serve, args=(near, far), daemon=True).start()
+    def join(self, near: socket.socket, far: socket.socket):
+        threading.Thread(target=self.serve, args=(near, far), daemon=True).start()
 
     def serve(self, near: socket.socket, far: socket.socket):
         calls, answers = RecordReader(near), RecordReader(far)
@@ -152,6 +144,3 @@ class Garbler:
             return None
         self.given += 1
         return self.garbage[self.given - 1]
-
-    def close(self):
-        shut(self.socket)

@@ -96,8 +96,8 @@ def try_records(address: Address, program: int):
     cuts = b''.join(word(1) + null[at:at + 1] for at in range(39)) + word(1 | LAST) + null[39:]
     for parts, owed in [
             ([cuts[at:at + 7] for at in range(0, len(cuts), 7)], DONE),
-            ([word(0) * (MAX_FRAGMENTS - 1) + record(null)], DONE), ([word(0) * MAX_FRAGMENTS], None),
+            ([word(0) * (MAX_FRAGMENTS - 1) + record(null)], DONE), ([word(0) * (MAX_FRAGMENTS + 1)], None),
             ([word(0x7fffffff) + bytes(48)], None), ([word(MOST) + bytes(MOST) + word(1)], None)]:
         assert raw(address, *parts) == owed, parts[0][:8].hex()
     if program == NODE:
-        assert raw(address, word(MOST + 1 | LAST)) is None
+        assert raw(address, word(MOST + 1 | LAST) + bytes(48)) is None

@@ -5,7 +5,6 @@ ghost use Rattle.std.specs.Prelude.{◌≡◌};
 use crate::greeting::{Side, common_roster, connect, report_call};
 use crate::opening::hold_rosters;
 use command_line::{AskOrder, AskRequest, ask_order};
-use node_book::Indication;
 use peer_calls::{NodeNumber, Told, WitnessRequest};
 use peer_connections::{CallFault, PeerCaller};
 use program_output::{COMMAND_LINE, EXPOSED, SUSPECTED, report_no_memory, report_output};
@@ -13,7 +12,7 @@ use std::alloc::Global;
 use std::fs::File;
 use std::net::{Net, TcpListener, TcpStream};
 use std::rt::Files;
-use watching::NodeTold;
+use witness_process::{Indication, NodeTold};
 use xdr::texts::{TextFault, read_text};
 
 /// The most bytes of an answer to TOLD.

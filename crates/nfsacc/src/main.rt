@@ -6,21 +6,20 @@ mod run;
 mod serve;
 mod words;
 
-use command_line::{Request, ServeRefusal, parse, serve_order};
+use command_line::{Request, parse};
 use evidence::{check_base_file, check_file, show_roster};
 use host_commands::{
-    ask_witness, make_rosters, make_secret, run_server, show_members, stop_process,
+    ask_witness, make_rosters, make_secret, run_gateway, run_server, run_witness, show_members,
+    stop_process,
 };
-use party_files::FileShelf;
+use party_files::{DurableShelf, FileShelf};
 use program_output::{
-    COMMAND_LINE, INPUT_FAULT, Remembering, TimedErrors, report_file, report_no_memory,
-    report_output, report_words,
+    INPUT_FAULT, Remembering, TimedErrors, report_file, report_no_memory, report_output,
 };
 use rpc::records::{Counting, RecordFault, RecordReader};
 use rpc_streams::run_rpc;
 use run::run_file;
-use serve::{Opened, open, order_of, report_served};
-use serving::serve;
+use serve::run_service;
 use std::io;
 use std::io::BufReader;
 use std::process::ExitCode;
@@ -69,18 +68,7 @@ fn report_fault(rt: &impl Eprint, fault: RecordFault) -> u8 {
     }
 }
 
-/// Says on standard error what can't be served, and gives the status for it.
-fn report_order(rt: &impl Eprint, refusal: ServeRefusal) -> u8 {
-    let _ = eprintln!(rt; "nfsacc: {refusal}");
-    COMMAND_LINE
-}
-
-/// Says on standard error that a command isn't there yet, and gives the status for it.
-fn report_missing(rt: &impl Eprint) -> u8 {
-    report_words(rt, "this command is not there yet", COMMAND_LINE)
-}
-
-/// The threads of a service write to standard error and to files, so all of its types are made here.
+/// Threads write files and to standard error, so what they write to is made here.
 fn main(rt: HostRuntime) -> ExitCode {
     let alloc = rt.alloc();
     let words = match words_of(&rt) {
@@ -96,37 +84,17 @@ fn main(rt: HostRuntime) -> ExitCode {
         Ok(Request::Secret(name)) => make_secret(&rt, name),
         Ok(Request::Member(request)) => show_members(&rt, &request),
         Ok(Request::Rosters(request)) => make_rosters(&rt, &request),
-        Ok(Request::Serve(request)) => match serve_order(&request) {
-            Ok(order) => match open(&rt, &order) {
-                Ok(opened) => {
-                    let Opened {
-                        listener,
-                        secret: _secret,
-                        masters,
-                        control,
-                        stand_ins: _stand_ins,
-                    } = opened;
-                    let socket = control.as_ref().map(|control| &control.listener);
-                    let asked = order_of(&order, masters, socket);
-                    let mut lines = Remembering::new(io::writer(&rt));
-                    let errors = TimedErrors::new(&rt, alloc, order.options.progress);
-                    let shelf = FileShelf::new(&rt, alloc);
-                    let served = serve(
-                        &rt, alloc, listener, &rt, &mut lines, errors, shelf, &asked,
-                    );
-                    if let Some(control) = control {
-                        control.close(&rt);
-                    }
-                    report_served(&rt, &order, served, lines.last())
-                }
-                Err(status) => status,
-            },
-            Err(refusal) => report_order(&rt, refusal),
-        },
+        Ok(Request::Serve(request)) => {
+            let errors = TimedErrors::new(&rt, alloc, request.progress);
+            run_service(&rt, &request, errors, FileShelf::new(&rt, alloc))
+        }
         Ok(Request::Server(request)) => run_server(&rt, &request),
+        Ok(Request::Gateway(request)) => run_gateway(&rt, &request),
+        Ok(Request::Witness(request)) => {
+            run_witness(&rt, &request, DurableShelf::new(&rt, alloc))
+        }
         Ok(Request::Stop(folder)) => stop_process(&rt, folder),
         Ok(Request::Ask(request)) => ask_witness(&rt, &request),
-        Ok(Request::Gateway(_) | Request::Witness(_)) => report_missing(&rt),
         Err(error) => report_parse(&rt, words.as_slice(), &error),
     };
     ExitCode::from(status)

@@ -3,39 +3,94 @@
 ghost use Rattle.std.specs.Prelude.{◌≡◌, ◌≢◌, ◌⊎◌, true, false, IsOk, IsErr, IfOk, IfErr};
 ghost use Rattle.std.specs.declared.io.Error.{Error};
 
-use command_line::ServeOrder;
+use command_line::{ServeOrder, ServeRefusal, ServeRequest, serve_order};
 use party_files::{Control, FileShelf, HeldSecret, report_control, report_secret, stand_ins};
-use program_output::{DEVICE, INPUT_FAULT, report_file, report_no_memory, report_output};
-use serving::{Finished, Masters, Order, ServeFault};
+use program_output::{
+    COMMAND_LINE, DEVICE, INPUT_FAULT, Remembering, report_file, report_no_memory, report_output,
+};
+use serving::{Finished, Masters, Order, ServeFault, Shelf, serve};
 use std::fs::File;
 use std::io;
+use std::io::Write;
 use std::net::{Net, SocketAddr, TcpListener, TcpStream};
 use std::os::unix::net::UnixListener;
 use std::random::RandomSource;
-use std::rt::Files;
+use std::rt::{Clock, Files};
+use std::sync::Wait;
+use std::thread::Threads;
 
 /// What is said where the witness's journal isn't what it answered.
 const NOT_IN_JOURNAL: &str = "nfsacc: what the witness answered does not stand in its journal";
 
 /// What is opened before the first key of a run is made.
 #[derive(Drop)]
-pub struct Opened {
-    pub listener: TcpListener,
+struct Opened {
+    listener: TcpListener,
     /// The secret that the keys are made of, which no other process uses until the run is over, if one is
     /// named.
-    pub secret: Option<HeldSecret>,
-    pub masters: Masters,
+    secret: Option<HeldSecret>,
+    masters: Masters,
     /// The control socket, by which the run can be told to stop, if there is one.
-    pub control: Option<Control>,
+    control: Option<Control>,
     /// /dev/null in the place of standard input, output and error where they are closed, so that no socket
     /// becomes descriptor 0 to 2 and no client gets messages about others.
-    pub stand_ins: [Option<File>; 3],
+    stand_ins: [Option<File>; 3],
+}
+
+/// Serves over TCP until the last connection that is asked for has ended, and gives the status for it. What goes to
+/// standard error while threads run is written to `errors`, and evidence and bases are put on the shelf.
+pub fn run_service<R, E, S>(rt: &R, request: &ServeRequest<'_>, errors: E, shelf: S) -> u8
+where
+    R: Files<File = File> + Print + Eprint + AllocGlobal + RandomSource + Clock,
+    R: Net<Listener = TcpListener, Stream = TcpStream>,
+    R: Threads + Wait + Sync,
+    E: Write + Send + Drop,
+    S: Shelf + Send + Drop,
+{
+    let order = match serve_order(request) {
+        Ok(order) => order,
+        Err(refusal) => return report_order(rt, refusal),
+    };
+    let opened = match open(rt, &order) {
+        Ok(opened) => opened,
+        Err(status) => return status,
+    };
+    let Opened {
+        listener,
+        secret: _secret,
+        masters,
+        control,
+        stand_ins: _stand_ins,
+    } = opened;
+    let socket = control.as_ref().map(|control| &control.listener);
+    let asked = order_of(&order, masters, socket);
+    let mut lines = Remembering::new(io::writer(rt));
+    let served = serve(
+        rt,
+        rt.alloc(),
+        listener,
+        rt,
+        &mut lines,
+        errors,
+        shelf,
+        &asked,
+    );
+    if let Some(control) = control {
+        control.close(rt);
+    }
+    report_served(rt, &order, served, lines.last())
+}
+
+/// Says on standard error what can't be served, and gives the status for it.
+fn report_order(rt: &impl Eprint, refusal: ServeRefusal) -> u8 {
+    let _ = eprintln!(rt; "nfsacc: {refusal}");
+    COMMAND_LINE
 }
 
 /// Opens the port and the control socket, reads the secret bytes if a file of them is named, and tries the
 /// folders for evidence and for bases; then it notes beside the secret that a run is begun. Gives the status
 /// of the program where one of them fails.
-pub fn open<R>(rt: &R, order: &ServeOrder<'_>) -> Result<Opened, u8>
+fn open<R>(rt: &R, order: &ServeOrder<'_>) -> Result<Opened, u8>
 where
     R: Files<File = File> + Eprint + AllocGlobal + RandomSource,
     R: Net<Listener = TcpListener, Stream = TcpStream>,
@@ -107,7 +162,7 @@ where
 }
 
 /// The order for a run: its options, and what was opened for it.
-pub fn order_of<'a>(
+fn order_of<'a>(
     order: &ServeOrder<'a>,
     masters: Masters,
     control: Option<&'a UnixListener>,
@@ -125,7 +180,7 @@ pub fn order_of<'a>(
 
 /// The status of a run, whether it came to its end or not; what is wrong is said on standard error. `last` is
 /// the last error of standard output, if it answered one.
-pub fn report_served<S: Drop>(
+fn report_served<S: Drop>(
     rt: &impl Eprint,
     order: &ServeOrder<'_>,
     served: Result<Finished<S>, ServeFault>,
