@@ -88,8 +88,8 @@ def check_three(program: str):
         assert connection.reply() == owed(ATTRIBUTES)
         connection.finish()
         last = last_number(address, hosts)
-        told = hosts.wait_until(witness.address(), are_trusted(last))
-        assert told[2][2] > 0, f'node 2 was not audited: {told}'
+        are_audited = are_trusted(last)
+        hosts.wait_until(witness.address(), lambda told: are_audited(told) and told[2][2] > 0)
         _, told = hosts.ask(witness.address(), '1-2')
         assert list(told) == [1, 2], told
         witness.wait_for(r'\S+Z 1 trusted 0 to \d+')
