@@ -2,36 +2,42 @@
 """Parties on hosts of their own, from outside: `nfsacc server`, `gateway` and `witness` as processes, with each other
 and with the parties of checks/peer, which were written from docs/WIRE.md.
 
-usage: checks/hosts.py PROGRAM [--calls CALLS] [NAME..]    CALLS through a gateway, 200 if not given
+usage: checks/hosts.py PROGRAM [--calls CALLS] [NAME..]    CALLS through a gateway, 200 if not given, and as many by a rough
+                                                           way, 60 if not given
 """
 
 import argparse
 import os
+import re
 import shutil
+import signal
 import sys
+import threading
 import time
+from collections.abc import Callable
 from concurrent.futures import ThreadPoolExecutor
+from dataclasses import replace
 from pathlib import Path
 
 sys.dont_write_bytecode = True
 from hosts.logs import ServedLog, last_signed, log_of  # noqa: E402
 from hosts.parties import EVERY, Hosts, Party, spelled  # noqa: E402
-from hosts.proxy import Garbler, Proxy  # noqa: E402
+from hosts.proxy import Garbler, Proxy, Rough, Switch, Turns  # noqa: E402
 from peer import rows  # noqa: E402
-from peer.gateway import Gateway, ask, handed  # noqa: E402
+from peer.gateway import Gateway, ask, case_of, handed, last_shown, stands  # noqa: E402
 from peer.lies import (Fork, HidesLog, Liar, NoReply, OldReply, OtherAck, OtherMember, ReceivesTwice,  # noqa: E402
                        Silent, Slow, Swapped, UnsignedAck, UnsignedReply, WrongReply, WrongXid)
 from peer.server import Server  # noqa: E402
 from peer.wire import DELIVER, NODE, WITNESS, Address, Caller  # noqa: E402
-from peer.witness import Witness  # noqa: E402
+from peer.witness import REFUSED, Witness  # noqa: E402
 from serve.calls import Calls  # noqa: E402
 from serve.client import ROOT, Connection, call, record  # noqa: E402
 from verifier.evidence import judge  # noqa: E402
 from verifier.keys import CLIENT, SERVER, digest  # noqa: E402
-from verifier.log import ACK  # noqa: E402
+from verifier.log import ACK, RECV, SEND  # noqa: E402
 from verifier.mount import World  # noqa: E402
 from verifier.nfs import Files  # noqa: E402
-from verifier.packets import ENVELOPE  # noqa: E402
+from verifier.packets import AUTHENTICATOR, ENVELOPE  # noqa: E402
 from verifier.replay import Fault  # noqa: E402
 from verifier.rpc import reply_to  # noqa: E402
 from verifier.xdr import opaque, word  # noqa: E402
@@ -40,7 +46,8 @@ LOOKUP = call(7, 4, ROOT + opaque(b'hello'))
 ATTRIBUTES = call(8, 1, ROOT)
 SAME_XID = call(7, 1, ROOT)
 CONNECTIONS = 4
-DEVICE, KEYS_USED_UP, OTHER, SUSPECTED = 4, 5, 6, 7
+INPUT, COMMAND_LINE, DEVICE, KEYS_USED_UP, OTHER, SUSPECTED = 1, 2, 4, 5, 6, 7
+NO_ROOM = 4
 
 
 def owed(body: bytes) -> bytes:
@@ -94,9 +101,20 @@ def check_three(program: str):
         assert list(told) == [1, 2], told
         witness.wait_for(r'\S+Z 1 trusted 0 to \d+')
         assert not any('exposed' in line for line in witness.lines), witness.lines
-        for party, state in (gateway, of_gateway), (server, of_server), (witness, of_witness):
+        try_stands(address, witness.address())
+        for party, state in (gateway, of_gateway), (witness, of_witness), (server, of_server):
             assert (hosts.stop(party, state), party.said()) == (0, ''), party.said()
     print('three processes: each reply as it is owed, everybody is trusted, and each ends when it is told to')
+
+
+def try_stands(server: Address, witness: Address):
+    """What a witness was shown of a server last stands in the server's log. Another hash at its number doesn't."""
+    callers = Caller(server, NODE), Caller(witness, WITNESS)
+    claim = last_shown(callers[1], 1)
+    assert claim is not None and claim.node == 1
+    assert stands(callers[0], claim) and not stands(callers[0], replace(claim, hash=bytes(32)))
+    for caller in callers:
+        caller.close()
 
 
 def check_rows(program: str):
@@ -151,6 +169,9 @@ def exposed(hosts: Hosts, witness: Party, cases: Path) -> tuple[int, int] | None
     assert hosts.run('check', '--roster', str(roster), str(evidence)) == (0, 'exposed 1\n', '')
     verdict = judge(evidence.read_bytes())
     assert verdict.exposed == 1
+    caller = Caller(witness.address(), WITNESS)
+    assert case_of(caller, 1) == evidence.read_bytes() and case_of(caller, 2) is None
+    caller.close()
     others = {2: 'trusted', 3: 'trusted'}
     hosts.wait_until(witness.address(), lambda told: words_of(told) == {1: 'exposed', **others})
     return verdict.fault
@@ -316,6 +337,28 @@ def check_server(program: str):
         assert (hosts.stop(server, state), server.said()) == (0, ''), server.said()
         assert server.lines[-1] == 'stopped', server.lines
     print('our server with the other gateway and the other witness; the other gateway with our witness')
+
+
+def check_strangers(program: str):
+    """Connections that say nothing don't hold a member off, and end after ten seconds; neither a message that was sent
+    before nor a GREET keeps a place, while a member's connection stays."""
+    with Hosts(program) as hosts:
+        usual(hosts)
+        server = hosts.server('one')
+        gateway = Gateway(hosts.keys('two', 2, CLIENT, 6), hosts.roster(), 1, server.address())
+        assert gateway.exchange(ATTRIBUTES) == owed(ATTRIBUTES)
+        strangers = [Connection(server.address()[1], address=server.address()[0]) for _ in range(40)]
+        began = time.monotonic()
+        again = Caller(server.address(), NODE)
+        again.ask(DELIVER, word(ENVELOPE) + gateway.node.envelope(gateway.last))
+        assert gateway.exchange(LOOKUP) == owed(LOOKUP)
+        member = gateway.caller
+        assert all(stranger.ends() for stranger in strangers) and time.monotonic() - began < 20
+        assert again.socket.recv(1) == b''
+        assert gateway.exchange(ATTRIBUTES) == owed(ATTRIBUTES) and gateway.caller is member
+        gateway.finish()
+        assert server.process.poll() is None and server.said() == '', server.said()
+    print('forty silent connections and a repeated message hold nobody off, and end after ten seconds')
 
 
 def check_server_keys(program: str):
@@ -568,6 +611,156 @@ def check_open_message(program: str):
     print('a withheld reply that a witness asks for is acknowledged, and not handed out')
 
 
+def takes_two_keys(logged: ServedLog):
+    """Each call, which is owed a reply, has taken two keys of the server. That it took two of the client's the numbers of
+    the ACKs show."""
+    signed = [entry for entry in logged.entries if entry.kind in (RECV, SEND)]
+    assert len(signed) == 2 * len(logged.calls), f'{len(signed)} keys of {len(logged.calls)} calls'
+
+
+def check_rough(program: str, count: int = 60):
+    """The way to the server drops, delays, repeats and cuts: each reply comes, no call is made twice, and each reply is
+    acknowledged in the end."""
+    with Hosts(program) as hosts:
+        height = (2 * count).bit_length()
+        usual(hosts, height, height)
+        server = hosts.server('one')
+        way = hosts.keep(Rough(server.address(), 1, 12))
+        state = hosts.state()
+        gateway = hosts.gateway('two', '2-2', way.address, state=state)
+        made = make_calls(gateway.address(), count)
+        assert hosts.stop(gateway, state) == 0, gateway.said()
+        logged = log_of(server.address(), hosts.roster())
+        compare(logged, made)
+        takes_two_keys(logged)
+        acked = sum(entry.kind == ACK for entry in logged.entries)
+        assert count - acked in (0, 1), f'{acked} of {count} replies were acknowledged'
+        faults = {fault: times for fault, times in sorted(way.faults.items()) if fault}
+        assert sum(faults.values()) > 3, faults
+    print(f'{count} calls over a rough way, {faults}: each reply comes, and takes two keys of each')
+
+
+def check_round_trips(program: str, count: int = 24):
+    """A call takes one round trip: the answer to the acknowledgement of its reply isn't awaited."""
+    with Hosts(program) as hosts:
+        usual(hosts)
+        server = hosts.server('one')
+        way = hosts.keep(Turns(server.address()))
+        gateway = hosts.gateway('two', '2-2', way.address)
+        connection = Connection(gateway.address()[1])
+        before = way.trips
+        for _ in range(count):
+            assert connection.ask(ATTRIBUTES) == owed(ATTRIBUTES)
+        assert way.trips - before == count + 1, f'{way.trips - before} round trips for GREET and {count} calls'
+        logged = log_of(server.address(), hosts.roster())
+        assert sum(entry.kind == ACK for entry in logged.entries) >= count - 1
+    print(f'{count} calls take a round trip each')
+
+
+def wait_for_words(party: Party, words: str):
+    """Waits until a party has said this on standard error."""
+    end = time.monotonic() + 60
+    while words not in party.said():
+        assert time.monotonic() < end, party.said()
+        time.sleep(0.1)
+
+
+def check_away(program: str):
+    """While the server is away a local program waits, and witnesses are told of the gateway's log and of the call. The
+    gateway ends when it is told to."""
+    with Hosts(program) as hosts:
+        usual(hosts)
+        server = hosts.server('one')
+        way = hosts.keep(Switch(server.address()))
+        witness = hosts.witness({1: server.address()})
+        state = hosts.state()
+        gateway = hosts.gateway('two', '2-2', way.address, witness.address(), state=state)
+        connection = Connection(gateway.address()[1])
+        for _ in range(3):
+            assert connection.ask(ATTRIBUTES) == owed(ATTRIBUTES)
+        way.off()
+        connection.send(record(LOOKUP))
+        wait_for_words(gateway, 'nfsacc: server 1 gives no answer, and is tried again: ')
+        hosts.wait_until(witness.address(), lambda told: told[2][2] >= 10)
+        way.on()
+        assert connection.reply() == owed(LOOKUP)
+        wait_for_words(gateway, 'nfsacc: server 1 answers again\n')
+        server.process.send_signal(signal.SIGSTOP)
+        connection.send(record(ATTRIBUTES))
+        time.sleep(2)
+        server.process.send_signal(signal.SIGCONT)
+        assert connection.reply() == owed(ATTRIBUTES)
+        way.off()
+        connection.send(record(ATTRIBUTES))
+        time.sleep(1)
+        started = time.monotonic()
+        assert hosts.stop(gateway, state) == 0, gateway.said()
+        assert time.monotonic() - started < 10, 'it took long to stop'
+        assert connection.is_cut()
+        calls = [each.body for each in log_of(server.address(), hosts.roster()).calls]
+        assert calls in ([*[ATTRIBUTES] * 3, LOOKUP, *[ATTRIBUTES] * times] for times in (1, 2)), len(calls)
+    print('a server that is away for a while: the local program waits, and witnesses are told meanwhile')
+
+
+def check_give_up(program: str):
+    """A call is given up after the seconds that are asked for, and the next one is made."""
+    with Hosts(program) as hosts:
+        usual(hosts)
+        server = hosts.server('one')
+        way = hosts.keep(Switch(server.address()))
+        gateway = hosts.gateway('two', '2-2', way.address, more=('--give-up', '2'))
+        address = gateway.address()
+        way.off()
+        connection = Connection(address[1])
+        started = time.monotonic()
+        connection.send(record(LOOKUP))
+        assert connection.is_cut()
+        assert time.monotonic() - started >= 2
+        wait_for_words(gateway, 'server 1 gives no answer: the server can\'t be reached')
+        way.on()
+        assert Connection(address[1]).ask(ATTRIBUTES) == owed(ATTRIBUTES)
+    print('a call is given up after --give-up, and the next one is made')
+
+
+def check_next_epoch(program: str):
+    """A gateway whose server begins the next epoch ends with 6 once it connects again."""
+    with Hosts(program) as hosts:
+        usual(hosts, epochs='1-2')
+        server = hosts.server('one')
+        way = hosts.keep(Switch(server.address()))
+        gateway = hosts.gateway('two', '2-2', way.address)
+        connection = Connection(gateway.address()[1])
+        assert connection.ask(ATTRIBUTES) == owed(ATTRIBUTES)
+        server.kill()
+        connection.send(record(ATTRIBUTES))
+        server = hosts.server('one')
+        way.on(server.address())
+        assert connection.is_cut()
+        assert gateway.status() == OTHER
+        assert 'nfsacc: server 1 greets another roster sha256:' in gateway.said(), gateway.said()
+    print('a gateway whose server begins another epoch ends with 6')
+
+
+def check_challenge(program: str):
+    """A call that the server doesn't acknowledge by its signature goes to witnesses at once."""
+    with Hosts(program) as hosts:
+        usual(hosts)
+        server = liar(hosts, UnsignedAck)
+        other = hosts.keep(Witness(hosts.roster()))
+        gateway = hosts.gateway('two', '2-2', server.address, other.address, every='1000')
+        connection = Connection(gateway.address()[1])
+        assert connection.ask(ATTRIBUTES) == owed(ATTRIBUTES)
+        connection.send(record(LOOKUP))
+        assert connection.is_cut()
+        end = time.monotonic() + 60
+        while not other.books[1].messages:
+            assert time.monotonic() < end, 'no challenge came'
+            time.sleep(0.1)
+        [(envelope, _)] = other.books[1].messages.values()
+        assert envelope.body == LOOKUP
+    print('a call without an acknowledgement that is signed goes to witnesses at once')
+
+
 def check_breaks(program: str, count: int = 120):
     """The way to the server breaks again and again, at any byte: each reply comes, and no call is made twice."""
     with Hosts(program) as hosts:
@@ -582,21 +775,185 @@ def check_breaks(program: str, count: int = 120):
     print(f'{count} calls, and {proxy.cuts} breaks of the way to the server: each reply comes, no call is made twice')
 
 
-CHECKS = [check_server, check_server_keys, check_three, check_rows, check_lie, check_fork, check_none, check_other_calls, check_suspected,
+def check_ranges(program: str):
+    """One number is a range, too: the only number of a gateway, the only epoch of a member, the only node of `ask`."""
+    with Hosts(program) as hosts:
+        usual(hosts, epochs='1')
+        server = hosts.server('one')
+        witness = hosts.witness({1: server.address()})
+        gateway = hosts.gateway('two', '2', server.address(), witness.address())
+        gateway.wait_for('node 2, epoch 1, 64 keys made')
+        status, told = hosts.ask(witness.address(), '2')
+        assert (status, list(told)) == (0, [2]), told
+        gateway.kill()
+        assert hosts.gateway('two', '2', server.address()).status() == INPUT
+        for nodes in '0', '65', '02', '2-', '-2', '2-2-2', '3-2', '1-65', ' 2', '+2', '2 ', '':
+            status, _, said = hosts.run('ask', f'--nodes={nodes}', spelled(witness.address()))
+            owed_status = 0 if nodes == '02' else COMMAND_LINE
+            assert status == owed_status, (nodes, status, said)
+    print('one number is a range, too')
+
+
+def check_status(program: str):
+    """What a server, a gateway and a witness say of themselves; 4 where nobody answers."""
+    with Hosts(program) as hosts:
+        usual(hosts)
+        of_server, of_gateway, of_witness = (hosts.state(name) for name in ('s1', 's2', 's3'))
+        server = hosts.server('one', '--audit', '127.0.0.1:0', state=of_server)
+        audits = server.address('audits')
+        told = hosts.status_of(of_server)
+        assert 'audited to' not in told and int(told.pop('memory')[0].removesuffix(' KiB')) > 100, told
+        assert told == {'kind': ['server'], 'node': ['1'], 'epoch': ['1'], 'keys left': ['128'], 'calls': ['0'],
+                        'connections': ['0']}, told
+        witness = hosts.witness({1: audits}, state=of_witness)
+        gateway = hosts.gateway('two', '2', server.address(), witness.address(), state=of_gateway)
+        connection = Connection(gateway.address()[1])
+        for _ in range(3):
+            assert connection.ask(ATTRIBUTES) == owed(ATTRIBUTES)
+        last = last_number(server.address(), hosts)
+        hosts.wait_until(witness.address(), are_trusted(last))
+        told = hosts.status_of(of_server)
+        assert (told['keys left'], told['calls'], told['audited to']) == (['122'], ['3'], [str(last)]), told
+        assert int(told['connections'][0]) >= 1, told
+        told = hosts.status_of(of_gateway)
+        assert (told['kind'], told['node'], told['calls']) == (['gateway'], ['2'], ['3']), told
+        assert (told['epoch'], told['keys left']) == (['1'], ['58']), told
+        told = hosts.status_of(of_witness)
+        assert told['kind'] == ['witness'] and told['node'][0] == f'1 trusted 0 to {last}', told
+        for party, state in (gateway, of_gateway), (witness, of_witness), (server, of_server):
+            assert hosts.stop(party, state) == 0
+            status, printed, said = hosts.run('status', str(state))
+            assert (status, printed) == (DEVICE, '') and said.startswith(f'nfsacc: {state}/control: '), said
+    print('a server, a gateway and a witness say how they are, and nobody does once they have ended')
+
+
+def check_log_file(program: str):
+    """Each line of a process goes to its log file, too, at the end, for its owner alone and with its time; the file may
+    be emptied meanwhile. A gateway's cause and a witness's lines stand there once, and each has one time."""
+    with Hosts(program) as hosts:
+        usual(hosts)
+        files = {name: hosts.folder / f'{name}.log' for name in ('server', 'gateway', 'witness')}
+        files['server'].write_text('an older line\n')
+        state = hosts.state()
+        server = hosts.server('one', '--log-file', str(files['server']), state=state)
+        witness = hosts.witness({1: server.address()}, '--log-file', str(files['witness']))
+        gateway = hosts.gateway('two', '2', server.address(), witness.address(), more=('--log-file', str(files['gateway'])))
+        connection = Connection(gateway.address()[1])
+        assert connection.ask(ATTRIBUTES) == owed(ATTRIBUTES)
+        connection.send(word(0x7fffffff))
+        assert connection.socket.recv(1) == b''
+        witness.wait_for(r'\S+Z 1 trusted 0 to \d+')
+        assert files['gateway'].stat().st_mode & 0o777 == 0o600
+        assert timed_lines(files['server'], after='an older line\n') == server.lines
+        said = [line.split('Z ')[-1] for line in witness.lines]
+        assert timed_lines(files['witness'])[:len(said)] == said
+        caused = timed_lines(files['gateway'])
+        assert caused[:-1] == gateway.lines and re.fullmatch(r'nfsacc: 127\.0\.0\.1:\d+: .+', caused[-1]), caused
+        assert re.fullmatch(rf'{TIME} {re.escape(caused[-1])}\n', gateway.said()), gateway.said()
+        os.truncate(files['server'], 0)
+        assert hosts.stop(server, state) == 0
+        assert timed_lines(files['server']) == ['stopped']
+        status, _, said = hosts.run('server', *server.process.args[2:-1], str(hosts.folder / 'none' / 'server.log'))
+        assert status == DEVICE and 'server.log' in said, (status, said)
+    print('each line of a process goes to its log file, too, with its time')
+
+
+TIME = r'\d{4}-\d\d-\d\dT\d\d:\d\d:\d\dZ'
+
+
+def timed_lines(file: Path, after: str = '') -> list[str]:
+    """The lines of a log file, after those that stood there before, without their times."""
+    text = file.read_text()
+    assert text.startswith(after), text
+    lines = [re.fullmatch(rf'{TIME} (.*)', line) for line in text.removeprefix(after).splitlines()]
+    assert all(lines) and text.endswith('\n'), text
+    return [line[1] for line in lines]
+
+
+class NoRoom(Witness):
+    """It has no room for what it is shown, until it is given some. What it asks for itself it takes."""
+    has_room = False
+
+    def deliver(self, packet: bytes) -> bytes:
+        is_shown = packet[:4] == word(AUTHENTICATOR) and threading.current_thread() is not threading.main_thread()
+        return word(REFUSED + NO_ROOM) if is_shown and not self.has_room else super().deliver(packet)
+
+
+def wait_assured(hosts: Hosts, state: Path, witness: Address, holds: Callable[[int | None], bool], by=lambda: None):
+    """Waits until this holds of the number up to which a witness answers for a gateway's replies."""
+    end = time.monotonic() + 60
+    while True:
+        by()
+        lines = hosts.status_of(state).get('witness', [])
+        words = dict(line.split(' assured ') for line in lines)
+        said = words.get(spelled(witness))
+        if said is not None and holds(None if said == 'of none' else int(said.removeprefix('to '))):
+            return
+        assert time.monotonic() < end, lines
+        time.sleep(0.3)
+
+
+def check_assured(program: str):
+    """A gateway says up to which number each witness answers for its replies: no further than the witness has taken
+    what the server signed and has audited the server, of which one that takes its place knows nothing; and not at all
+    where it calls the server exposed."""
+    with Hosts(program) as hosts:
+        usual(hosts)
+        state, server = hosts.state('gateway'), hosts.server('one')
+        ours, other = hosts.witness({1: server.address()}), hosts.keep(NoRoom(hosts.roster()))
+        way = hosts.keep(Switch(other.address))
+        gateway = hosts.gateway('two', '2-2', server.address(), ours.address(), way.address, state=state)
+        connection = Connection(gateway.address()[1])
+        for _ in range(5):
+            assert connection.ask(ATTRIBUTES) == owed(ATTRIBUTES)
+        replies = [each.number + 2 for each in log_of(server.address(), hosts.roster()).calls]
+        wait_assured(hosts, state, ours.address(), lambda to: to is not None and to >= replies[-1])
+        for witness in other, hosts.keep(NoRoom(hosts.roster())):
+            def audit(witness=witness):
+                assert witness.round({1: server.address()}) == {}
+
+            way.off()
+            way.on(witness.address)
+            while witness.books[1].end < replies[-1]:
+                audit()
+            wait_assured(hosts, state, way.address, lambda to: to == replies[0] - 1, audit)
+            time.sleep(2)
+            wait_assured(hosts, state, way.address, lambda to: to == replies[0] - 1, audit)
+            witness.has_room = True
+            wait_assured(hosts, state, way.address, lambda to: to is not None and to >= replies[-1], audit)
+    with Hosts(program) as hosts:
+        usual(hosts)
+        state = hosts.state('gateway')
+        server = hosts.keep(WrongReply(hosts.keys('one', 1, SERVER, 7), hosts.roster(), at=3))
+        witness, cases = watched(hosts, server)
+        gateway = hosts.gateway('two', '2-2', server.address, witness.address(), state=state)
+        connection = Connection(gateway.address()[1])
+        for _ in range(2):
+            assert connection.ask(ATTRIBUTES) == owed(ATTRIBUTES)
+        wait_assured(hosts, state, witness.address(), lambda to: to is not None and to >= 7)
+        assert connection.ask(ATTRIBUTES) != owed(ATTRIBUTES)
+        assert exposed(hosts, witness, cases) is not None
+        wait_assured(hosts, state, witness.address(), lambda to: to is None)
+    print('a gateway says up to which reply each witness answers: not before it has taken what was signed, nor of a liar')
+
+
+CHECKS = [check_server, check_strangers, check_assured, check_server_keys, check_three, check_rows, check_lie, check_fork, check_none, check_other_calls, check_suspected,
           check_other_witness, check_lives, check_second_roster, check_keys_used_up, check_ask,
-          check_calls, check_breaks, check_garbage, check_same_call, check_open_message]
+          check_calls, check_breaks, check_garbage, check_same_call, check_open_message, check_rough,
+          check_round_trips, check_away, check_give_up, check_next_epoch, check_challenge, check_ranges, check_status,
+          check_log_file]
 
 
 def main():
     parser = argparse.ArgumentParser()
     parser.add_argument('program')
     parser.add_argument('names', nargs='*')
-    parser.add_argument('--calls', type=int, default=200)
+    parser.add_argument('--calls', type=int)
     asked = parser.parse_args()
     program = os.path.abspath(asked.program)
     for check in CHECKS:
         if not asked.names or check.__name__.removeprefix('check_') in asked.names:
-            if check is check_calls:
+            if asked.calls and check in (check_calls, check_rough):
                 check(program, asked.calls)
             else:
                 check(program)

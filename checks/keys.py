@@ -56,11 +56,13 @@ def check_members(program: str, secret: Path):
         f'member 2 client 2 epoch {epoch} {root_of(sha256(bytes_of + word(2) + word(epoch)).digest(), 2).hex()}\n'
         for epoch in (3, 4))
     assert lines == wanted, lines
+    alone = member(program, secret, '--node', '2', '--kind', 'client', '--height', '2', '--epochs', '4').decode()
+    assert alone == wanted.splitlines(True)[1], alone
     lines = member(program, secret, '--node', '1', '--kind', 'server', '--height', '1', '--log-version', '2').decode()
     root = root_of(sha256(bytes_of + word(1) + word(1)).digest(), 1)
     assert lines == f'member 1 server 1 log 2 epoch 1 {root.hex()}\n', lines
     for words in (['--node', '0'], ['--node', '65'], ['--node', 'x'], ['--kind', 'witness'], ['--height', '0'],
-                  ['--height', '17'], ['--epochs', '1'], ['--epochs', '2-1'], ['--epochs', '0-1'], ['--epochs', '1-'],
+                  ['--height', '17'], ['--epochs', '0'], ['--epochs', '2-1'], ['--epochs', '0-1'], ['--epochs', '1-'],
                   ['--epochs', '1-4294967296'], ['--log-version', '3']):
         given = {'--node': '1', '--kind': 'client', '--height': '1'} | {words[0]: words[1]}
         status, printed, said = run(program, 'member', '--secret', str(secret), *[one for pair in given.items() for one in pair])

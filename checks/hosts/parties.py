@@ -126,7 +126,7 @@ class Hosts:
         assert (status, said) == (0, ''), (status, said)
         first, _, last = epochs.partition('-')
         owed = [member_line(self.keys(name, node, kind, height, epoch).member(), epoch)
-                for epoch in range(int(first), int(last) + 1)]
+                for epoch in range(int(first), int(last or first) + 1)]
         assert lines.splitlines() == owed, (lines, owed)
         return lines
 
@@ -168,11 +168,11 @@ class Hosts:
         return party
 
     def gateway(self, name: str, nodes: str, server: Address, *witnesses: Address, state: Path | None = None,
-                more: tuple[str, ...] = ()) -> Party:
+                every: str = EVERY, more: tuple[str, ...] = ()) -> Party:
         asked = ['--witness', ','.join(map(spelled, witnesses))] if witnesses else []
         return self.start('gateway', '--secret', str(self.folder / name), '--rosters', str(self.folder / 'rosters'),
                           '--state', str(state or self.state()), '--nodes', nodes, '--server', f'1={spelled(server)}',
-                          '--listen', '127.0.0.1:0', '--every', EVERY, *asked, *more)
+                          '--listen', '127.0.0.1:0', '--every', every, *asked, *more)
 
     def witness(self, servers: dict[int, Address], *more: str, state: Path | None = None,
                 rosters: str = 'rosters') -> Party:
@@ -200,6 +200,16 @@ class Hosts:
                 return told
             assert time.monotonic() < end, told
             time.sleep(0.3)
+
+    def status_of(self, state: Path) -> dict[str, list[str]]:
+        """What `status` prints: the values of each name."""
+        status, printed, said = self.run('status', str(state))
+        assert (status, said) == (0, ''), (status, said)
+        values: dict[str, list[str]] = {}
+        for line in printed.splitlines():
+            name, value = line.split(': ')
+            values.setdefault(name, []).append(value)
+        return values
 
     def stop(self, party: Party, state: Path) -> int:
         assert self.run('stop', str(state)) == (0, '', '')

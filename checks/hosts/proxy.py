@@ -1,14 +1,15 @@
-"""Ways between a gateway and a server: one that breaks, a long one, and one on which other bytes come than the
-server's."""
+"""Ways between a gateway and a server: ones that break, a long one, one on which other bytes come than the server's, one
+that is off at times, and one that counts round trips."""
 
 import socket
 import threading
 import time
+from collections import Counter
 from collections.abc import Callable
 from queue import SimpleQueue
 from random import Random
 
-from peer.wire import MOST, Address, Broken, RecordReader, record, shut
+from peer.wire import ACKNOWLEDGE, MOST, Address, Broken, RecordReader, record, shut
 
 PIECE = 4096
 MOST_OF_ANY = 1 << 27
@@ -27,10 +28,12 @@ class Way:
         while True:
             try:
                 near, _ = self.socket.accept()
-                far = socket.create_connection(self.to)
             except OSError:
                 return
-            self.join(near, far)
+            try:
+                self.join(near, socket.create_connection(self.to))
+            except OSError:
+                shut(near)
 
     def join(self, near: socket.socket, far: socket.socket):
         """Starts to carry between the two."""
@@ -137,10 +140,124 @@ class Garbler(Way):
 
     def next_garbage(self, call: bytes) -> Callable[[bytes], bytes] | None:
         """What replaces the answer to a call, if something does."""
-        if call[20:24] != self.procedure.to_bytes(4, 'big') or self.given == len(self.garbage):
+        if procedure_of(call) != self.procedure or self.given == len(self.garbage):
             return None
         self.carried = not self.carried
         if self.carried:
             return None
         self.given += 1
         return self.garbage[self.given - 1]
+
+
+def procedure_of(call: bytes) -> int:
+    return int.from_bytes(call[20:24], 'big')
+
+
+def carry(source: socket.socket, target: socket.socket):
+    """Carries all bytes, and then breaks both ends."""
+    try:
+        while data := source.recv(1 << 16):
+            target.sendall(data)
+    except OSError:
+        pass
+    finally:
+        shut(source)
+        shut(target)
+
+
+class Switch(Way):
+    """Carries bytes to an address and back while it is on. While it is off each connection breaks."""
+
+    def __init__(self, to: Address):
+        self.is_on = True
+        self.ends: list[socket.socket] = []
+        super().__init__(to)
+
+    def join(self, near: socket.socket, far: socket.socket):
+        self.ends += [near, far]
+        if not self.is_on:
+            self.off()
+        for ends in (near, far), (far, near):
+            threading.Thread(target=carry, args=ends, daemon=True).start()
+
+    def off(self):
+        self.is_on = False
+        for end in self.ends:
+            shut(end)
+        self.ends = []
+
+    def on(self, to: Address | None = None):
+        """On again, to another address if one is given."""
+        self.to = to or self.to
+        self.is_on = True
+
+
+class Turns(Way):
+    """Carries calls one by one, and counts round trips: the answers that were awaited before the next call came. The
+    answer to an ACKNOWLEDGE is kept until then, so who waits for it waits for long."""
+
+    def __init__(self, to: Address):
+        self.trips = 0
+        super().__init__(to)
+
+    def join(self, near: socket.socket, far: socket.socket):
+        threading.Thread(target=self.serve, args=(near, far), daemon=True).start()
+
+    def serve(self, near: socket.socket, far: socket.socket):
+        calls, answers, kept = RecordReader(near), RecordReader(far), b''
+        try:
+            while (call := calls.next(MOST)) is not None:
+                far.sendall(record(call))
+                kept += record(answers.next(MOST_OF_ANY))
+                if procedure_of(call) != ACKNOWLEDGE:
+                    self.trips += 1
+                    near.sendall(kept)
+                    kept = b''
+        except (Broken, OSError):
+            pass
+        finally:
+            shut(near)
+            shut(far)
+
+
+class Rough(Way):
+    """Carries records, and now and then drops one, keeps it for a while, carries it twice or after an earlier one, or cuts
+    the connection in its middle. A connection on which a record was dropped is cut some time later."""
+
+    FAULTS = ('drop', 'delay', 'repeat', 'earlier', 'cut')
+
+    def __init__(self, to: Address, seed: int, every: int):
+        """A fault in one of so many records."""
+        self.random = Random(seed)
+        self.every = every
+        self.faults: Counter[str] = Counter()
+        super().__init__(to)
+
+    def join(self, near: socket.socket, far: socket.socket):
+        for ends in (near, far), (far, near):
+            threading.Thread(target=self.carry, args=ends, daemon=True).start()
+
+    def carry(self, source: socket.socket, target: socket.socket):
+        reader, earlier = RecordReader(source), b''
+        try:
+            while (body := reader.next(MOST_OF_ANY)) is not None:
+                fault = self.random.choice(self.FAULTS) if self.random.randrange(self.every) == 0 else ''
+                self.faults[fault] += 1
+                self.carry_record(fault, record(body), earlier, target)
+                earlier = record(body)
+        except (Broken, OSError):
+            pass
+        finally:
+            shut(source)
+            shut(target)
+
+    def carry_record(self, fault: str, data: bytes, earlier: bytes, target: socket.socket):
+        if fault == 'drop':
+            threading.Timer(0.3, shut, (target,)).start()
+            return
+        if fault == 'delay':
+            time.sleep(self.random.random() / 4)
+        before = {'repeat': data, 'earlier': earlier}.get(fault, b'')
+        target.sendall(before + data[:self.random.randrange(len(data)) if fault == 'cut' else len(data)])
+        if fault == 'cut':
+            raise Broken('cut')

@@ -64,6 +64,7 @@ class Book:
     entries: list[Entry] = field(default_factory=list)
     skips: list[int] = field(default_factory=list)
     charge: Charge | None = None
+    last_shown: Authenticator | None = None
 
     def __post_init__(self):
         self.state = opening_state(self.member.node, self.member.kind)
@@ -71,7 +72,7 @@ class Book:
     # ---- what is handed in; all of it is signed
 
     def learn(self, claim: Authenticator) -> int:
-        number = number_in(self.member.log, claim.word)
+        number = self.place(claim)
         if self.charge is not None:
             return TAKEN
         known = self.marks.get(number)
@@ -83,6 +84,16 @@ class Book:
         if number > self.end:
             self.kept[number] = claim
         return TAKEN
+
+    def show_last(self, claim: Authenticator) -> int:
+        """Learns what a packet shows: what isn't refused counts as shown, where its number is greater."""
+        answer = self.learn(claim)
+        if answer in (TAKEN, BEFORE) and (self.last_shown is None or self.place(self.last_shown) < self.place(claim)):
+            self.last_shown = claim
+        return answer
+
+    def place(self, claim: Authenticator) -> int:
+        return number_in(self.member.log, claim.word)
 
     def show(self, marks: dict[int, Mark], showing: Showing):
         """Holds what is shown against what was shown before. Two marks at one number are a fork."""

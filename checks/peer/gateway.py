@@ -4,7 +4,7 @@ call, and reports to witnesses."""
 from dataclasses import dataclass, field
 
 from generator.texts import authenticator_text
-from verifier.keys import Authenticator, Roster, digest, roster_text
+from verifier.keys import Authenticator, Roster, digest, read_authenticator, roster_text
 from verifier.mount import World
 from verifier.nfs import Files
 from verifier.packets import ACKNOWLEDGEMENT, AUTHENTICATOR, ENVELOPE
@@ -15,7 +15,8 @@ from verifier.xdr import Reader, Undecodable, word
 from .keys import Keys
 from .node import Node, Refused
 from .texts import Acknowledgement, Envelope, read_acknowledgement, read_envelope
-from .wire import ACKNOWLEDGE, DELIVER, NODE, TOLD, WANTED, WITNESS, Address, Broken, Caller, Unserved, greet
+from .wire import (ACKNOWLEDGE, CASE, DELIVER, MAX_CASE, NODE, SHOWN, STANDS, TOLD, WANTED, WITNESS, Address, Broken,
+                   Caller, Unserved, greet)
 
 MAX_MESSAGES = 16
 INDICATIONS = {1: 'trusted', 2: 'suspected', 3: 'exposed'}
@@ -305,3 +306,30 @@ def ask(witness: Address, node: int) -> Told | None:
         return told_of(caller, node)
     finally:
         caller.close()
+
+
+def stands(caller: Caller, claim: Authenticator) -> bool:
+    """Whether a node has the pair of an authenticator in its log."""
+    answer = caller.ask(STANDS, word(AUTHENTICATOR) + authenticator_text(claim))
+    number = answer.word_among(0, 1)
+    answer.end()
+    return number == 0
+
+
+def last_shown(caller: Caller, node: int) -> Authenticator | None:
+    """What a witness was shown of a node last."""
+    answer, claim = caller.ask(SHOWN, word(node)), None
+    if answer.flag():
+        answer.word_among(AUTHENTICATOR, AUTHENTICATOR)
+        claim = read_authenticator(answer)
+    answer.end()
+    return claim
+
+
+def case_of(caller: Caller, node: int) -> bytes | int | None:
+    """The file of evidence that a witness has against a node, or how long it is where it isn't sent."""
+    answer = caller.ask(CASE, word(node))
+    kind = answer.word_among(0, 2)
+    case = None if kind == 0 else answer.opaque(MAX_CASE) if kind == 1 else answer.hyper()
+    answer.end()
+    return case

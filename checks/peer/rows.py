@@ -4,17 +4,19 @@ import socket
 
 from verifier.xdr import hyper, opaque, word
 
-from .wire import (ACKNOWLEDGE, DELIVER, GREET, MAX_FRAGMENTS, MOST, NODE, NULL, SEGMENT, SIGNED, TOLD, WANTED, WITNESS,
-                   Address, Broken, RecordReader, call_text, record)
+from .wire import (ACKNOWLEDGE, CASE, DELIVER, GREET, MAX_FRAGMENTS, MOST, NODE, NULL, SEGMENT, SHOWN, SIGNED, STANDS,
+                   TOLD, WANTED, WITNESS, Address, Broken, RecordReader, call_text, record)
 
 XID = 5
 PATIENCE = 20
-UNSERVED = {NODE: 6, WITNESS: 5}
+UNSERVED = {NODE: 7, WITNESS: 7}
 LAST = 1 << 31
 ANSWER = word(XID, 1)
 DONE = ANSWER + word(0, 0, 0, 0)
 UNKNOWN_PROCEDURE = ANSWER + word(0, 0, 0, 3)
 GARBAGE_ARGS = ANSWER + word(0, 0, 0, 4)
+# The text of a signature by leaf 0 of a tree without a path, which nobody made.
+NO_SIGNATURE = word(0) + bytes(2 * 8192) + word(0)
 
 # What is sent, and the answer, or None where the connection is closed.
 Row = tuple[bytes, bytes | None]
@@ -54,13 +56,22 @@ def judged(program: int, roster_digest: bytes) -> list[Row]:
     ]
 
 
+def unsigned(node: int, number: int, at: bytes = bytes(32)) -> bytes:
+    """The packet of an authenticator that nobody signed."""
+    return word(1, node) + hyper(number) + at + NO_SIGNATURE
+
+
 def of_node() -> list[Row]:
-    """Calls of a node whose log is empty."""
+    """Calls of a node whose log is empty, and whose number is 1."""
     rows = [
         (DELIVER, word(1), GARBAGE_ARGS), (DELIVER, word(2, 9), DONE + word(1)), (ACKNOWLEDGE, word(2), GARBAGE_ARGS),
         (ACKNOWLEDGE, word(4), DONE + word(1)), (SIGNED, hyper(0), DONE + word(0)),
         (SIGNED, hyper(2**64 - 1), DONE + word(0)), (SIGNED, word(0), GARBAGE_ARGS),
         (DELIVER, word(2) + bytes(MOST - 44), DONE + word(1)),
+        (STANDS, word(1), GARBAGE_ARGS), (STANDS, word(2) + unsigned(1, 0)[4:], GARBAGE_ARGS),
+        (STANDS, unsigned(1, 0) + word(0), GARBAGE_ARGS), (STANDS, unsigned(1, 2**64 - 1), GARBAGE_ARGS),
+        (STANDS, unsigned(1, 0), DONE + word(0)), (STANDS, unsigned(2, 0), DONE + word(1)),
+        (STANDS, unsigned(1, 1), DONE + word(1)), (STANDS, unsigned(1, 0, b'\1' + bytes(31)), DONE + word(1)),
     ]
     return [(call(NODE, procedure, arguments), owed) for procedure, arguments, owed in rows]
 
@@ -77,7 +88,9 @@ def of_witness() -> list[Row]:
     rows = [
         (DELIVER, b'', DONE + word(18)), (DELIVER, word(6), DONE + word(18)), (WANTED, word(1), DONE + word(0, 0)),
         (WANTED, word(9), DONE + word(0, 0)), (TOLD, word(1), DONE + word(1, 0) + bytes(16)),
-        (TOLD, word(9), DONE + bytes(24)), (TOLD, b'', GARBAGE_ARGS),
+        (TOLD, word(9), DONE + bytes(24)), (TOLD, b'', GARBAGE_ARGS), (SHOWN, word(1), DONE + word(0)),
+        (SHOWN, word(9), DONE + word(0)), (SHOWN, b'', GARBAGE_ARGS), (CASE, word(1), DONE + word(0)),
+        (CASE, word(9), DONE + word(0)), (CASE, word(1, 1), GARBAGE_ARGS),
     ]
     long = [(call(WITNESS, DELIVER, word(kind, node) + bytes(MOST)), None) for kind, node in [(3, 1), (5, 9), (1, 1)]]
     return [(call(WITNESS, procedure, arguments), owed) for procedure, arguments, owed in rows] + long

@@ -7,6 +7,7 @@ usage: checks/peer/selftest.py [NAME..]
 
 import sys
 import time
+from dataclasses import replace
 from pathlib import Path
 
 sys.dont_write_bytecode = True
@@ -14,7 +15,7 @@ sys.path.insert(0, str(Path(__file__).resolve().parents[1]))
 from generator.texts import authenticator_text  # noqa: E402
 from peer import rows  # noqa: E402
 from peer.gateway import (CallFailed, CallRefused, Gateway, NoAnswer, OtherCall, OtherRoster, Told, ask,  # noqa: E402
-                          handed)
+                          case_of, handed, last_shown, stands)
 from peer.keys import Keys, master_of_epoch, member_line  # noqa: E402
 from peer.lies import (Fork, HidesLog, NoReply, OldReply, OtherAck, OtherMember, ReceivesTwice, Silent,  # noqa: E402
                        Swapped, UnaskedReply, UnsignedAck, UnsignedReply, WrongReply, WrongXid)
@@ -199,6 +200,25 @@ def check_again():
     print('what comes again')
 
 
+def check_stands():
+    """The pairs that a log has, and those that it hasn't: of a log without gaps, and of one with some."""
+    for log in LOG_1, LOG_2:
+        cast = Cast(log=log)
+        server = Server(cast.server, cast.roster)
+        server.node.to_skip = 2 if log == LOG_2 else 0
+        cast.gateway(2, server).exchange(LOOKUP)
+        signed = server.node.signed[3]
+        caller = Caller(server.address, NODE)
+        assert stands(caller, signed) and stands(caller, server.node.signed[1])
+        assert stands(caller, replace(signed, signature=server.node.signed[1].signature)), 'whoever signed it'
+        others = [replace(signed, hash=bytes(32)), replace(signed, node=2), replace(signed, word=signed.word + 1),
+                  cast.clients[2].sign(1, bytes(32))]
+        assert not any(stands(caller, other) for other in others)
+        caller.close()
+        close(server)
+    print('pairs that stand in a log')
+
+
 def check_keys_used_up():
     cast = Cast(height=1)
     server = Server(cast.server, cast.roster)
@@ -375,6 +395,28 @@ def check_fork():
     print('a fork between two gateways: one witness finds it')
 
 
+def check_fork_at_two_witnesses():
+    """Each witness is shown one half, and they meet: each has a file of it. One that was shown nothing has none."""
+    cast = Cast()
+    server, witnesses = Fork(cast.server, cast.roster, apart={3}), [Witness(cast.roster) for _ in range(3)]
+    for node, witness in zip((2, 3), witnesses):
+        gateway = cast.gateway(node, server)
+        gateway.exchange(LOOKUP)
+        gateway.finish()
+        assert gateway.report(witness.address).indication == 'trusted'
+    callers = [Caller(witness.address, WITNESS) for witness in witnesses]
+    shown = [last_shown(caller, 1) for caller in callers]
+    assert shown[0].word == shown[1].word and shown[0].hash != shown[1].hash and shown[2] is None
+    assert last_shown(callers[0], 2).node == 2 and last_shown(callers[0], 3) is None
+    witnesses[0].meet(witnesses[1].address)
+    witnesses[1].meet(witnesses[0].address)
+    for caller, witness in zip(callers, witnesses[:2]):
+        assert caught(witness) is None and case_of(caller, 1) == witness.evidence(1)
+    assert [case_of(callers[0], 2), case_of(callers[2], 1)] == [None, None]
+    close(server, *callers, *witnesses)
+    print('a fork between two witnesses: both find it once they meet')
+
+
 def check_fork_after_audit():
     """The one half was audited, and the other comes after it."""
     cast = Cast()
@@ -423,10 +465,10 @@ def check_secrets():
     print('lines of members')
 
 
-CHECKS = [check_example, check_calls, check_bounds, check_honest, check_gaps, check_again, check_keys_used_up,
-          check_signed_lies, check_shown_lies, check_old_reply, check_open_message, check_other_member, check_swapped,
-          check_silent, check_hidden_log,
-          check_fork, check_fork_after_audit, check_twice, check_fork_of_a_client, check_secrets]
+CHECKS = [check_example, check_calls, check_bounds, check_honest, check_gaps, check_again, check_stands,
+          check_keys_used_up, check_signed_lies, check_shown_lies, check_old_reply, check_open_message,
+          check_other_member, check_swapped, check_silent, check_hidden_log, check_fork, check_fork_at_two_witnesses,
+          check_fork_after_audit, check_twice, check_fork_of_a_client, check_secrets]
 
 
 def main():

@@ -4,28 +4,25 @@ import threading
 import time
 
 from generator.texts import authenticator_text
-from verifier.keys import Roster, digest, roster_text
+from verifier.keys import Roster, digest, read_authenticator, roster_text
 from verifier.nfs import Time
 from verifier.packets import ACKNOWLEDGEMENT, AUTHENTICATOR, ENVELOPE
 from verifier.xdr import Reader, word
 
 from .keys import Keys
 from .node import Node, NoSegment, Refused, TooLong
-from .texts import Envelope, text_of_packet
-from .wire import (ACKNOWLEDGE, DELIVER, GREET, NODE, NULL, SEGMENT, SIGNED, Listener, Procedure, greeting,
-                   no_arguments)
+from .texts import Envelope, text_of_packet, whole
+from .wire import (ACKNOWLEDGE, DELIVER, GREET, NODE, NULL, SEGMENT, SIGNED, STANDS, Listener, Procedure, greeting,
+                   no_arguments, optional_packet)
 
 LOGGED, ALREADY = 0, 10
 OUT_OF_RANGE, TOO_LONG = 1, 2
+STANDING, NOT_STANDING = 0, 1
 
 
 def system_time() -> Time:
     now = time.time_ns() // 1000
     return now // 1000000, now % 1000000
-
-
-def optional_packet(kind: int, text: bytes | None) -> bytes:
-    return word(0) if text is None else word(1, kind) + text
 
 
 class Server:
@@ -45,7 +42,7 @@ class Server:
 
     def procedures(self) -> dict[int, Procedure]:
         return {NULL: no_arguments, GREET: greeting(self.roster_digest), DELIVER: self.deliver,
-                ACKNOWLEDGE: self.acknowledge, SIGNED: self.signed, SEGMENT: self.segment}
+                ACKNOWLEDGE: self.acknowledge, SIGNED: self.signed, SEGMENT: self.segment, STANDS: self.stands}
 
     def close(self):
         self.listener.close()
@@ -101,6 +98,11 @@ class Server:
         reader.end()
         with self.lock:
             return segment_answer(self.node, first, last)
+
+    def stands(self, arguments: bytes) -> bytes:
+        claim = whole(read_authenticator, text_of_packet(arguments, AUTHENTICATOR))
+        with self.lock:
+            return word(STANDING if self.node.has_pair(claim) else NOT_STANDING)
 
 
 def received(ack: bytes, reply: bytes | None) -> bytes:

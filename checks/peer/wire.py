@@ -12,8 +12,8 @@ from verifier.xdr import Reader, Undecodable, word
 NODE, WITNESS = 0x2acc0001, 0x2acc0002
 VERSION = 1
 NULL, GREET, DELIVER = 0, 1, 2
-ACKNOWLEDGE, SIGNED, SEGMENT = 3, 4, 5
-WANTED, TOLD = 3, 4
+ACKNOWLEDGE, SIGNED, SEGMENT, STANDS = 3, 4, 5, 6
+WANTED, TOLD, SHOWN, CASE = 3, 4, 5, 6
 
 MAX_FRAGMENTS = 16384
 LAST_FRAGMENT = 0x80000000
@@ -22,9 +22,10 @@ FRONT = 48
 MOST = 29288
 MOST_WITH_SEGMENT = 119833232
 ANSWERS = {
-    NODE: {NULL: 24, GREET: 60, DELIVER: 46340, ACKNOWLEDGE: 28, SIGNED: 16980, SEGMENT: 119833220},
-    WITNESS: {NULL: 24, GREET: 60, DELIVER: 28, WANTED: 468016, TOLD: 48},
+    NODE: {NULL: 24, GREET: 60, DELIVER: 46340, ACKNOWLEDGE: 28, SIGNED: 16980, SEGMENT: 119833220, STANDS: 28},
+    WITNESS: {NULL: 24, GREET: 60, DELIVER: 28, WANTED: 468016, TOLD: 48, SHOWN: 16980, CASE: 4194336},
 }
+MAX_CASE = 4194304
 PATIENCE = 20
 
 Address = tuple[str, int]
@@ -257,6 +258,10 @@ def greet(caller: Caller, digest: bytes, node: int) -> bytes | None:
     other = answer.fixed(32) if answer.word_among(0, 1) else None
     answer.end()
     return other
+
+
+def optional_packet(kind: int, text: bytes | None) -> bytes:
+    return word(0) if text is None else word(1, kind) + text
 
 
 def greeting(digest: bytes) -> Procedure:

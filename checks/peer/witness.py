@@ -2,21 +2,23 @@
 
 import threading
 
-from generator.texts import evidence_text
+from generator.texts import authenticator_text, evidence_text
 from verifier.evidence import read_segment
 from verifier.keys import Roster, digest, read_authenticator, roster_text
 from verifier.packets import (ACKNOWLEDGEMENT, AUTHENTICATOR, ENVELOPE, MAX_SEGMENT, SEGMENT, SEGMENT_2, refusal)
 from verifier.words import LOG_1, LOG_2
-from verifier.xdr import Reader, Undecodable, array, hyper, word
+from verifier.xdr import Reader, Undecodable, array, hyper, opaque, word
 
 from .books import NOT_ASKED, Book
-from .gateway import OtherRoster, greet_or_fail, read_delivered
+from .gateway import OtherRoster, greet_or_fail, last_shown, read_delivered
 from .texts import read_acknowledgement, read_envelope, whole
-from .wire import (DELIVER, GREET, MOST, MOST_WITH_SEGMENT, NODE, NULL, SIGNED, TOLD, WANTED, WITNESS, Address, Broken,
-                   Caller, Listener, Unserved, call_text, greeting, no_arguments)
+from .wire import (CASE, DELIVER, GREET, MAX_CASE, MOST, MOST_WITH_SEGMENT, NODE, NULL, SHOWN, SIGNED, TOLD, WANTED,
+                   WITNESS, Address, Broken, Caller, Listener, Unserved, call_text, greeting, no_arguments,
+                   optional_packet)
 from .wire import SEGMENT as ASK_SEGMENT
 
 REFUSED = 16
+NO_CASE, HERE, TOO_LARGE = 0, 1, 2
 LOGS = {SEGMENT: LOG_1, SEGMENT_2: LOG_2}
 
 
@@ -28,7 +30,7 @@ class Witness:
         self.lock = threading.Lock()
         self.books = {node: Book(member, roster) for node, member in roster.items()}
         procedures = {NULL: no_arguments, GREET: greeting(digest(roster_text(roster))), DELIVER: self.deliver,
-                      WANTED: self.wanted, TOLD: self.told}
+                      WANTED: self.wanted, TOLD: self.told, SHOWN: self.last_shown, CASE: self.case}
         self.listener = Listener(WITNESS, procedures, self.longer)
         self.address = self.listener.address
 
@@ -57,7 +59,7 @@ class Witness:
         kind, text = int.from_bytes(packet[:4], 'big'), packet[4:]
         if kind == AUTHENTICATOR:
             claim = whole(read_authenticator, text)
-            return self.books[claim.node].learn(claim)
+            return self.books[claim.node].show_last(claim)
         if kind == ENVELOPE:
             envelope = whole(read_envelope, text)
             return self.books[envelope.to].challenge(envelope)
@@ -89,6 +91,20 @@ class Witness:
             indication, count, end, seconds = self.books[node].told() if node in self.books else (0, 0, 0, 0)
         return word(indication, count) + hyper(end) + hyper(seconds)
 
+    def last_shown(self, arguments: bytes) -> bytes:
+        node = one_word(arguments)
+        with self.lock:
+            claim = self.books[node].last_shown if node in self.books else None
+        return optional_packet(AUTHENTICATOR, None if claim is None else authenticator_text(claim))
+
+    def case(self, arguments: bytes) -> bytes:
+        node = one_word(arguments)
+        with self.lock:
+            file = self.evidence(node) if node in self.books else None
+        if file is None:
+            return word(NO_CASE)
+        return word(HERE) + opaque(file) if len(file) <= MAX_CASE else word(TOO_LARGE) + hyper(len(file))
+
     # ---- what it does by itself
 
     def round(self, servers: dict[int, Address]) -> dict[int, str]:
@@ -113,6 +129,18 @@ class Witness:
             while self.learn_last(caller, node) and self.take_part(caller, node):
                 pass
             self.ask_messages(caller, node)
+        finally:
+            caller.close()
+
+    def meet(self, other: Address):
+        """Takes what another witness was shown last of each node."""
+        caller = Caller(other, WITNESS)
+        try:
+            greet_or_fail(caller, self.roster, 0)
+            for node in self.books:
+                claim = last_shown(caller, node)
+                if claim is not None:
+                    self.deliver(word(AUTHENTICATOR) + authenticator_text(claim))
         finally:
             caller.close()
 

@@ -9,10 +9,8 @@ use merkle_keys::Signer;
 use secure_log::{Log, check_segment};
 use std::alloc::Global;
 use std::sync::Arc;
-use witness_service::{
-    Back, Books, Event, EventOf, Indication, JobVerdict, Question, Refusal, ReplayDone, ReplayJob,
-    Reply, ReplyOf, SharedSegment,
-};
+use witness_books::{Back, JobVerdict, ReplayDone, ReplayJob, SharedSegment};
+use witness_service::{Books, Event, EventOf, Indication, Question, Refusal, Reply, ReplyOf};
 
 /// What a reply says; of a list how many there are, of evidence whether there is some.
 #[derive(Clone, Copy)]

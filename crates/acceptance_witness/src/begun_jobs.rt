@@ -3,7 +3,8 @@
 use crate::answers::end;
 use crate::members::{Shown, books_of, delivered, roster, shown_by};
 use std::alloc::Global;
-use witness_service::{Books, Event, EventOf, ReplayJob, ReplyOf};
+use witness_books::ReplayJob;
+use witness_service::{Books, Event, EventOf, ReplyOf};
 
 /// Hands over bytes.
 fn hand(alloc: Global, books: &mut Books, bytes: &[u8]) {

@@ -17,7 +17,8 @@ use secure_log::Log;
 use secure_log::log_entries::Body;
 use std::alloc::Global;
 use std::sync::Arc;
-use witness_service::{Books, EventOf, Indication, Refusal, ReplayDone};
+use witness_books::ReplayDone;
+use witness_service::{Books, EventOf, Indication, Refusal};
 
 /// Whether the client is exposed.
 fn is_exposed(alloc: Global, books: &mut Books) -> bool {

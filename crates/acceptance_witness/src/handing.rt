@@ -6,7 +6,7 @@ ghost use Rattle.replay_pool.specs.hand_off.Seats.{AreRetired, idle_at, none_at,
 use crate::begun_jobs::{jobs_of, spend_jobs};
 use replay_pool::{HandOff, PosterSeat, WorkerSeat};
 use std::alloc::Global;
-use witness_service::{Back, ReplayJob};
+use witness_books::{Back, ReplayJob};
 
 /// What came back.
 #[derive(Clone, Copy, PartialEq, Eq)]

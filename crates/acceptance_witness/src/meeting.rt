@@ -9,7 +9,7 @@ use std::alloc::Global;
 use std::sync::Wait;
 use std::sync::atomic::{AtomicU64, Ordering};
 use std::thread::{Threads, yield_now};
-use witness_service::Back;
+use witness_books::Back;
 
 /// How often a worker looks whether the others came.
 const TURNS: u64 = 1_000_000;

@@ -9,7 +9,8 @@ use crate::members::{OWN_STEPS, Way, books_of, delivered, own};
 use crate::running::{answers_of_run, hand, is_at, noted};
 use std::alloc::Global;
 use std::ops::Range;
-use witness_service::{Books, Event, EventOf, Indication, Note, Refusal, ReplayDone};
+use witness_books::ReplayDone;
+use witness_service::{Books, Event, EventOf, Indication, Note, Refusal};
 
 /// What node 5's own steps are answered, in order.
 const OWED: [Answer; OWN_STEPS] = [

@@ -6,7 +6,8 @@ use crate::members::{Parties, new_parties, pair_books};
 use authenticator::{Authenticator, LogVersion};
 use secure_log::Log;
 use std::alloc::Global;
-use witness_service::{Books, EventOf, Refusal, ReplayDone, ReplyOf};
+use witness_books::ReplayDone;
+use witness_service::{Books, EventOf, Refusal, ReplyOf};
 
 /// Whether the first job is put back, and another can't begin before.
 fn puts_back(alloc: Global, books: &mut Books) -> bool {

@@ -13,8 +13,9 @@ use authenticator::Roster;
 use std::alloc::Global;
 use std::sync::Wait;
 use std::thread::{Threads, join};
+use witness_books::Back;
 use witness_service::{
-    Back, Books, Closed, EventOf, Indication, Note, Pass, Question, ReceiptFault, Refusal, Reply,
+    Books, Closed, EventOf, Indication, Note, Pass, Question, ReceiptFault, Refusal, Reply,
     ReplyOf, WitnessService,
 };
 

@@ -8,7 +8,7 @@ use Rattle.std.proofs.lemmas.List.Elements.{All-more, All-weaker}
 use Rattle.std.specs.Arc.{arc_value}
 use Rattle.std.specs.Prelude.{OnOk, OnErr, All, Contains, IfSome}
 use Rattle.authenticator.specs.declared.member.Member.{Member}
-use Rattle.challenge.specs.evidence_showings.evidence_spec.Evidence.{EvidenceParts}
+use Rattle.witness_reports.specs.node_book.evidence_spec.Evidence.{EvidenceParts}
 use Rattle.witness_calls.specs.Shelves.{Files, KeepsPut, Puts, WasPut}
 use Rattle.witness_reports.specs.declared.report.NodeReport.{NodeReport}
 use Rattle.auditing.specs.AuditOutputs.{AuditOutputParts, Goes, IsShown, WasEvidencePut, evidence_name}

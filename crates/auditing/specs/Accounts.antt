@@ -2,9 +2,9 @@
 use Rattle.std.specs.Prelude.{◌≡◌, ◌⊎◌, ℕ, true, List, None, IsSome, Contains}
 use Rattle.commitment.specs.Senders.LookUps.{IsLastSigned}
 use Rattle.commitment.specs.Senders.Sender.{SenderParts, signed_at}
-use Rattle.node_book.specs.declared.reply.Indication.TheVariants.{Trusted}
-use Rattle.node_book.specs.witness_spec.Events.{Event}
-use Rattle.node_book.specs.witness_spec.Replies.{Reply}
+use Rattle.witness_reports.specs.node_book.declared.reply.Indication.TheVariants.{Trusted}
+use Rattle.witness_reports.specs.node_book.witness_spec.Events.{Event}
+use Rattle.witness_reports.specs.node_book.witness_spec.Replies.{Reply}
 use Rattle.node_logs.specs.Nodes.{sender_of}
 use Rattle.node_logs.specs.Steps.Nodes.{NodeParts}
 use Rattle.witness_reports.specs.Audits.{was_filed_to, was_refused}

@@ -4,8 +4,8 @@ use Rattle.std.specs.Arc.{arc_value}
 use Rattle.xdr.specs.Item.{spelling}
 use Rattle.authenticator.specs.Roster.{roster_value}
 use Rattle.authenticator.specs.declared.member.Member.{Member}
-use Rattle.challenge.specs.Cases.{case_item}
-use Rattle.challenge.specs.evidence_showings.evidence_spec.Evidence.{EvidenceParts, evidence_value}
+use Rattle.witness_reports.specs.node_book.challenge.Cases.{case_item}
+use Rattle.witness_reports.specs.node_book.evidence_spec.Evidence.{EvidenceParts, evidence_value}
 use Rattle.witness_calls.specs.Shelves.{Files, WasPut, KeepsPut}
 use Rattle.witness_reports.specs.declared.report.NodeReport.{NodeReport}
 use Rattle.auditing.specs.declared.trouble.Trouble.{Trouble}

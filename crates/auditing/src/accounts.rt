@@ -1,14 +1,13 @@
 //! Whether a journal accounts for a node's log.
 
 ghost use Rattle.std.specs.Prelude.{◌≡◌, ◌⊎◌, true, IsTrue};
-ghost use Rattle.node_book.specs.declared.reply.Indication.TheVariants.{Trusted};
+ghost use Rattle.witness_reports.specs.node_book.declared.reply.Indication.TheVariants.{Trusted};
 ghost use Rattle.node_logs.specs.Nodes.{sender_of};
 ghost use Rattle.witness_reports.specs.Audits.{was_filed_to, was_refused};
 ghost use Rattle.auditing.specs.Accounts.{HasAccount, IsAccounted, IsAudited, IsEndOfSigned};
 
 use nodes::NodeLog;
-use witness_reports::{NodeReport, was_filed_to, was_refused};
-use witness_service::{Indication, Note};
+use witness_reports::{Indication, NodeReport, Note, was_filed_to, was_refused};
 
 /// Whether there is a report of a node, and its log is accounted for: a node that is called trusted was
 /// audited to its last signed entry, or its audit was refused.

@@ -7,8 +7,8 @@ use Rattle.xdr.specs.Item.{Item, Value, array, spelling, number_spelling}
 use Rattle.xdr.specs.Writing.{Adds}
 use Rattle.nfs_items.specs.Timeval.{Timeval, timeval, timeval_value}
 use Rattle.mount_types.specs.Mounts.{max_mounts}
-use Rattle.fs_spec.specs.Maxima.{max_files}
-use Rattle.fs_spec.specs.Files.{File}
+use Rattle.nfs_laws.specs.fs_spec.Maxima.{max_files}
+use Rattle.nfs_laws.specs.fs_spec.Files.{File}
 use Rattle.state_spec.specs.Limits.{max_received, max_sends}
 use Rattle.state_spec.specs.State.{Machine, Server, Client, clock_in, State}
 use Rattle.state_spec.specs.StateItems.{received_item, received_value, sent_item, sent_value, stage_item}

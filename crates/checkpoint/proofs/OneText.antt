@@ -2,7 +2,7 @@
 -- Serves: read_state.
 use Rattle.std.proofs.Common.{◌≡◌, ℕ, List, Some, sym, ◌∙◌}
 use Rattle.xdr.specs.Texts.Text.{text_at}
-use Rattle.fs_spec.proofs.Walks.{none_some, some_same}
+use Rattle.nfs_laws.proofs.fs_spec.Walks.{none_some, some_same}
 use Rattle.state_spec.specs.State.{State}
 use Rattle.state_spec.specs.StateText.{Said, spelled_text, IsStateText, IsGarbage}
 use Rattle.state_spec.specs.Rules.{KeepsRules}

@@ -9,9 +9,9 @@ use Rattle.std.specs.FinMap as finite
 use Rattle.std.proofs.lemmas.Map.Keys.{below_from_sorted}
 use Rattle.xdr.specs.Item.{Value, Fits}
 use Rattle.nfs_items.specs.Timeval.{Timeval}
-use Rattle.fs_spec.specs.Files.{File}
-use Rattle.fs_spec.specs.Trees.{IsTime, IsFileTree}
-use Rattle.fs_spec.specs.Changes.Limits.{has_room}
+use Rattle.nfs_laws.specs.fs_spec.Files.{File}
+use Rattle.nfs_laws.specs.fs_spec.Trees.{IsTime, IsFileTree}
+use Rattle.nfs_laws.specs.fs_spec.Changes.Limits.{has_room}
 use Rattle.file_tree.specs.tree_rules.FileRules.Rules.{AreRising, numbers_of}
 use Rattle.file_tree.proofs.tree_rules.OfFileRules.Listed.{in_order, entries_listed}
 use Rattle.state_spec.specs.server_spec.World.{World}

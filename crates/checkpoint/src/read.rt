@@ -2,7 +2,7 @@
 
 ghost use Rattle.std.specs.Prelude.{◌≡◌, IfOk, IfErr, MatchOption, MatchResult};
 ghost use Rattle.xdr.specs.Item.{Fits};
-ghost use Rattle.fs_spec.specs.Trees.{IsTime};
+ghost use Rattle.nfs_laws.specs.fs_spec.Trees.{IsTime};
 ghost use Rattle.state_spec.specs.server_spec.FileItems.{file_item};
 ghost use Rattle.state_machine.specs.file_texts.Parts.{time_of};
 ghost use Rattle.state_spec.specs.State as spec;

@@ -1,7 +1,7 @@
 //! Digests of files that are kept from one digest of a state to the next.
 
 ghost use Rattle.std.specs.Prelude.{◌≡◌, ◌≤◌, [], IfOk, OnOk, length};
-ghost use Rattle.fs_spec.specs.Maxima.{max_files};
+ghost use Rattle.nfs_laws.specs.fs_spec.Maxima.{max_files};
 
 use state_machine::State;
 use std::alloc::{AllocError, Global};

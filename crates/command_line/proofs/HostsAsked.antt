@@ -3,8 +3,8 @@ use Rattle.std.proofs.Common.{◌≡◌, ◌∙◌, true, List, [], Option, Some
 use Rattle.clap.specs.Walk.{Row, Text, first_of}
 use Rattle.clap.specs.Simple.{subcommand_of}
 use Rattle.clap.specs.Faults.{fault_of}
-use Rattle.command_line.specs.CommandLine.{Server, Gateway, Witness, Ask, Stop, asked_in, commands, is_set}
-use Rattle.command_line.specs.CommandLine.{is_told}
+use Rattle.command_line.specs.CommandLine.{Server, Gateway, Witness, Ask, Stop, Status, asked_in, commands}
+use Rattle.command_line.specs.CommandLine.{is_set, is_told}
 use Rattle.command_line.specs.Hosts.{ServerAsked, server_asked, GatewayAsked, gateway_asked, WitnessAsked}
 use Rattle.command_line.specs.Hosts.{witness_asked, AskAsked, ask_asked}
 use Rattle.command_line.proofs.Asked.{are_plain, asked_is}
@@ -19,6 +19,7 @@ pub record IsServerAsked (rows : List Row) (a : ServerAsked) : Type 0 where
   pub listen : a.listen ≡ unwrap_or (first_of (codes "listen") rows) []
   pub audit : a.audit ≡ first_of (codes "audit") rows
   pub progress : is_told (codes "progress") rows ≡ true → a.progress ≡ is_set (codes "progress") rows
+  pub log_file : a.log_file ≡ first_of (codes "log-file") rows
 
 -- `server` asks for them
 pub server_is : (words : List Text) (rows : List Row) (a : ServerAsked) → fault_of commands words ≡ []
@@ -39,6 +40,7 @@ server_is words rows a none is asks =
       sym asks.listen,
       sym asks.audit,
       sym progress_is,
+      sym asks.log_file,
     ) refl
 
 -- the words are those that the matches of `gateway` hold
@@ -52,6 +54,8 @@ pub record IsGatewayAsked (rows : List Row) (a : GatewayAsked) : Type 0 where
   pub listen : a.listen ≡ first_of (codes "listen") rows
   pub every : a.every ≡ first_of (codes "every") rows
   pub reserve : a.reserve ≡ first_of (codes "reserve") rows
+  pub give_up : a.give_up ≡ first_of (codes "give-up") rows
+  pub log_file : a.log_file ≡ first_of (codes "log-file") rows
 
 -- `gateway` asks for them
 pub gateway_is : (words : List Text) (rows : List Row) (a : GatewayAsked) → fault_of commands words ≡ []
@@ -71,6 +75,8 @@ gateway_is words rows a none is asks =
       sym asks.listen,
       sym asks.every,
       sym asks.reserve,
+      sym asks.give_up,
+      sym asks.log_file,
     ) refl
 
 -- the words are those that the matches of `witness` hold
@@ -83,6 +89,7 @@ pub record IsWitnessAsked (rows : List Row) (a : WitnessAsked) : Type 0 where
   pub evidence : a.evidence ≡ first_of (codes "evidence") rows
   pub epoch : a.epoch ≡ first_of (codes "epoch") rows
   pub state : a.state ≡ first_of (codes "state") rows
+  pub log_file : a.log_file ≡ first_of (codes "log-file") rows
 
 -- `witness` asks for them
 pub witness_is : (words : List Text) (rows : List Row) (a : WitnessAsked) → fault_of commands words ≡ []
@@ -101,6 +108,7 @@ witness_is words rows a none is asks =
       sym asks.evidence,
       sym asks.epoch,
       sym asks.state,
+      sym asks.log_file,
     ) refl
 
 -- the words are those that the matches of `ask` hold
@@ -129,3 +137,10 @@ pub stop_is : (words : List Text) (rows : List Row) (name : Text) → fault_of c
     → name ≡ unwrap_or (first_of (codes "state") rows) [] → asked_in words ≡ Some (Stop name)
 stop_is words rows name none is name_is =
     asked_is words (codes "stop") rows none is ∙ ap (λ (f : Text). Some (Stop f)) (sym name_is)
+
+-- `status` asks for the name that its matches hold
+pub status_is : (words : List Text) (rows : List Row) (name : Text) → fault_of commands words ≡ []
+    → subcommand_of commands words ≡ Some (codes "status", rows)
+    → name ≡ unwrap_or (first_of (codes "state") rows) [] → asked_in words ≡ Some (Status name)
+status_is words rows name none is name_is =
+    asked_is words (codes "status") rows none is ∙ ap (λ (f : Text). Some (Status f)) (sym name_is)

@@ -14,7 +14,7 @@ use Rattle.clap.specs.declared.parser.matches.ArgMatches.{ArgMatches}
 use Rattle.command_line.specs.Hosts.{AskAsked, GatewayAsked, ServerAsked, WitnessAsked, ask_asked}
 use Rattle.command_line.specs.Hosts.{ask_command}
 use Rattle.command_line.specs.Hosts.{gateway_asked, gateway_command, server_asked, server_command}
-use Rattle.command_line.specs.Hosts.{stop_command}
+use Rattle.command_line.specs.Hosts.{status_command, stop_command}
 use Rattle.command_line.specs.Hosts.{witness_asked, witness_command}
 use Rattle.command_line.specs.Keys.{MemberAsked, RostersAsked, member_asked, member_command, rosters_asked}
 use Rattle.command_line.specs.Keys.{rosters_command, secret_command}
@@ -89,11 +89,12 @@ keys_commands =
     with_subcommand (with_subcommand (with_subcommand first_commands secret_command.top) member_command.top)
     rosters_command.top
 
--- and those of parties on hosts of their own: `server`, `gateway`, `witness`, `ask` and `stop`
+-- and those of parties on hosts of their own: `server`, `gateway`, `witness`, `ask`, `stop` and `status`
 abbrev pub commands : App
 commands =
-    with_subcommand (with_subcommand (with_subcommand (with_subcommand (with_subcommand keys_commands
-    server_command.top) gateway_command.top) witness_command.top) ask_command.top) stop_command.top
+    with_subcommand (with_subcommand (with_subcommand (with_subcommand (with_subcommand
+    (with_subcommand keys_commands server_command.top) gateway_command.top) witness_command.top)
+    ask_command.top) stop_command.top) status_command.top
 
 -- ---- what is asked for
 
@@ -137,6 +138,8 @@ pub data Asked : Type 0 where
   Ask : AskAsked → Asked
   -- an end of the process of the state folder of this name
   Stop : Text → Asked
+  -- what the process of the state folder of this name says of itself
+  Status : Text → Asked
 
 -- what a request asks for
 abbrev pub asked_by : Request → Asked
@@ -195,6 +198,7 @@ asked_by (requests.Server r) = Server (record {
   listen = r.listen.now;
   audit = option_map (λ s. s.now) r.audit;
   progress = r.progress;
+  log_file = option_map (λ s. s.now) r.log_file;
 })
 asked_by (requests.Gateway r) = Gateway (record {
   secret = r.secret.now;
@@ -206,6 +210,8 @@ asked_by (requests.Gateway r) = Gateway (record {
   listen = option_map (λ s. s.now) r.listen;
   every = option_map (λ s. s.now) r.every;
   reserve = option_map (λ s. s.now) r.reserve;
+  give_up = option_map (λ s. s.now) r.give_up;
+  log_file = option_map (λ s. s.now) r.log_file;
 })
 asked_by (requests.Witness r) = Witness (record {
   rosters = r.rosters.now;
@@ -216,6 +222,7 @@ asked_by (requests.Witness r) = Witness (record {
   evidence = option_map (λ s. s.now) r.evidence;
   epoch = option_map (λ s. s.now) r.epoch;
   state = option_map (λ s. s.now) r.state;
+  log_file = option_map (λ s. s.now) r.log_file;
 })
 asked_by (requests.Ask r) = Ask (record {
   rosters = option_map (λ s. s.now) r.rosters;
@@ -223,6 +230,7 @@ asked_by (requests.Ask r) = Ask (record {
   witness = r.witness.now;
 })
 asked_by (requests.Stop name) = Stop name.now
+asked_by (requests.Status name) = Status name.now
 
 -- what was found for the arguments of a subcommand
 abbrev pub rows_in : ArgMatches → List Row
@@ -293,6 +301,7 @@ asked_of (name, rows) =
     else if bytes_eq (codes "witness") name then Some (Witness (witness_asked rows))
     else if bytes_eq (codes "ask") name then Some (Ask (ask_asked rows))
     else if bytes_eq (codes "stop") name then Some (Stop (word_in (codes "state") rows))
+    else if bytes_eq (codes "status") name then Some (Status (word_in (codes "state") rows))
     else None
 
 -- the same, where the rules find no fault

@@ -2,7 +2,8 @@
 use Rattle.std.specs.Prelude.{◌≡◌, ◌==◌, true, false, List, [], ◌∷◌, Option, Some, None, codes}
 use Rattle.std.specs.List.{AllByRecursion, slice_split}
 use Rattle.clap.specs.Walk.{Text}
-use Rattle.command_line.specs.CommandLine.{Asked, Check, CheckAsked, Roster, Base, Rpc, Run, asked_in}
+use Rattle.command_line.specs.CommandLine.{Asked, Check, CheckAsked, Roster, Base, Rpc, Run, Status, Stop}
+use Rattle.command_line.specs.CommandLine.{asked_in}
 
 -- the words of a line, between its spaces (32)
 abbrev pub words_of : Text → List Text
@@ -65,6 +66,8 @@ lines =
     ∷ (codes "nfsacc run --base b f", run_from_b)
     ∷ (codes "nfsacc run f --roster-out g", run_to_g)
     ∷ (codes "nfsacc run --roster-out=g f", run_to_g)
+    ∷ (codes "nfsacc stop d", Some (Stop (codes "d")))
+    ∷ (codes "nfsacc status d", Some (Status (codes "d")))
     ∷ (codes "nfsacc", None)
     ∷ (codes "nfsacc rpc x", None)
     ∷ (codes "nfsacc check", None)
@@ -81,6 +84,8 @@ lines =
     ∷ (codes "nfsacc run", None)
     ∷ (codes "nfsacc run --roster-out", None)
     ∷ (codes "nfsacc run --roster-out f", None)
+    ∷ (codes "nfsacc status", None)
+    ∷ (codes "nfsacc status d e", None)
     ∷ []
 
 -- each line asks for what is said

@@ -40,6 +40,7 @@ pub record OrdersServer (r : ServerRequest) (o : ServerOrder) : Type 0 where
   pub listen : IsSocketText r.listen.now o.listen
   pub audit : SocketIf (option_map (λ s. s.now) r.audit) o.audit
   pub progress : o.progress ≡ r.progress
+  pub log_file : o.log_file ≡ r.log_file
 
 -- the order of `gateway`
 pub record OrdersGateway (r : GatewayRequest) (o : GatewayOrder) : Type 0 where
@@ -53,6 +54,8 @@ pub record OrdersGateway (r : GatewayRequest) (o : GatewayOrder) : Type 0 where
   pub own : HasLoopback o.listen
   pub every : WritesOr 1 86400 10 (option_map (λ s. s.now) r.every) o.every
   pub reserve : WritesOr 0 16384 0 (option_map (λ s. s.now) r.reserve) o.reserve
+  pub give_up : WritesIf 1 4294967295 (option_map (λ s. s.now) r.give_up) o.give_up
+  pub log_file : o.log_file ≡ r.log_file
 
 -- the order of `witness`
 pub record OrdersWitness (r : WitnessRequest) (o : WitnessOrder) : Type 0 where
@@ -64,6 +67,7 @@ pub record OrdersWitness (r : WitnessRequest) (o : WitnessOrder) : Type 0 where
   pub evidence : o.evidence ≡ r.evidence
   pub epoch : WritesIf 1 4294967295 (option_map (λ s. s.now) r.epoch) o.epoch
   pub state : o.state ≡ r.state
+  pub log_file : o.log_file ≡ r.log_file
 
 -- the order of `ask`
 pub record OrdersAsk (r : AskRequest) (o : AskOrder) : Type 0 where

@@ -1,4 +1,4 @@
--- What the words after `server`, `gateway`, `witness`, `ask` and `stop` ask for.
+-- What the words after `server`, `gateway`, `witness`, `ask`, `stop` and `status` ask for.
 use Rattle.std.specs.Prelude.{Bool, List, [], ◌∷◌, Option, codes, option_map, unwrap_or}
 use Rattle.clap.specs.Walk.{Row, Text, first_of}
 use Rattle.clap.specs.Simple.{App, new_app, with_rule}
@@ -8,14 +8,15 @@ use Rattle.command_line.specs.Serve.{word_option}
 -- `server`, with its arguments
 abbrev pub server_command : App
 server_command =
-    with_rule (with_rule (with_rule (with_rule (with_rule (with_rule (with_rule (new_app (codes "server"))
-    (needed_option (codes "secret")))
+    with_rule (with_rule (with_rule (with_rule (with_rule (with_rule (with_rule (with_rule (new_app
+    (codes "server")) (needed_option (codes "secret")))
     (needed_option (codes "rosters")))
     (needed_option (codes "state")))
     (needed_option (codes "node")))
     (needed_option (codes "listen")))
     (word_option (codes "audit")))
-    (flag_option (codes "progress"))
+    (flag_option (codes "progress")))
+    (word_option (codes "log-file"))
 
 -- what `server` is asked, word by word
 pub record ServerAsked : Type 0 where
@@ -26,6 +27,7 @@ pub record ServerAsked : Type 0 where
   pub listen : Text
   pub audit : Option Text
   pub progress : Bool
+  pub log_file : Option Text
 
 -- the same, by what was found for its arguments
 abbrev pub server_asked : List Row → ServerAsked
@@ -37,13 +39,14 @@ server_asked rows = record {
   listen = word_in (codes "listen") rows;
   audit = first_of (codes "audit") rows;
   progress = is_flag_set (codes "progress") rows;
+  log_file = first_of (codes "log-file") rows;
 }
 
 -- `gateway`, with its arguments
 abbrev pub gateway_command : App
 gateway_command =
     with_rule (with_rule (with_rule (with_rule (with_rule (with_rule (with_rule (with_rule (with_rule
-    (new_app (codes "gateway")) (needed_option (codes "secret")))
+    (with_rule (with_rule (new_app (codes "gateway")) (needed_option (codes "secret")))
     (needed_option (codes "nodes")))
     (needed_option (codes "server")))
     (needed_option (codes "rosters")))
@@ -51,7 +54,9 @@ gateway_command =
     (word_option (codes "witness")))
     (word_option (codes "listen")))
     (word_option (codes "every")))
-    (word_option (codes "reserve"))
+    (word_option (codes "reserve")))
+    (word_option (codes "give-up")))
+    (word_option (codes "log-file"))
 
 -- what `gateway` is asked, word by word
 pub record GatewayAsked : Type 0 where
@@ -64,6 +69,8 @@ pub record GatewayAsked : Type 0 where
   pub listen : Option Text
   pub every : Option Text
   pub reserve : Option Text
+  pub give_up : Option Text
+  pub log_file : Option Text
 
 -- the same, by what was found for its arguments
 abbrev pub gateway_asked : List Row → GatewayAsked
@@ -77,20 +84,23 @@ gateway_asked rows = record {
   listen = first_of (codes "listen") rows;
   every = first_of (codes "every") rows;
   reserve = first_of (codes "reserve") rows;
+  give_up = first_of (codes "give-up") rows;
+  log_file = first_of (codes "log-file") rows;
 }
 
 -- `witness`, with its arguments
 abbrev pub witness_command : App
 witness_command =
-    with_rule (with_rule (with_rule (with_rule (with_rule (with_rule (with_rule (with_rule (new_app
-    (codes "witness")) (needed_option (codes "rosters")))
+    with_rule (with_rule (with_rule (with_rule (with_rule (with_rule (with_rule (with_rule (with_rule
+    (new_app (codes "witness")) (needed_option (codes "rosters")))
     (needed_option (codes "at")))
     (needed_option (codes "listen")))
     (word_option (codes "every")))
     (word_option (codes "patience")))
     (word_option (codes "evidence")))
     (word_option (codes "epoch")))
-    (word_option (codes "state"))
+    (word_option (codes "state")))
+    (word_option (codes "log-file"))
 
 -- what `witness` is asked, word by word
 pub record WitnessAsked : Type 0 where
@@ -102,6 +112,7 @@ pub record WitnessAsked : Type 0 where
   pub evidence : Option Text
   pub epoch : Option Text
   pub state : Option Text
+  pub log_file : Option Text
 
 -- the same, by what was found for its arguments
 abbrev pub witness_asked : List Row → WitnessAsked
@@ -114,6 +125,7 @@ witness_asked rows = record {
   evidence = first_of (codes "evidence") rows;
   epoch = first_of (codes "epoch") rows;
   state = first_of (codes "state") rows;
+  log_file = first_of (codes "log-file") rows;
 }
 
 -- `ask`, with its arguments
@@ -142,6 +154,12 @@ abbrev pub stop_command : App
 stop_command =
     with_rule (new_app (codes "stop")) (word_argument (codes "state"))
 
+-- `status`, with its arguments
+abbrev pub status_command : App
+status_command =
+    with_rule (new_app (codes "status")) (word_argument (codes "state"))
+
 -- the names of these commands
 abbrev pub hosts_names : List Text
-hosts_names = codes "server" ∷ codes "gateway" ∷ codes "witness" ∷ codes "ask" ∷ codes "stop" ∷ []
+hosts_names =
+    codes "server" ∷ codes "gateway" ∷ codes "witness" ∷ codes "ask" ∷ codes "stop" ∷ codes "status" ∷ []

@@ -1,5 +1,6 @@
 -- The numbers in what `nfsacc member` is asked.
-use Rattle.std.specs.Prelude.{◌≡◌, ◌==◌, ◌≤◌, ◌<◌, ℕ, Option, Some, None, codes, length, option_map}
+use Rattle.std.specs.Prelude.{◌≡◌, ◌==◌, ◌≤◌, ◌<◌, ◌⊎◌, ℕ, Option, Some, None, codes, length}
+use Rattle.std.specs.Prelude.{option_map}
 use Rattle.std.specs.List.{after_first, before_first, position_or_len}
 use Rattle.std.specs.Str.Parse.{digits_value}
 use Rattle.clap.specs.Walk.{Text}
@@ -34,24 +35,33 @@ abbrev pub last_of_range : Text → Text
 last_of_range text = after_first (λ b. b == 45) text
 
 -- a text is two numbers from the one to the other with `-` between, the second no less than the first
-pub record IsRange (least most : ℕ) (text : Text) : Type 0 where
+pub record IsPair (least most : ℕ) (text : Text) : Type 0 where
   pub dash : position_or_len (λ b. b == 45) text < length text
   pub first : IsWithin least most (first_of_range text)
   pub last : IsWithin least most (last_of_range text)
   pub rising : digits_value 10 (first_of_range text) ≤ digits_value 10 (last_of_range text)
 
 -- which they are
-pub record WritesRange (least most : ℕ) (text : Text) (first last : ℕ) : Type 0 where
-  pub is : IsRange least most text
+pub record WritesPair (least most : ℕ) (text : Text) (first last : ℕ) : Type 0 where
+  pub is : IsPair least most text
   pub first_is : first ≡ digits_value 10 (first_of_range text)
   pub last_is : last ≡ digits_value 10 (last_of_range text)
+
+-- a text is one such number, or two
+abbrev pub IsRange : (least most : ℕ) → Text → Type 0
+IsRange least most text = IsWithin least most text ⊎ IsPair least most text
+
+-- a text is one number, the first and the last, or it is both
+abbrev pub WritesRange : (least most : ℕ) → Text → (first last : ℕ) → Type 0
+WritesRange least most text first last =
+    (Writes least most text first × (last ≡ first)) ⊎ WritesPair least most text first last
 
 -- the same of an option's word; where it isn't given the numbers are others
 abbrev pub WritesRangeOr : (least most a b : ℕ) → Option Text → (first last : ℕ) → Type 0
 WritesRangeOr least most a b None first last = (first ≡ a) × (last ≡ b)
 WritesRangeOr least most a b (Some text) first last = WritesRange least most text first last
 
--- an option is given, and its word isn't two such numbers
+-- an option is given, and its word isn't one such number or two
 abbrev pub IsNoRange : (least most : ℕ) → Option Text → Type 0
 IsNoRange least most None = ⊥
 IsNoRange least most (Some text) = ¬ (IsRange least most text)

@@ -1,13 +1,13 @@
 //! The numbers, the addresses and the lists in what a party on a host of its own is asked.
 
-ghost use Rattle.std.specs.Prelude.{◌≡◌, ◌≤◌, IfOk, IfSome, None, map, option_map, true};
+ghost use Rattle.std.specs.Prelude.{◌≡◌, ◌≤◌, IfErr, IfOk, IfSome, None, map, option_map, true};
 ghost use Rattle.std.specs.Net.Grammar.{IsSocketText};
 ghost use Rattle.command_line.specs.HostOrders.{HasLoopback, IsNoSocket, OrdersAsk, OrdersGateway};
 ghost use Rattle.command_line.specs.HostOrders.{OrdersServer};
 ghost use Rattle.command_line.specs.HostOrders.{OrdersWitness, SocketIf};
 ghost use Rattle.command_line.specs.MemberOrders.{WritesRangeOr};
 ghost use Rattle.command_line.specs.Lists.{ArePeers, items_of};
-ghost use Rattle.command_line.specs.ServeOrders.{WritesIf, WritesOr};
+ghost use Rattle.command_line.specs.ServeOrders.{IsNotWithin, WritesIf, WritesOr};
 
 use crate::hosts::{AskRequest, GatewayRequest, ServerRequest, WitnessRequest};
 use crate::lists::{ListFault, Peer, hosts_of, is_host, peer_of, peers_of};
@@ -35,6 +35,8 @@ pub struct ServerOrder<'a> {
     pub audit: Option<SocketAddr>,
     /// Whether it is told how far keys and audits are.
     pub progress: bool,
+    /// The name of the file that its lines go to as well, if one is named.
+    pub log_file: Option<&'a str>,
 }
 
 /// What `nfsacc gateway` is asked, with its numbers read.
@@ -60,6 +62,11 @@ pub struct GatewayOrder<'a> {
     pub every: u32,
     /// How many calls are kept for what is still to be received, up to 16,384.
     pub reserve: u32,
+    /// After how many seconds without a reply a call is given up, from 1 on; it waits for ever where none are
+    /// given.
+    pub give_up: Option<u32>,
+    /// The name of the file that its lines go to as well, if one is named.
+    pub log_file: Option<&'a str>,
 }
 
 /// What `nfsacc witness` is asked, with its numbers read.
@@ -81,6 +88,8 @@ pub struct WitnessOrder<'a> {
     pub epoch: Option<u32>,
     /// The name of the folder of the control socket, if one is named.
     pub state: Option<&'a str>,
+    /// The name of the file that its lines go to as well, if one is named.
+    pub log_file: Option<&'a str>,
 }
 
 /// What `nfsacc ask` is asked, with its numbers read.
@@ -102,9 +111,9 @@ pub enum HostRefusal {
     /// The node's number is no decimal number from 1 to 64.
     #[error("--node is a number from 1 to 64")]
     Node,
-    /// The numbers aren't two decimal numbers from 1 to 64 with `-` between, the second no less than the
-    /// first.
-    #[error("--nodes is A-B, numbers from 1 to 64")]
+    /// The numbers aren't one decimal number from 1 to 64, or two with `-` between, the second no less than
+    /// the first.
+    #[error("--nodes is N or A-B, numbers from 1 to 64")]
     Nodes,
     /// The address that is listened on is none.
     #[error("--listen is ADDRESS:PORT")]
@@ -130,6 +139,9 @@ pub enum HostRefusal {
     /// The calls are no decimal number from 0 to 16,384.
     #[error("--reserve is a number of calls from 0 to 16384")]
     Reserve,
+    /// The seconds after which a call is given up are no decimal number from 1 to 4,294,967,295.
+    #[error("--give-up is a number of seconds from 1 to 4294967295")]
+    GiveUp,
     /// The seconds are no decimal number from 0 to 86,400.
     #[error("--patience is a number of seconds from 0 to 86400")]
     Patience,
@@ -170,11 +182,13 @@ pub fn server_order<'a>(request: &ServerRequest<'a>) -> Result<ServerOrder<'a>, 
         listen,
         audit,
         progress: request.progress,
+        log_file: request.log_file,
     })
 }
 
 /// The order that a request makes. It is refused for the first of the numbers, the server, the witnesses, the
-/// address, the seconds and the calls that is none, and where others reach the address.
+/// address, the seconds between reports, the calls and the seconds of a call that is none, and where others
+/// reach the address.
 pub fn gateway_order<'a>(
     alloc: Global,
     request: &GatewayRequest<'a>,
@@ -188,6 +202,7 @@ pub fn gateway_order<'a>(
     let listen = loopback_of(request.listen)?;
     let every = seconds_of(request.every, 1, 10).ok_or(HostRefusal::Every)?;
     let reserve = calls_of(request.reserve).ok_or(HostRefusal::Reserve)?;
+    let give_up = number_if(request.give_up, HostRefusal::GiveUp)?;
     Ok(GatewayOrder {
         secret: request.secret,
         rosters: request.rosters,
@@ -199,6 +214,8 @@ pub fn gateway_order<'a>(
         listen,
         every,
         reserve,
+        give_up,
+        log_file: request.log_file,
     })
 }
 
@@ -214,7 +231,7 @@ pub fn witness_order<'a>(
     let listen = socket_of(request.listen).ok_or(HostRefusal::Listen)?;
     let every = seconds_of(request.every, 1, 10).ok_or(HostRefusal::Every)?;
     let patience = seconds_of(request.patience, 0, 60).ok_or(HostRefusal::Patience)?;
-    let epoch = epoch_of(request.epoch)?;
+    let epoch = number_if(request.epoch, HostRefusal::Epoch)?;
     Ok(WitnessOrder {
         rosters: request.rosters,
         servers,
@@ -224,6 +241,7 @@ pub fn witness_order<'a>(
         evidence: request.evidence,
         epoch,
         state: request.state,
+        log_file: request.log_file,
     })
 }
 
@@ -337,16 +355,18 @@ fn calls_of(word: Option<&str>) -> Option<u32>
     }
 }
 
-/// The epoch in an option's word, if it is given.
-fn epoch_of(word: Option<&str>) -> Result<Option<u32>, HostRefusal>
-    ensures { IfOk result (WritesIf 1 4294967295 (option_map (λ s. s.now) word.entry)) }
+/// The number from 1 on in an option's word, if it is given: this refusal where the word is none.
+fn number_if(word: Option<&str>, refusal: HostRefusal) -> Result<Option<u32>, HostRefusal>
+    ensures number { IfOk result (WritesIf 1 4294967295 (option_map (λ s. s.now) word.entry)) }
+    ensures refused { IfErr result (λ e.
+        (e ≡ refusal) × IsNotWithin 1 4294967295 (option_map (λ s. s.now) word.entry)) }
 {
     let Some(word) = word else {
         return Ok(None);
     };
     match number_within(word, 1, u32::MAX) {
-        Some(epoch) => Ok(Some(epoch)),
-        None => Err(HostRefusal::Epoch),
+        Some(number) => Ok(Some(number)),
+        None => Err(refusal),
     }
 }
 

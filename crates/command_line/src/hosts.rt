@@ -1,4 +1,4 @@
-//! What the words after `server`, `gateway`, `witness`, `ask` and `stop` ask for.
+//! What the words after `server`, `gateway`, `witness`, `ask`, `stop` and `status` ask for.
 
 ghost use Rattle.std.specs.Prelude.{◌≡◌, codes, List, ℕ, [], IfNone, IfOk, IfSome, Some, option_map, true};
 ghost use Rattle.std.specs.Prelude.{unwrap_or};
@@ -8,7 +8,7 @@ ghost use Rattle.clap.specs.Walk.{first_of};
 ghost use Rattle.clap.specs.Words.{app_of, subcommand_name_of, subcommand_of, subcommand_rows_of};
 ghost use Rattle.command_line.specs.CommandLine.{asked_by, asked_in, commands, is_set, is_told, rows_in};
 ghost use Rattle.command_line.specs.Hosts.{ask_command, gateway_command, hosts_names, server_command};
-ghost use Rattle.command_line.specs.Hosts.{stop_command, witness_command};
+ghost use Rattle.command_line.specs.Hosts.{status_command, stop_command, witness_command};
 
 use crate::request::{Request, flag, flag_of, text_of};
 use crate::serve::{needed_option, word_argument, word_of, word_option};
@@ -32,6 +32,8 @@ pub struct ServerRequest<'a> {
     pub audit: Option<&'a str>,
     /// Whether it is told how far keys and audits are.
     pub progress: bool,
+    /// The name of the file that its lines go to as well, if one is named.
+    pub log_file: Option<&'a str>,
 }
 
 /// What `nfsacc gateway` is asked, word by word.
@@ -39,7 +41,7 @@ pub struct ServerRequest<'a> {
 pub struct GatewayRequest<'a> {
     /// The name of the file with the secret bytes.
     pub secret: &'a str,
-    /// The user's first and last number.
+    /// The user's first and last number, or one alone.
     pub nodes: &'a str,
     /// The server's number, and where it listens.
     pub server: &'a str,
@@ -55,6 +57,10 @@ pub struct GatewayRequest<'a> {
     pub every: Option<&'a str>,
     /// How many calls are kept for what is still to be received, if that is given.
     pub reserve: Option<&'a str>,
+    /// After how long a call is given up, if that is given.
+    pub give_up: Option<&'a str>,
+    /// The name of the file that its lines go to as well, if one is named.
+    pub log_file: Option<&'a str>,
 }
 
 /// What `nfsacc witness` is asked, word by word.
@@ -76,6 +82,8 @@ pub struct WitnessRequest<'a> {
     pub epoch: Option<&'a str>,
     /// The name of the folder of the control socket, if one is named.
     pub state: Option<&'a str>,
+    /// The name of the file that its lines go to as well, if one is named.
+    pub log_file: Option<&'a str>,
 }
 
 /// What `nfsacc ask` is asked, word by word.
@@ -83,7 +91,7 @@ pub struct WitnessRequest<'a> {
 pub struct AskRequest<'a> {
     /// The name of the folder with the rosters, if one is named.
     pub rosters: Option<&'a str>,
-    /// The first and the last number that is asked for, if they are named.
+    /// The first and the last number that is asked for, or one alone, if they are named.
     pub nodes: Option<&'a str>,
     /// Where the witness listens.
     pub witness: &'a str,
@@ -107,7 +115,7 @@ const SERVER_PROGRESS_HELP: &str =
 const GATEWAY_SECRET_HELP: &str = "The party's file of 32 secret bytes";
 
 const GATEWAY_NODES_HELP: &str =
-    "The user's numbers, of which each start takes the next one, 1 to 64";
+    "The user's numbers, as 2-9 or one alone, 1 to 64; each start takes the next one";
 
 const GATEWAY_SERVER_HELP: &str = "The server's number, and where it listens";
 
@@ -126,6 +134,11 @@ const GATEWAY_EVERY_HELP: &str =
 
 const GATEWAY_RESERVE_HELP: &str =
     "How many calls are kept for what is still to be received, 0 to 16384; 0 where it isn't given";
+
+const GATEWAY_GIVE_UP_HELP: &str =
+    "After how long without a reply a call is given up, 1 to 4294967295; never where it isn't given";
+
+const LOG_FILE_HELP: &str = "Adds each line that it says to this file, too, with its time in front";
 
 const WITNESS_ROSTERS_HELP: &str = "The folder with the roster of each epoch";
 
@@ -150,11 +163,13 @@ const WITNESS_STATE_HELP: &str =
 const ASK_ROSTERS_HELP: &str = "The folder with the rosters, one of which the witness must have";
 
 const ASK_NODES_HELP: &str =
-    "The first and the last number that is asked for; all where none are named";
+    "The first and the last number that is asked for, as 1-9, or one alone; all where none are named";
 
 const ASK_WITNESS_HELP: &str = "Where the witness listens";
 
 const STOP_STATE_HELP: &str = "The folder of its control socket";
+
+const STATUS_STATE_HELP: &str = "The folder of its control socket";
 
 /// What the help of a party's process ends with.
 const STATUSES: &str =
@@ -165,6 +180,13 @@ side can't be accepted";
 const ASK_NOTES: &str =
     "Statuses: 0 all are trusted, 2 the command line, 3 no memory, 4 no connection, 6 another roster, 7 somebody is suspected, 8
 somebody is exposed";
+
+/// What the help of `status` ends with.
+const STATUS_NOTES: &str =
+    "Each line is a name, `:` and a value: the kind and the node, the epoch, keys left, calls, connections, the number of the
+log that was audited to, and the memory.
+
+Statuses: 0 done, 2 the command line, 3 no memory, 4 nobody answers";
 
 /// The subcommand `server`.
 pub(crate) fn server_command<'a>(alloc: Global) -> Result<Command<'a>, AllocError>
@@ -179,7 +201,8 @@ pub(crate) fn server_command<'a>(alloc: Global) -> Result<Command<'a>, AllocErro
         .arg(needed_option(alloc, "node", "N", SERVER_NODE_HELP))?
         .arg(needed_option(alloc, "listen", "ADDRESS:PORT", SERVER_LISTEN_HELP))?
         .arg(word_option(alloc, "audit", "ADDRESS:PORT", SERVER_AUDIT_HELP))?
-        .arg(flag(alloc, "progress", SERVER_PROGRESS_HELP))
+        .arg(flag(alloc, "progress", SERVER_PROGRESS_HELP))?
+        .arg(word_option(alloc, "log-file", "FILE", LOG_FILE_HELP))
 }
 
 /// The subcommand `gateway`.
@@ -197,7 +220,9 @@ pub(crate) fn gateway_command<'a>(alloc: Global) -> Result<Command<'a>, AllocErr
         .arg(word_option(alloc, "witness", "LIST", GATEWAY_WITNESS_HELP))?
         .arg(word_option(alloc, "listen", "ADDRESS:PORT", GATEWAY_LISTEN_HELP))?
         .arg(word_option(alloc, "every", "SECONDS", GATEWAY_EVERY_HELP))?
-        .arg(word_option(alloc, "reserve", "CALLS", GATEWAY_RESERVE_HELP))
+        .arg(word_option(alloc, "reserve", "CALLS", GATEWAY_RESERVE_HELP))?
+        .arg(word_option(alloc, "give-up", "SECONDS", GATEWAY_GIVE_UP_HELP))?
+        .arg(word_option(alloc, "log-file", "FILE", LOG_FILE_HELP))
 }
 
 /// The subcommand `witness`.
@@ -214,7 +239,8 @@ pub(crate) fn witness_command<'a>(alloc: Global) -> Result<Command<'a>, AllocErr
         .arg(word_option(alloc, "patience", "SECONDS", WITNESS_PATIENCE_HELP))?
         .arg(word_option(alloc, "evidence", "DIR", WITNESS_EVIDENCE_HELP))?
         .arg(word_option(alloc, "epoch", "E", WITNESS_EPOCH_HELP))?
-        .arg(word_option(alloc, "state", "DIR", WITNESS_STATE_HELP))
+        .arg(word_option(alloc, "state", "DIR", WITNESS_STATE_HELP))?
+        .arg(word_option(alloc, "log-file", "FILE", LOG_FILE_HELP))
 }
 
 /// The subcommand `ask`.
@@ -238,6 +264,16 @@ pub(crate) fn stop_command<'a>(alloc: Global) -> Result<Command<'a>, AllocError>
         .arg(word_argument(alloc, "state", "DIR", STOP_STATE_HELP))
 }
 
+/// The subcommand `status`.
+pub(crate) fn status_command<'a>(alloc: Global) -> Result<Command<'a>, AllocError>
+    ensures { IfOk result (λ c. app_of c ≡ status_command) }
+{
+    Command::new(alloc, "status")
+        .about("Says how the server, the gateway or the witness of a state folder is")
+        .after_help(STATUS_NOTES)
+        .arg(word_argument(alloc, "state", "DIR", STATUS_STATE_HELP))
+}
+
 /// What `server` is asked.
 fn server_request<'a>(matches: &ArgMatches<'a>) -> ServerRequest<'a>
     ensures secret { result.secret.now ≡ unwrap_or (first_of (codes "secret") (rows_in matches.now)) [] }
@@ -248,6 +284,8 @@ fn server_request<'a>(matches: &ArgMatches<'a>) -> ServerRequest<'a>
     ensures audit { option_map (λ s. s.now) result.audit ≡ first_of (codes "audit") (rows_in matches.now) }
     ensures progress { is_told (codes "progress") (rows_in matches.now) ≡ true
         → result.progress ≡ is_set (codes "progress") (rows_in matches.now) }
+    ensures log_file { option_map (λ s. s.now) result.log_file
+        ≡ first_of (codes "log-file") (rows_in matches.now) }
 {
     ServerRequest {
         secret: text_of(matches, "secret"),
@@ -257,6 +295,7 @@ fn server_request<'a>(matches: &ArgMatches<'a>) -> ServerRequest<'a>
         listen: text_of(matches, "listen"),
         audit: word_of(matches, "audit"),
         progress: flag_of(matches, "progress"),
+        log_file: word_of(matches, "log-file"),
     }
 }
 
@@ -273,6 +312,10 @@ fn gateway_request<'a>(matches: &ArgMatches<'a>) -> GatewayRequest<'a>
     ensures every { option_map (λ s. s.now) result.every ≡ first_of (codes "every") (rows_in matches.now) }
     ensures reserve { option_map (λ s. s.now) result.reserve
         ≡ first_of (codes "reserve") (rows_in matches.now) }
+    ensures give_up { option_map (λ s. s.now) result.give_up
+        ≡ first_of (codes "give-up") (rows_in matches.now) }
+    ensures log_file { option_map (λ s. s.now) result.log_file
+        ≡ first_of (codes "log-file") (rows_in matches.now) }
 {
     GatewayRequest {
         secret: text_of(matches, "secret"),
@@ -284,6 +327,8 @@ fn gateway_request<'a>(matches: &ArgMatches<'a>) -> GatewayRequest<'a>
         listen: word_of(matches, "listen"),
         every: word_of(matches, "every"),
         reserve: word_of(matches, "reserve"),
+        give_up: word_of(matches, "give-up"),
+        log_file: word_of(matches, "log-file"),
     }
 }
 
@@ -299,6 +344,8 @@ fn witness_request<'a>(matches: &ArgMatches<'a>) -> WitnessRequest<'a>
         ≡ first_of (codes "evidence") (rows_in matches.now) }
     ensures epoch { option_map (λ s. s.now) result.epoch ≡ first_of (codes "epoch") (rows_in matches.now) }
     ensures state { option_map (λ s. s.now) result.state ≡ first_of (codes "state") (rows_in matches.now) }
+    ensures log_file { option_map (λ s. s.now) result.log_file
+        ≡ first_of (codes "log-file") (rows_in matches.now) }
 {
     WitnessRequest {
         rosters: text_of(matches, "rosters"),
@@ -309,6 +356,7 @@ fn witness_request<'a>(matches: &ArgMatches<'a>) -> WitnessRequest<'a>
         evidence: word_of(matches, "evidence"),
         epoch: word_of(matches, "epoch"),
         state: word_of(matches, "state"),
+        log_file: word_of(matches, "log-file"),
     }
 }
 
@@ -348,6 +396,9 @@ pub(crate) fn hosts_request_in<'a>(matches: &ArgMatches<'a>) -> Option<Request<'
     }
     if let Some(stop) = matches.subcommand_matches("stop") {
         return Some(Request::Stop(text_of(stop, "state")));
+    }
+    if let Some(status) = matches.subcommand_matches("status") {
+        return Some(Request::Status(text_of(status, "state")));
     }
     None
 }

@@ -25,7 +25,7 @@ pub struct MemberRequest<'a> {
     pub kind: &'a str,
     /// The height of its trees of keys, if it is named.
     pub height: Option<&'a str>,
-    /// The first and the last epoch, if they are named.
+    /// The first and the last epoch, or one alone, if they are named.
     pub epochs: Option<&'a str>,
     /// The version of its log, if it is named.
     pub log_version: Option<&'a str>,
@@ -52,7 +52,7 @@ const MEMBER_HEIGHT_HELP: &str =
     "The height of its trees of keys, 1 to 16; 12 of a server and 10 of a client where none is named";
 
 const MEMBER_EPOCHS_HELP: &str =
-    "The first and the last epoch, 1 to 4294967295; 1-1 where none are named";
+    "The first and the last epoch, as 1-8, or one alone, 1 to 4294967295; 1 where none is named";
 
 const MEMBER_LOG_VERSION_HELP: &str = "The version of its log, 1 or 2; 1 where none is named";
 

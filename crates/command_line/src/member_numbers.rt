@@ -43,9 +43,9 @@ pub enum MemberRefusal {
     /// The height is no decimal number from 1 to 16.
     #[error("--height is a number from 1 to 16")]
     Height,
-    /// The epochs aren't two decimal numbers from 1 to 4,294,967,295 with `-` between, the second no less
-    /// than the first.
-    #[error("--epochs is A-B, numbers from 1 to 4294967295")]
+    /// The epochs aren't one decimal number from 1 to 4,294,967,295, or two with `-` between, the second no
+    /// less than the first.
+    #[error("--epochs is E or A-B, numbers from 1 to 4294967295")]
     Epochs,
     /// The version of the log is neither 1 nor 2.
     #[error("--log-version is 1 or 2")]
@@ -145,12 +145,15 @@ fn version_of(word: Option<&str>) -> Option<LogVersion>
 }
 
 /// Two numbers from the one to the other, the second no less than the first, if a word is their decimal
-/// digits with `-` between.
+/// digits with `-` between; or the number twice whose decimal digits it is.
 pub(crate) fn range_within(word: &str, least: u32, most: u32) -> Option<(u32, u32)>
     ensures some { IfSome result (λ p. WritesRange least most word.now p.0 p.1) }
     ensures bounds { IfSome result (λ p. (least ≤ p.0) × (p.0 ≤ p.1) × (p.1 ≤ most)) }
     ensures none { result ≡ None → ¬ (IsRange least most word.now) }
 {
+    if let Some(number) = number_within(word, least, most) {
+        return Some((number, number));
+    }
     let (first, last) = word.split_once('-')?;
     ordered(
         number_within(first, least, most),

@@ -20,7 +20,7 @@ ghost use Rattle.command_line.specs.CommandLine.{is_set, is_told, rows_in};
 
 use crate::hosts::{
     AskRequest, GatewayRequest, ServerRequest, WitnessRequest, ask_command, gateway_command,
-    hosts_request_in, server_command, stop_command, witness_command,
+    hosts_request_in, server_command, status_command, stop_command, witness_command,
 };
 use crate::keys::{
     MemberRequest, RostersRequest, keys_request_in, member_command, rosters_command, secret_command,
@@ -63,6 +63,8 @@ pub enum Request<'a> {
     Ask(AskRequest<'a>),
     /// `nfsacc stop DIR`: an end of the process of the state folder of this name.
     Stop(&'a str),
+    /// `nfsacc status DIR`: what the process of the state folder of this name says of itself.
+    Status(&'a str),
 }
 
 /// What `nfsacc check` is asked.
@@ -271,7 +273,8 @@ fn commands<'a>(alloc: Global) -> Result<Command<'a>, AllocError>
     let nfsacc = with_subcommand(nfsacc, gateway_command(alloc))?;
     let nfsacc = with_subcommand(nfsacc, witness_command(alloc))?;
     let nfsacc = with_subcommand(nfsacc, ask_command(alloc))?;
-    with_subcommand(nfsacc, stop_command(alloc))
+    let nfsacc = with_subcommand(nfsacc, stop_command(alloc))?;
+    with_subcommand(nfsacc, status_command(alloc))
 }
 
 /// The same without the commands of parties on hosts of their own.

@@ -16,7 +16,7 @@ use Rattle.nfs_spec.proofs.fs_spec.OfChanges.Finite.{cmp_other}
 use Rattle.inode_table.specs.inodes.Inodes.{file_in}
 use Rattle.inode_table.specs.inodes.declared.inode.Inode.{Inode}
 use Rattle.inode_table.specs.tree_rules.Listed.{files_in}
-use Rattle.server_spec.specs.FileItems.{file_digest}
+use Rattle.file_texts.specs.server_spec.FileItems.{file_digest}
 use Rattle.file_tree.specs.declared.digests.FileDigests.{FileDigests}
 use Rattle.file_tree.specs.KeptDigests.{AreKept, count_missing, has_none, kept_at, missing_in}
 use Rattle.file_tree.proofs.WritableFiles.{there}

@@ -11,7 +11,7 @@ use Rattle.nfs_spec.specs.fs_spec.Files.{File, Files, file_at, files_code}
 use Rattle.inode_table.specs.inodes.Inodes.{file_in}
 use Rattle.inode_table.specs.inodes.declared.inode.Inode.{Inode}
 use Rattle.file_texts.specs.Bounds.{IsWritable}
-use Rattle.server_spec.specs.FileItems.{file_digest}
+use Rattle.file_texts.specs.server_spec.FileItems.{file_digest}
 use Rattle.file_tree.specs.declared.digests.FileDigests.{FileDigests}
 
 -- the digest that is kept for a number, if one is

@@ -9,7 +9,7 @@ ghost use Rattle.nfs_spec.specs.fs_spec.Maxima.{max_files};
 ghost use Rattle.inode_table.specs.inodes.Inodes.{body_in, file_in};
 ghost use Rattle.inode_table.specs.tree_rules.Listed.{files_in};
 ghost use Rattle.file_texts.specs.Bounds.{IsWritable};
-ghost use Rattle.server_spec.specs.FileItems.{file_digest};
+ghost use Rattle.file_texts.specs.server_spec.FileItems.{file_digest};
 ghost use Rattle.file_tree.specs.KeptDigests.{AreKept, Forgets, count_missing, kept_at, missing_in};
 
 use file_texts::file_digest;

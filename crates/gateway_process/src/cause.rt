@@ -1,7 +1,7 @@
 //! Why a local program's connection is closed.
 
 use nodes::StreamFault;
-use remote::CallFault;
+use remote_sharing::CallFault;
 use std::{fmt, io};
 
 /// Why a local program's connection is closed before its end.

@@ -1,13 +1,15 @@
 //! What all threads of a gateway share.
 
+use crate::desk::Desk;
 use crate::local_stream::LocalStream;
+use nodes::ClientNode;
 use peer_calls::Greeting;
 use peer_connections::{Output, Phase, end_serving, is_serving};
-use remote::{Courier, Remote};
-use remote_sharing::Flights;
+use remote_sharing::{Courier, Flights, Remote};
 use std::alloc::{AllocError, Global};
 use std::io::Write;
 use std::sync::{Mutex, Wait};
+use std::time::Instant;
 
 /// What all threads of a gateway share, and its courier too.
 pub(crate) struct Context<'a, R, T, W, E> {
@@ -18,10 +20,18 @@ pub(crate) struct Context<'a, R, T, W, E> {
     pub(crate) output: &'a Mutex<Output<W, E>>,
     /// Whether the server was found to go by another roster.
     pub(crate) has_other_roster: &'a Mutex<bool>,
+    /// What witnesses are to be told, and what is asked for them.
+    pub(crate) desk: &'a Mutex<Desk>,
+    /// The calls that are in flight.
+    pub(crate) flights: &'a Mutex<Flights<LocalStream>>,
     /// What the gateway says where it connects.
     pub(crate) greeting: Greeting,
+    /// The epoch of its keys.
+    pub(crate) epoch: u32,
     /// The number of the server that it calls.
     pub(crate) server: u32,
+    /// How many seconds after its beginning a call is given up, if it ever is.
+    pub(crate) give_up: Option<u64>,
 }
 
 impl<'a, R, T, W, E> Clone for Context<'a, R, T, W, E> {
@@ -32,7 +42,48 @@ impl<'a, R, T, W, E> Clone for Context<'a, R, T, W, E> {
 
 impl<'a, R, T, W, E> Copy for Context<'a, R, T, W, E> {}
 
+impl<'a, R: Wait, T: std::time::Clock, W: Write, E: Write> Context<'a, R, T, W, E> {
+    /// The time, by which waits are counted: none where the clock can't be read.
+    pub(crate) fn now(&self) -> Option<Instant> {
+        Instant::now(self.clock).ok()
+    }
+
+    /// Whether so many seconds have passed since then. Where a time is unknown none have.
+    pub(crate) fn is_past(&self, since: Option<Instant>, seconds: u64) -> bool {
+        let Some(since) = since else {
+            return false;
+        };
+        match since.elapsed(self.clock) {
+            Ok(elapsed) => elapsed.as_secs() >= seconds,
+            Err(_) => false,
+        }
+    }
+
+    /// Whether a call that was begun then is given up.
+    pub(crate) fn is_given_up(&self, begun: Option<Instant>) -> bool {
+        match self.give_up {
+            Some(seconds) => self.is_past(begun, seconds.max(1)),
+            None => false,
+        }
+    }
+}
+
 impl<'a, R: Wait, T, W: Write, E: Write> Context<'a, R, T, W, E> {
+    /// Tells the thread that reports what it asks of the client, if it asks something.
+    pub(crate) fn tell(&self, client: &ClientNode) {
+        self.desk.lock(self.rt).tell(self.alloc, client);
+    }
+
+    /// Whether witnesses are to be told at once; from now on they aren't.
+    pub(crate) fn has_urgent_news(&self) -> bool {
+        self.desk.lock(self.rt).take_urgent()
+    }
+
+    /// Whether the local programs that made the call of these bytes have all gone.
+    pub(crate) fn is_left(&self, bytes: &[u8]) -> bool {
+        self.flights.lock(self.rt).are_left(bytes)
+    }
+
     /// Says a line that is beside the process's own.
     pub(crate) fn say(&self, line: Result<String, AllocError>) {
         self.output.lock(self.rt).say(line);
@@ -54,10 +105,6 @@ pub(crate) struct Shared<'a, R, T, W, E, C: Courier + Drop> {
     pub(crate) context: Context<'a, R, T, W, E>,
     /// The client, with its courier.
     pub(crate) remote: &'a Mutex<Remote<C>>,
-    /// The calls that are in flight.
-    pub(crate) flights: &'a Mutex<Flights<LocalStream>>,
-    /// The numbers of the client's SENDs for which nothing came back that counts, oldest first.
-    pub(crate) unanswered: &'a Mutex<Vec<u64>>,
 }
 
 impl<'a, R, T, W, E, C: Courier + Drop> Clone for Shared<'a, R, T, W, E, C> {

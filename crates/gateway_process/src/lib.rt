@@ -3,13 +3,17 @@
 
 mod cause;
 mod context;
+mod desk;
 mod local_programs;
 mod local_stream;
 mod news;
+mod receipts;
 mod reporter;
 mod run;
+mod status;
 mod tcp_courier;
 mod trouble;
+mod watch;
 mod witness_peer;
 
 pub use run::{Ending, GatewayOrder, run_gateway};

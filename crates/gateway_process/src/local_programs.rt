@@ -6,8 +6,7 @@ use crate::local_stream::LocalStream;
 use authenticator::Number;
 use nodes::{ClientNode, Gateway, LinkFault, StreamFault};
 use peer_connections::{PeerStream, Phase, Waiting, set_timeouts};
-use remote::{AcceptFault, CallFault, Courier, CourierFault};
-use remote_sharing::{SharedRemote, serve_shared};
+use remote_sharing::{AcceptFault, CallFault, Courier, CourierFault, SharedRemote, serve_shared};
 use rpc::records::{Counting, RecordReader};
 use std::alloc::Global;
 use std::io::{BufReader, Write};
@@ -70,7 +69,7 @@ where
     let mut reader = RecordReader::new(Counting::new(input));
     let mut writer = Counting::new(PeerStream::new(rt, clock, stream, phase, &waiting));
     let mut times = SystemClock::new(clock);
-    let mut link = SharedRemote::new(rt, shared.remote, shared.flights, presence);
+    let mut link = SharedRemote::new(rt, shared.remote, shared.context.flights, presence);
     let mut gateway = Gateway::new();
     match serve_shared(
         &mut gateway,
@@ -119,15 +118,18 @@ where
     E: Write,
     C: Courier + Drop,
 {
-    /// Keeps a SEND's number for witnesses, if there is one. Without memory for it they aren't told of it.
+    /// Keeps a SEND's number for witnesses, if there is one.
     fn keep_unanswered(&self, sent: Option<u64>) {
         if let Some(number) = sent {
-            let _ = self.unanswered.lock(self.context.rt).push(number);
+            self.context
+                .desk
+                .lock(self.context.rt)
+                .keep_unanswered(number);
         }
     }
 
     /// A call has failed, whose SEND has this number, if there is one. Where keys are used up the serving ends; where
-    /// nothing came that counts, witnesses are to ask for its acknowledgement.
+    /// nothing came that counts, witnesses are to ask for its acknowledgement at once.
     fn call_failed(&self, fault: &CallFault, sent: Option<u64>) -> Cause {
         let server = self.context.server;
         if uses_up_keys(fault) {

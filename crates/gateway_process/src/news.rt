@@ -1,6 +1,6 @@
 //! What witnesses are told of a client's log, as packets.
 
-use authenticator::{Authenticator, Number, Word};
+use authenticator::{Authenticator, Word};
 use envelopes::{Envelope, EnvelopeRef};
 use nodes::ClientNode;
 use packets::{write_ack, write_answer_text, write_challenge, write_learn};
@@ -9,8 +9,8 @@ use secure_log::log_entries::{Entry, Receipt, SignatureText, message_hash, recei
 use secure_log::{SegmentFault, is_same_hash};
 use std::alloc::{AllocError, Global};
 
-/// How many of a log's last entries are looked at for what its server signed.
-const MOST_ENTRIES: usize = 24;
+/// How many of a log's entries are looked at at once for what its server signed.
+const MOST_ENTRIES: usize = 96;
 
 /// How many of a client's own signatures are told at once: there is one for each 4,096 numbers.
 const MOST_OWN: u32 = 16;
@@ -26,14 +26,36 @@ pub(crate) struct Progress {
     pub(crate) unanswered: usize,
 }
 
+/// What a server signed, as an entry of its client's log shows it.
+#[derive(Clone, Copy)]
+pub(crate) enum ShownOf {
+    /// The acknowledgement of a call.
+    Receipt,
+    /// A message of this node, with this number in its log: a reply, if it is the server that is called.
+    Reply { from: u32, number: u64 },
+}
+
+/// A packet that shows what a server signed.
+#[derive(Drop)]
+pub(crate) struct Shown {
+    pub(crate) packet: Vec<u8>,
+    pub(crate) of: ShownOf,
+    /// How many entries stand before the one that shows it.
+    pub(crate) before: usize,
+}
+
 /// Packets for a witness, and how far it is told once it has them.
 #[derive(Drop)]
 pub(crate) struct News {
+    /// What the server signed, in the order of the client's log.
+    pub(crate) shown: Vec<Shown>,
     pub(crate) packets: Vec<Vec<u8>>,
     pub(crate) progress: Progress,
+    /// Whether nothing is new after these.
+    pub(crate) is_all: bool,
 }
 
-/// What is new for a witness that was told so far: what the server signed, by the last entries; what the client
+/// What is new for a witness that was told so far: what the server signed, by the next entries; what the client
 /// signed; and the calls for which nothing came back that counts. They have these numbers in the client's log.
 pub(crate) fn news_since(
     alloc: Global,
@@ -42,7 +64,9 @@ pub(crate) fn news_since(
     progress: Progress,
 ) -> Result<News, AllocError> {
     let mut packets = Vec::new(alloc);
-    add_shown(alloc, client, progress.entries, &mut packets)?;
+    let entries = client.node().log().entries().len();
+    let end = entries.min(progress.entries.saturating_add(MOST_ENTRIES));
+    let shown = shown_between(alloc, client, progress.entries, end)?;
     let own = add_own(alloc, client, progress.own, &mut packets)?;
     add_unanswered(
         alloc,
@@ -51,11 +75,16 @@ pub(crate) fn news_since(
         &mut packets,
     )?;
     let progress = Progress {
-        entries: client.node().log().entries().len(),
+        entries: end,
         own,
         unanswered: unanswered.len(),
     };
-    Ok(News { packets, progress })
+    Ok(News {
+        shown,
+        packets,
+        progress,
+        is_all: end == entries,
+    })
 }
 
 /// What stands in a list after so many items.
@@ -64,21 +93,71 @@ fn rest_after<T>(items: &[T], count: usize) -> &[T] {
     &items[first..]
 }
 
-/// Adds what the server signed by the entries after so many, of the last entries alone.
+/// What the server signed, by the entries from the one place to the other.
+fn shown_between(
+    alloc: Global,
+    client: &ClientNode,
+    first: usize,
+    end: usize,
+) -> Result<Vec<Shown>, AllocError> {
+    let mut shown = Vec::new(alloc);
+    for before in first..end {
+        if let Some(entry) = client.node().log().entries().get(before) {
+            add_shown(alloc, client, before, entry, &mut shown)?;
+        }
+    }
+    Ok(shown)
+}
+
+/// Adds what the server signed, as an entry shows it that has so many before it.
 fn add_shown(
     alloc: Global,
     client: &ClientNode,
-    looked_at: usize,
-    packets: &mut Vec<Vec<u8>>,
+    before: usize,
+    entry: &Entry,
+    shown: &mut Vec<Shown>,
 ) -> Result<(), AllocError> {
-    let entries = client.node().log().entries();
-    let first = looked_at.max(entries.len().saturating_sub(MOST_ENTRIES));
-    for entry in rest_after(entries, first) {
-        if let Some(authenticator) = shown_by(alloc, client, entry)? {
-            add_learned(alloc, &authenticator, packets)?;
+    let Some(authenticator) = shown_by(alloc, client, entry)? else {
+        return Ok(());
+    };
+    let of = match entry {
+        Entry::Recv { from, seq, .. } => ShownOf::Reply {
+            from: *from,
+            number: number_of(client, *from, *seq),
+        },
+        _ => ShownOf::Receipt,
+    };
+    let mut packet = Vec::new(alloc);
+    write_learn(&authenticator, &mut packet)?;
+    shown.push(Shown { packet, of, before })?;
+    Ok(())
+}
+
+/// The numbers that a server's messages have in its log, of those that a client received after so many entries of its
+/// own.
+pub(crate) fn replies_after(
+    alloc: Global,
+    client: &ClientNode,
+    server: u32,
+    looked_at: usize,
+) -> Result<Vec<u64>, AllocError> {
+    let mut numbers = Vec::new(alloc);
+    for entry in rest_after(client.node().log().entries(), looked_at) {
+        if let Entry::Recv { from, seq, .. } = entry {
+            if *from == server {
+                numbers.push(number_of(client, *from, *seq))?;
+            }
         }
     }
-    Ok(())
+    Ok(numbers)
+}
+
+/// The number in a word of a node's log; of a stranger's log the word.
+fn number_of(client: &ClientNode, node: u32, word: Word) -> u64 {
+    match client.node().roster().member(node) {
+        Some(member) => word.number(member.log_version).get(),
+        None => word.get(),
+    }
 }
 
 /// Adds what the client signed after a number, the last of each 4,096 numbers. Gives the last number.
@@ -214,9 +293,9 @@ pub(crate) fn segment_packet(
 pub(crate) fn ack_packet(
     alloc: Global,
     client: &ClientNode,
-    number: Number,
+    number: u64,
 ) -> Result<Option<Vec<u8>>, AllocError> {
-    let Some(ack) = client.ack(number.get()) else {
+    let Some(ack) = client.ack(number) else {
         return Ok(None);
     };
     let mut packet = Vec::new(alloc);
@@ -224,14 +303,29 @@ pub(crate) fn ack_packet(
     Ok(Some(packet))
 }
 
-/// Whether a client has received a message.
-pub(crate) fn has_received(client: &ClientNode, envelope: &Envelope) -> bool {
-    for entry in client.node().log().entries() {
-        if is_of(entry, envelope) {
-            return true;
+/// The packet with the acknowledgement of a message, if the client has received it.
+pub(crate) fn receipt_packet(
+    alloc: Global,
+    client: &ClientNode,
+    message: &Envelope,
+) -> Result<Option<Vec<u8>>, AllocError> {
+    match place_of(client, message) {
+        Some(number) => ack_packet(alloc, client, number),
+        None => Ok(None),
+    }
+}
+
+/// The number at which a client has received a message, if it has.
+fn place_of(client: &ClientNode, message: &Envelope) -> Option<u64> {
+    let log = client.node().log();
+    let mut number: u64 = 0;
+    for (entry, skipped) in log.entries().iter().zip(log.skips()) {
+        number = number.saturating_add(u64::from(*skipped)).saturating_add(1);
+        if is_of(entry, message) {
+            return Some(number);
         }
     }
-    false
+    None
 }
 
 /// Whether an entry is a RECV of a message.

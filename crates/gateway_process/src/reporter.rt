@@ -4,7 +4,7 @@ use crate::context::{Context, Shared};
 use crate::trouble::{Trouble, spelled_digest};
 use crate::witness_peer::WitnessPeer;
 use peer_connections::Phase;
-use remote::Courier;
+use remote_sharing::Courier;
 use std::alloc::{AllocError, Global};
 use std::io::Write;
 use std::net::{Net, TcpListener, TcpStream};
@@ -40,7 +40,7 @@ impl Reporter {
     ) -> Result<Reporter, AllocError> {
         let mut witnesses = Vec::new(alloc);
         for address in addresses {
-            witnesses.push(WitnessPeer::new(address))?;
+            witnesses.push(WitnessPeer::new(alloc, address))?;
         }
         Ok(Reporter {
             witnesses,
@@ -84,8 +84,8 @@ impl Reporter {
     }
 }
 
-/// Waits until the next report is due after so many seconds, or the process no longer serves, and has the serving end
-/// where the client's keys are used up. Whether it still serves.
+/// Waits until the next report is due after so many seconds, or at once, or the process no longer serves, and has the
+/// serving end where the client's keys are used up. Whether it still serves.
 fn waits<R, T, W, E, C>(shared: Shared<'_, R, T, W, E, C>, seconds: u32) -> bool
 where
     R: Wait,
@@ -99,6 +99,9 @@ where
         look_at_keys(shared);
         if !shared.context.is_serving() {
             return false;
+        }
+        if shared.context.has_urgent_news() {
+            return true;
         }
         shared.context.clock.sleep(Duration::from_millis(LOOK));
     }

@@ -1,19 +1,18 @@
 //! A gateway with its node: local programs as they connect, each in a thread of its own, and reports to witnesses.
 
 use crate::context::{Context, Shared};
+use crate::desk::Desk;
 use crate::local_programs::serve_program;
-use crate::local_stream::LocalStream;
 use crate::reporter::Reporter;
+use crate::status::GatewayTeller;
 use crate::tcp_courier::TcpCourier;
 use nodes::ClientNode;
 use peer_calls::Greeting;
-use peer_connections::{Accepting, Output, Phase, attend};
-use remote::{Courier, Remote, RemoteClient};
-use remote_sharing::Flights;
+use peer_connections::{Accepting, Commands, Output, Phase, attend};
+use remote_sharing::{Courier, Flights, Remote, RemoteClient};
 use std::alloc::Global;
 use std::io::Write;
 use std::net::{Net, OpenListener, TcpListener, TcpStream};
-use std::os::unix::net::UnixListener;
 use std::sync::{Mutex, Wait};
 use std::thread;
 use std::thread::{Scope, Threads};
@@ -25,6 +24,8 @@ pub struct GatewayOrder<'a, L> {
     pub client: ClientNode,
     /// The digest of its roster's text.
     pub digest: [u8; 32],
+    /// The epoch of that roster.
+    pub epoch: u32,
     /// The number of the server that it calls.
     pub server: u32,
     /// Where the server listens, as HOST:PORT.
@@ -35,10 +36,12 @@ pub struct GatewayOrder<'a, L> {
     pub every: u32,
     /// How many messages that witnesses ask for are received at most: each takes a key.
     pub reserve: u32,
+    /// After how many seconds without a reply a call is given up; it waits for ever where none are given.
+    pub give_up: Option<u64>,
     /// Where local programs connect.
     pub listener: L,
-    /// The control socket, by which the process can be told to stop.
-    pub control: Option<&'a UnixListener>,
+    /// Where the process can be told to stop, and asked how it is.
+    pub control: Option<Commands<'a>>,
 }
 
 /// Why a gateway no longer serves.
@@ -71,6 +74,8 @@ where
 {
     let phase = Mutex::new(Phase::Serving);
     let has_other_roster = Mutex::new(false);
+    let desk = Mutex::new(Desk::new(alloc));
+    let flights = Mutex::new(Flights::new(alloc));
     let greeting = Greeting {
         digest: order.digest,
         node: order.client.number(),
@@ -82,8 +87,12 @@ where
         phase: &phase,
         output,
         has_other_roster: &has_other_roster,
+        desk: &desk,
+        flights: &flights,
         greeting,
+        epoch: order.epoch,
         server: order.server,
+        give_up: order.give_up,
     };
     serve_order(context, order);
     end_of(rt, &phase, &has_other_roster)
@@ -136,29 +145,19 @@ where
     };
     let courier = TcpCourier::new(context, address);
     let remote = Mutex::new(Remote::new(alloc, client, courier));
-    let flights = Mutex::new(Flights::new(alloc));
-    let unanswered = Mutex::new(Vec::new(alloc));
     let reporter = Mutex::new(reporter);
-    serve_until_end(
-        context,
-        &remote,
-        &flights,
-        &unanswered,
-        &reporter,
-        &listener,
-        control,
-    );
+    serve_until_end(context, &remote, &reporter, &listener, control);
+    let (_, mut courier) = remote.into_inner().into_parts();
+    courier.finish();
 }
 
 /// Serves until the process is to end and all connections have ended, and reports for the last time.
 fn serve_until_end<'s, R, T, L, W, E, C>(
     context: Context<'s, R, T, W, E>,
     remote: &'s Mutex<Remote<C>>,
-    flights: &'s Mutex<Flights<LocalStream>>,
-    unanswered: &'s Mutex<Vec<u64>>,
     reporter: &'s Mutex<Reporter>,
     listener: &'s L,
-    control: Option<&'s UnixListener>,
+    control: Option<Commands<'s>>,
 )
 where
     R: Threads + Wait + Sync + Net<Listener = TcpListener, Stream = TcpStream>,
@@ -168,12 +167,7 @@ where
     E: Write + Send,
     C: Courier + Drop + Send,
 {
-    let shared = Shared {
-        context,
-        remote,
-        flights,
-        unanswered,
-    };
+    let shared = Shared { context, remote };
     let accepting = Accepting {
         rt: context.rt,
         alloc: context.alloc,
@@ -194,7 +188,7 @@ fn run_threads<'s, V, R, T, L, W, E, C>(
     shared: Shared<'s, R, T, W, E, C>,
     accepting: Accepting<'s, R, T, L, W, E>,
     reporter: &'s Mutex<Reporter>,
-    control: Option<&'s UnixListener>,
+    control: Option<Commands<'s>>,
     scope: &Scope<'s, V>,
 )
 where
@@ -206,17 +200,33 @@ where
     C: Courier + Drop + Send,
 {
     if let Some(control) = control {
-        let Context {
-            rt,
-            clock,
-            phase,
-            ..
-        } = shared.context;
-        let run = move || attend(rt, clock, phase, control);
+        let run = move || attend_control(shared, control);
         let _ = scope.spawn(run);
     }
     start_reports(shared, reporter, scope);
     serve_all(shared, accepting, scope)
+}
+
+/// Takes commands at the control socket until the process no longer serves.
+fn attend_control<R, T, W, E, C>(shared: Shared<'_, R, T, W, E, C>, commands: Commands<'_>)
+where
+    R: Wait,
+    T: std::time::Clock,
+    W: Write,
+    E: Write,
+    C: Courier + Drop,
+{
+    let context = shared.context;
+    let (rt, alloc, clock) = (context.rt, context.alloc, context.clock);
+    let teller = GatewayTeller {
+        rt,
+        clock,
+        remote: shared.remote,
+        desk: context.desk,
+        node: context.greeting.node,
+        epoch: context.epoch,
+    };
+    attend(rt, alloc, clock, context.phase, commands, &teller);
 }
 
 /// Starts the thread that reports to witnesses.

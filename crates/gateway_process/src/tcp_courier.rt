@@ -3,34 +3,40 @@
 ghost use Rattle.std.specs.Prelude.{◌≡◌, OnOk};
 
 use crate::context::Context;
+use crate::receipts::Receipts;
 use crate::trouble::{Trouble, check_greeted, spelled_digest};
-use peer_calls::{Delivered, NodeRequest, ResultNumber, read_delivered};
-use peer_connections::{PeerCaller, Phase};
-use remote::{Carried, Courier, CourierFault};
+use crate::watch::Watch;
+use nodes::ClientNode;
+use peer_calls::{Delivered, NodeRequest, read_delivered};
+use peer_connections::{NodeConnection, Phase};
+use remote_sharing::{Carried, Courier, CourierFault, RemoteClient};
 use std::alloc::{AllocError, Global};
 use std::io::Write;
 use std::net::{Net, TcpListener, TcpStream};
 use std::sync::Wait;
-use std::time::Duration;
-use xdr::texts::read_text;
+use std::time::{Duration, Instant};
 
-/// How many milliseconds pass before each try to deliver an envelope.
-const PAUSES: &[u64] = &[0, 100, 200, 400, 800];
+/// How many milliseconds pass between two looks at what goes on, while nothing is tried.
+const LOOK: u64 = 100;
 
-/// How many milliseconds pass before each try to bring an acknowledgement.
-const PAUSES_OF_AN_ACKNOWLEDGEMENT: &[u64] = &[0, 100];
+/// How many looks there are between the first two tries; twice as many each time until the last number.
+const FIRST_PAUSE: u64 = 1;
 
-/// The most bytes of the answer to GREET, to DELIVER and to ACKNOWLEDGE.
+const LONGEST_PAUSE: u64 = 300;
+
+/// After how many tries of a call, or how many seconds, it is said that the server gives no answer, and witnesses are
+/// told.
+const TRIES_UNTIL_TOLD: u64 = 5;
+
+const SECONDS_UNTIL_TOLD: u64 = 10;
+
+/// How many seconds after its local connections have ended a call is still carried.
+const UNWANTED: u64 = 60;
+
+/// The most bytes of the answer to GREET, and to DELIVER.
 const MOST_GREETED: u32 = 60;
 
 const MOST_DELIVERED: u32 = 46_340;
-
-const MOST_ACKNOWLEDGED: u32 = 28;
-
-/// The results of ACKNOWLEDGE that say that the server has it: it was logged now, or before.
-const LOGGED: u32 = 0;
-
-const LOGGED_BEFORE: u32 = 10;
 
 /// The refusals of a server that has too few keys or numbers left.
 const KEYS_USED_UP: u32 = 4;
@@ -38,14 +44,31 @@ const KEYS_USED_UP: u32 = 4;
 const GAP_TOO_WIDE: u32 = 6;
 
 /// The way to the server over TCP, by one connection at a time. Where that breaks, or what comes is no answer, a new
-/// one is made, and the same is sent again: five times at most within some two seconds, and no more once the process
-/// is to end. Of a server that goes by another roster that is said, and the process ends.
+/// one is made, after pauses of 0.1 seconds to 30, and the same is sent again, until an answer comes, the call is given
+/// up or the process is to end. The acknowledgement of a reply is sent, and its answer read before that to the next
+/// call; one that wasn't answered goes first over the next connection. Of a server that goes by another roster that is
+/// said, and the process ends.
 #[derive(Drop)]
 pub(crate) struct TcpCourier<'a, R, T, W, E> {
     context: Context<'a, R, T, W, E>,
     /// Where the server listens, as HOST:PORT.
     address: &'a str,
-    caller: Option<PeerCaller>,
+    connection: Option<NodeConnection>,
+    receipts: Receipts,
+    in_hand: InHand,
+    /// Whether it was said that the server gives no answer.
+    is_away: bool,
+}
+
+/// The call in hand.
+#[derive(Clone, Copy)]
+struct InHand {
+    /// The number of its SEND.
+    number: u64,
+    /// When it was begun.
+    begun: Option<Instant>,
+    /// Since when no local program awaits it, if none does.
+    unwanted: Option<Instant>,
 }
 
 /// What a server answers to an envelope.
@@ -65,7 +88,14 @@ impl<'a, R, T, W, E> TcpCourier<'a, R, T, W, E> {
         TcpCourier {
             context,
             address,
-            caller: None,
+            connection: None,
+            receipts: Receipts::new(context.alloc),
+            in_hand: InHand {
+                number: 0,
+                begun: None,
+                unwanted: None,
+            },
+            is_away: false,
         }
     }
 }
@@ -78,61 +108,161 @@ where
     E: Write,
 {
     /// The connection that there is, or a new one. It is kept again once it has brought an answer.
-    fn connection(&mut self) -> Result<PeerCaller, Trouble> {
-        match self.caller.take() {
-            Some(caller) => Ok(caller),
-            None => self.connect(),
+    fn connection(&mut self, client: Option<&ClientNode>) -> Result<NodeConnection, Trouble> {
+        match self.connection.take() {
+            Some(connection) => Ok(connection),
+            None => self.connect(client),
         }
     }
 
     /// Connects to the server, and greets it.
-    fn connect(&self) -> Result<PeerCaller, Trouble> {
+    fn connect(&mut self, client: Option<&ClientNode>) -> Result<NodeConnection, Trouble> {
         let Context {
             rt,
             alloc,
             greeting,
             ..
         } = self.context;
-        let mut caller = match PeerCaller::connect(rt, alloc, self.address) {
-            Ok(caller) => caller,
+        let mut connection = match NodeConnection::connect(rt, alloc, self.address) {
+            Ok(connection) => connection,
             Err(error) => return Err(Trouble::Unreached(error)),
         };
-        let answer = caller.ask_node(&NodeRequest::Greet(greeting), MOST_GREETED)?;
+        let mut watch = Watch::new(self.context, client, self.in_hand.begun);
+        let sent = connection.send(&NodeRequest::Greet(greeting), &mut watch)?;
+        let answer = connection.answer(sent, MOST_GREETED, &mut watch)?;
         check_greeted(alloc, answer.results())?;
-        Ok(caller)
+        self.receipts.begin_again();
+        Ok(connection)
     }
 
-    /// Delivers an envelope once.
+    /// Delivers an envelope once: after the acknowledgements that weren't sent, and with the answers to these.
     fn deliver(
         &mut self,
-        alloc: Global,
+        client: &ClientNode,
         call: &[u8],
         ack: &mut Vec<u8>,
         reply: &mut Vec<u8>,
     ) -> Result<Delivery, Trouble> {
-        let mut caller = self.connection()?;
-        let answer = caller.ask_node(&NodeRequest::Deliver(call), MOST_DELIVERED)?;
+        let alloc = self.context.alloc;
+        let mut connection = self.connection(Some(client))?;
+        let mut watch = Watch::new(self.context, Some(client), self.in_hand.begun);
+        self.receipts.send(&mut connection, &mut watch)?;
+        let sent = connection.send(&NodeRequest::Deliver(call), &mut watch)?;
+        self.receipts
+            .take_answers(alloc, &mut connection, &mut watch)?;
+        let answer = connection.answer(sent, MOST_DELIVERED, &mut watch)?;
         let delivery = take_delivered(alloc, answer.results(), ack, reply)?;
-        self.caller = Some(caller);
+        self.connection = Some(connection);
         Ok(delivery)
     }
 
-    /// Brings an acknowledgement once. Gives the number that the server answers.
-    fn bring(&mut self, alloc: Global, receipt: &[u8]) -> Result<u32, Trouble> {
-        let mut caller = self.connection()?;
-        let answer = caller.ask_node(&NodeRequest::Acknowledge(receipt), MOST_ACKNOWLEDGED)?;
-        let result = read_text::<ResultNumber>(alloc, answer.results())?;
-        self.caller = Some(caller);
-        Ok(result.number)
+    /// Sends the acknowledgements that weren't sent, if there is a connection.
+    fn send_receipts(&mut self) {
+        let Some(mut connection) = self.connection.take() else {
+            return;
+        };
+        let mut watch = Watch::new(self.context, None, None);
+        if self.receipts.send(&mut connection, &mut watch).is_ok() {
+            self.connection = Some(connection);
+        }
     }
 
-    /// Waits before a try. Whether it is to be made: the first one is, the others while the process serves.
-    fn may_try(&self, pause: u64) -> bool {
-        if pause == 0 {
-            return true;
+    /// Brings the acknowledgements that weren't answered to a server that answers at once: for the end of the process.
+    pub(crate) fn finish(&mut self) {
+        if self.connection.is_some() && self.bring_receipts().is_ok() {
+            return;
         }
-        self.context.clock.sleep(Duration::from_millis(pause));
+        if !self.receipts.is_empty() {
+            let _ = self.bring_receipts();
+        }
+    }
+
+    /// Brings the acknowledgements that weren't answered, once.
+    fn bring_receipts(&mut self) -> Result<(), Trouble> {
+        let mut connection = self.connection(None)?;
+        let mut watch = Watch::new(self.context, None, None);
+        self.receipts.send(&mut connection, &mut watch)?;
+        self.receipts
+            .take_answers(self.context.alloc, &mut connection, &mut watch)
+    }
+
+    /// Takes the client's last call in hand, unless it is.
+    fn take_in_hand(&mut self, client: &ClientNode) {
+        let number = last_sent(client);
+        if self.in_hand.number != number {
+            self.in_hand = InHand {
+                number,
+                begun: self.context.now(),
+                unwanted: None,
+            };
+        }
+    }
+
+    /// Waits for so many looks before the next try. Whether it is to be made: not once the process is to end, or the
+    /// call is given up.
+    fn waits(&mut self, client: &ClientNode, looks: u64) -> bool {
+        for _ in 0..looks {
+            self.context.tell(client);
+            if !self.is_carried_on(client) {
+                return false;
+            }
+            self.context.clock.sleep(Duration::from_millis(LOOK));
+        }
+        self.is_carried_on(client)
+    }
+
+    /// Whether the call in hand is to be tried again.
+    fn is_carried_on(&mut self, client: &ClientNode) -> bool {
         self.context.is_serving()
+            && !self.context.is_given_up(self.in_hand.begun)
+            && !self.is_unwanted(client)
+    }
+
+    /// Whether the call in hand has waited for so long that it is said.
+    fn is_late(&self) -> bool {
+        self.context.is_past(self.in_hand.begun, SECONDS_UNTIL_TOLD)
+    }
+
+    /// Whether no local program has awaited the call in hand for a minute.
+    fn is_unwanted(&mut self, client: &ClientNode) -> bool {
+        let Some(envelope) = client.envelope(self.in_hand.number) else {
+            return false;
+        };
+        if !self.context.is_left(envelope.body.bytes()) {
+            self.in_hand.unwanted = None;
+            return false;
+        }
+        if self.in_hand.unwanted.is_none() {
+            self.in_hand.unwanted = self.context.now();
+        }
+        self.context.is_past(self.in_hand.unwanted, UNWANTED)
+    }
+
+    /// The server has given no answer for some tries: says so, unless it was said, and has witnesses told of the call.
+    fn note_silence(&mut self, trouble: &Trouble) {
+        let Context {
+            rt,
+            alloc,
+            server,
+            desk,
+            ..
+        } = self.context;
+        desk.lock(rt).keep_unanswered(self.in_hand.number);
+        if !self.is_away {
+            self.context.say(format!(in alloc;
+                "nfsacc: server {server} gives no answer, and is tried again: {trouble}\n"
+            ));
+        }
+        self.is_away = true;
+    }
+
+    /// The server has given an answer: says so, where it was said that it gives none.
+    fn note_answer(&mut self) {
+        let Context { alloc, server, .. } = self.context;
+        if self.is_away {
+            self.context.say(format!(in alloc; "nfsacc: server {server} answers again\n"));
+        }
+        self.is_away = false;
     }
 
     /// Why no other try is made after this trouble, if none is.
@@ -180,43 +310,61 @@ where
 {
     fn carry(
         &mut self,
-        alloc: Global,
+        _alloc: Global,
+        client: &RemoteClient,
         call: &[u8],
         ack: &mut Vec<u8>,
         reply: &mut Vec<u8>,
     ) -> Result<Carried, CourierFault> {
-        for pause in PAUSES {
-            if !self.may_try(*pause) {
+        let client = client.client();
+        if self.connection.is_none() && !self.context.is_serving() {
+            return Err(CourierFault::Lost);
+        }
+        self.take_in_hand(client);
+        let mut pause = FIRST_PAUSE;
+        for tries in 1..u64::MAX {
+            let trouble = match self.deliver(client, call, ack, reply) {
+                Ok(delivery) => {
+                    self.note_answer();
+                    return told(delivery);
+                }
+                Err(trouble) => trouble,
+            };
+            if let Some(fault) = self.fault_after(&trouble) {
+                return Err(fault);
+            }
+            if tries >= TRIES_UNTIL_TOLD || self.is_late() {
+                self.note_silence(&trouble);
+            }
+            if !self.waits(client, pause) {
                 break;
             }
-            match self.deliver(alloc, call, ack, reply) {
-                Ok(delivery) => return told(delivery),
-                Err(trouble) => {
-                    if let Some(fault) = self.fault_after(&trouble) {
-                        return Err(fault);
-                    }
-                }
-            }
+            pause = pause.saturating_mul(2).min(LONGEST_PAUSE);
         }
         Err(CourierFault::Lost)
     }
 
+    /// Its answer isn't awaited.
     fn acknowledge(&mut self, alloc: Global, receipt: &[u8]) -> Result<(), CourierFault> {
-        for pause in PAUSES_OF_AN_ACKNOWLEDGEMENT {
-            if !self.may_try(*pause) {
-                break;
+        match self.receipts.add(alloc, receipt) {
+            Ok(()) => {
+                self.send_receipts();
+                Ok(())
             }
-            match self.bring(alloc, receipt) {
-                Ok(number) => return told_of_acknowledgement(number),
-                Err(trouble) => {
-                    if let Some(fault) = self.fault_after(&trouble) {
-                        return Err(fault);
-                    }
-                }
-            }
+            Err(AllocError) => Err(CourierFault::NoMemory),
         }
-        Err(CourierFault::Lost)
     }
+}
+
+/// The number of the last SEND of a client's log, 0 where there is none.
+fn last_sent(client: &ClientNode) -> u64 {
+    let last = client.node().log().last_number().get();
+    for number in (1..=last).rev() {
+        if client.envelope(number).is_some() {
+            return number;
+        }
+    }
+    0
 }
 
 /// Takes the results of DELIVER: the texts of an acknowledgement and of a reply's envelope, if there is one, are
@@ -262,13 +410,5 @@ fn told(delivery: Delivery) -> Result<Carried, CourierFault> {
         Delivery::Carried(carried) => Ok(carried),
         Delivery::Refused(KEYS_USED_UP | GAP_TOO_WIDE) => Err(CourierFault::KeysUsedUp),
         Delivery::Refused(_) => Err(CourierFault::Refused),
-    }
-}
-
-/// What came of an acknowledgement, as a courier tells it.
-fn told_of_acknowledgement(number: u32) -> Result<(), CourierFault> {
-    match number {
-        LOGGED | LOGGED_BEFORE => Ok(()),
-        _ => Err(CourierFault::Refused),
     }
 }

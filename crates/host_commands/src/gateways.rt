@@ -3,7 +3,9 @@
 ghost use Rattle.std.specs.Prelude.{◌≡◌};
 
 use crate::greeting::{Side, common_roster, connect};
-use crate::opening::{Held, hold, keys_of, listen, open_control, place_of};
+use crate::opening::{
+    Held, commands_at, hold, keys_of, listen, open_control, open_output, place_of,
+};
 use authenticator::{Kind, MAX_NODE, Roster};
 use command_line::{GatewayOrder, GatewayRequest, HostRefusal, gateway_order};
 use gateway_process::{Ending, run_gateway as serve_programs};
@@ -11,17 +13,14 @@ use host_keys::{Begun, EpochRoster};
 use node_keys::{KeyedNode, Masters};
 use nodes::ClientNode;
 use party_files::{HeldRoster, HeldSecret, report_secret, stand_ins};
-use peer_connections::Output;
+use peer_connections::{Commands, OwnMemory};
 use program_output::{
-    COMMAND_LINE, DEVICE, INPUT_FAULT, KEYS_USED_UP, NOT_ACCEPTED, Remembering, TimedErrors,
-    report_no_memory, report_words,
+    COMMAND_LINE, DEVICE, INPUT_FAULT, KEYS_USED_UP, NOT_ACCEPTED, report_no_memory, report_words,
 };
 use shown_names::ShownName;
 use std::alloc::{AllocError, Global};
 use std::fs::File;
-use std::io;
 use std::net::{Net, SocketAddr, TcpListener, TcpStream};
-use std::os::unix::net::UnixListener;
 use std::random::RandomSource;
 use std::rt::{Clock, Files};
 use std::sync::{Mutex, Wait};
@@ -64,8 +63,10 @@ where
 {
     let mut held = hold(rt, order.secret, order.rosters)?;
     let control = open_control(rt, order.state)?;
+    let memory = OwnMemory::open(rt);
+    let commands = commands_at(&control, &memory);
     let ended = match listen(rt, order.listen) {
-        Ok(listener) => run_held(rt, order, &mut held, listener, &control.listener),
+        Ok(listener) => run_held(rt, order, &mut held, listener, commands),
         Err(status) => Err(status),
     };
     control.close(rt);
@@ -78,34 +79,34 @@ fn run_held<R>(
     order: &GatewayOrder<'_>,
     held: &mut Held,
     listener: TcpListener,
-    control: &UnixListener,
+    commands: Commands<'_>,
 ) -> Result<u8, u8>
 where
     R: Files<File = File> + Print + Eprint + AllocGlobal + RandomSource + Clock,
     R: Net<Listener = TcpListener, Stream = TcpStream>,
     R: Threads + Wait + Sync,
 {
+    let output = Mutex::new(open_output(rt, order.log_file)?);
     let BegunClient { client, of } = begin_client(rt, order, held)?;
     let alloc = rt.alloc();
     let Ok(witnesses) = names_of(alloc, order.witnesses.as_slice()) else {
         return Err(report_no_memory(rt));
     };
-    let lines = Remembering::new(io::writer(rt));
-    let errors = TimedErrors::new(rt, alloc, true);
-    let output = Mutex::new(Output::new(lines, errors));
     let at = place_of(&listener, order.listen);
     let line = first_lines(alloc, order, &of, &client, at);
     output.lock(rt).line(line);
     let asked = gateway_process::GatewayOrder {
         client,
         digest: of.digest,
+        epoch: of.epoch,
         server: order.server.node,
         address: order.server.host,
         witnesses,
         every: order.every,
         reserve: order.reserve,
+        give_up: order.give_up.map(u64::from),
         listener,
-        control: Some(control),
+        control: Some(commands),
     };
     let ending = serve_programs(rt, alloc, rt, asked, &output);
     let line = String::from_str(alloc, last_line(ending));
@@ -207,7 +208,11 @@ where
 {
     let (first, last) = (order.first, order.last);
     if first < 1 || last > MAX_NODE || epoch.epoch < 1 {
-        return Err(report_words(rt, "--nodes is A-B, numbers from 1 to 64", COMMAND_LINE));
+        return Err(report_words(
+            rt,
+            "--nodes is N or A-B, numbers from 1 to 64",
+            COMMAND_LINE,
+        ));
     }
     match secret.begin_life(rt, first, last, epoch) {
         Ok((begun, masters)) => Ok((node_of(&begun), masters)),

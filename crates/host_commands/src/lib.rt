@@ -2,17 +2,17 @@
 #![tactic(auto)]
 
 mod ask;
+mod control;
 mod gateways;
 mod greeting;
 mod keys;
 mod opening;
 mod server;
-mod stop;
 mod witness;
 
 pub use ask::ask_witness;
+pub use control::{show_status, stop_process};
 pub use gateways::run_gateway;
 pub use keys::{make_rosters, make_secret, show_members};
 pub use server::run_server;
-pub use stop::stop_process;
 pub use witness::run_witness;

@@ -5,10 +5,16 @@ use node_keys::{KeyedNode, Masters};
 use party_files::{
     Control, HeldRoster, HeldSecret, read_rosters, report_control, report_rosters, report_secret,
 };
-use program_output::{DEVICE, INPUT_FAULT, NOT_ACCEPTED, report_no_memory, report_words};
+use peer_connections::{Commands, Output, OwnMemory};
+use program_output::{
+    DEVICE, INPUT_FAULT, LogFile, Logged, NOT_ACCEPTED, TimedErrors, report_file, report_no_memory,
+    report_words,
+};
 use std::fs::File;
+use std::io;
+use std::io::Printer;
 use std::net::{Net, SocketAddr, TcpListener, TcpStream};
-use std::rt::Files;
+use std::rt::{Clock, Files};
 use std::thread::Threads;
 
 /// The greatest height of a tree of keys.
@@ -57,6 +63,52 @@ where
     match Control::open(rt, rt.alloc(), folder) {
         Ok(control) => Ok(control),
         Err(fault) => Err(report_control(rt, folder, &fault)),
+    }
+}
+
+/// Where a party's process says what happens: its lines go to standard output, and others to standard error
+/// with the time in front.
+pub(crate) type PartyOutput<'a, R> = Output<
+    Logged<'a, R, Printer<'a, R>>,
+    Logged<'a, R, TimedErrors<'a, R>>,
+>;
+
+/// Where a party's process says what happens; where a log file is named all goes there, too. Where that file
+/// takes no lines it is said why, and the status for it is given.
+pub(crate) fn open_output<'a, R>(
+    rt: &'a R,
+    log_file: Option<&'a str>,
+) -> Result<PartyOutput<'a, R>, u8>
+where
+    R: Files<File = File> + Print + Eprint + AllocGlobal + Clock,
+{
+    let lines = Logged::new(io::writer(rt), open_log(rt, log_file)?);
+    let errors = Logged::new(
+        TimedErrors::new(rt, rt.alloc(), true),
+        open_log(rt, log_file)?,
+    );
+    Ok(Output::new(lines, errors))
+}
+
+/// Opens a log file, if one is named, or says what is wrong and gives the status for it.
+fn open_log<'a, R>(rt: &'a R, name: Option<&'a str>) -> Result<Option<LogFile<'a, R>>, u8>
+where
+    R: Files<File = File> + Eprint + AllocGlobal + Clock,
+{
+    let Some(name) = name else {
+        return Ok(None);
+    };
+    match LogFile::open(rt, rt.alloc(), rt, name) {
+        Ok(file) => Ok(Some(file)),
+        Err(error) => Err(report_file(rt, name, &error)),
+    }
+}
+
+/// Where a process takes commands: at its control socket, with what the system tells of its memory.
+pub(crate) fn commands_at<'a>(control: &'a Control, memory: &'a Option<OwnMemory>) -> Commands<'a> {
+    Commands {
+        listener: &control.listener,
+        memory: memory.as_ref(),
     }
 }
 

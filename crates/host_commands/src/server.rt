@@ -2,24 +2,23 @@
 
 ghost use Rattle.std.specs.Prelude.{◌≡◌, ℕ};
 
-use crate::opening::{Held, hold, keys_of, listen, open_control, place_of, roster_of};
+use crate::opening::{
+    Held, commands_at, hold, keys_of, listen, open_control, open_output, place_of, roster_of,
+};
 use authenticator::{Kind, MAX_NODE, Member};
 use command_line::{ServerOrder, ServerRequest, server_order};
 use host_keys::EpochRoster;
 use node_keys::{KeyedNode, Masters};
 use nodes::HonestServer;
 use party_files::{HeldRoster, HeldSecret, report_secret, stand_ins};
-use peer_connections::Output;
+use peer_connections::{Commands, OwnMemory};
 use program_output::{
-    COMMAND_LINE, DEVICE, INPUT_FAULT, KEYS_USED_UP, Remembering, TimedErrors, report_no_memory,
-    report_words,
+    COMMAND_LINE, DEVICE, INPUT_FAULT, KEYS_USED_UP, report_no_memory, report_words,
 };
 use server_process::{Ending, host_server};
 use std::alloc::{AllocError, Global};
 use std::fs::File;
-use std::io;
 use std::net::{Net, TcpListener, TcpStream};
-use std::os::unix::net::UnixListener;
 use std::random::RandomSource;
 use std::rt::{Clock, Files};
 use std::sync::{Mutex, Wait};
@@ -68,8 +67,10 @@ where
 {
     let mut held = hold(rt, order.secret, order.rosters)?;
     let control = open_control(rt, order.state)?;
+    let memory = OwnMemory::open(rt);
+    let commands = commands_at(&control, &memory);
     let ended = match listen_all(rt, order) {
-        Ok(listeners) => run_held(rt, order, &mut held, listeners, &control.listener),
+        Ok(listeners) => run_held(rt, order, &mut held, listeners, commands),
         Err(status) => Err(status),
     };
     control.close(rt);
@@ -95,27 +96,26 @@ fn run_held<R>(
     order: &ServerOrder<'_>,
     held: &mut Held,
     listeners: Listeners,
-    control: &UnixListener,
+    commands: Commands<'_>,
 ) -> Result<u8, u8>
 where
     R: Files<File = File> + Print + Eprint + AllocGlobal + RandomSource + Clock,
     R: Net<Listener = TcpListener, Stream = TcpStream>,
     R: Threads + Wait + Sync,
 {
+    let output = Mutex::new(open_output(rt, order.log_file)?);
     let BegunServer { server, of } = begin_server(rt, order, held)?;
     let alloc = rt.alloc();
-    let lines = Remembering::new(io::writer(rt));
-    let errors = TimedErrors::new(rt, alloc, true);
-    let output = Mutex::new(Output::new(lines, errors));
     let line = first_lines(alloc, order, &of, server.server().node().left(), &listeners);
     output.lock(rt).line(line);
     let Listeners { first, audits } = listeners;
     let asked = server_process::ServerOrder {
         server,
         digest: of.digest,
+        epoch: of.epoch,
         listener: first,
         audits,
-        control: Some(control),
+        control: Some(commands),
     };
     let ending = host_server(rt, alloc, rt, asked, &output);
     let line = last_line(alloc, ending);

@@ -2,17 +2,15 @@
 
 ghost use Rattle.std.specs.Prelude.{◌≡◌};
 
-use crate::opening::{hold_rosters, listen, open_control, place_of};
+use crate::opening::{commands_at, hold_rosters, listen, open_control, open_output, place_of};
 use command_line::{HostRefusal, Peer, WitnessOrder, WitnessRequest, witness_order};
 use party_files::{Control, FileShelf, HeldRoster, stand_ins};
-use peer_connections::Output;
+use peer_connections::OwnMemory;
 use program_output::{
-    COMMAND_LINE, DEVICE, INPUT_FAULT, NO_MEMORY, Remembering, TimedErrors, report_file,
-    report_no_memory, report_words,
+    COMMAND_LINE, DEVICE, INPUT_FAULT, NO_MEMORY, report_file, report_no_memory, report_words,
 };
 use std::alloc::{AllocError, Global};
 use std::fs::File;
-use std::io;
 use std::net::{Net, TcpListener, TcpStream};
 use std::random::RandomSource;
 use std::rt::{Clock, Files};
@@ -126,22 +124,23 @@ where
     ) else {
         return Err(report_no_memory(rt));
     };
-    let lines = Remembering::new(io::writer(rt));
-    let errors = TimedErrors::new(rt, alloc, true);
-    let output = Mutex::new(Output::new(lines, errors));
+    let output = Mutex::new(open_output(rt, order.log_file)?);
+    let memory = OwnMemory::open(rt);
+    let commands = control.map(|control| commands_at(control, &memory));
     let (epoch, at) = (held.of.epoch, place_of(&listener, order.listen));
     let line = format!(in alloc; "epoch {epoch}\nlistening {at}\n");
     output.lock(rt).line(line);
     let asked = witness_process::WitnessOrder {
         roster,
         digest: held.of.digest,
+        epoch,
         servers: servers.as_slice(),
         every: order.every,
         patience: order.patience,
         evidence: order.evidence,
         shelf,
         listener,
-        control: control.map(|control| &control.listener),
+        control: commands,
         workers: WORKERS,
     };
     let ending = watch_servers(rt, alloc, rt, asked, &output);

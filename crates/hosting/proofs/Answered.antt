@@ -9,7 +9,8 @@ use Rattle.rpc.specs.declared.reply.ReplyBody.TheVariants.{ProcedureUnavailable,
 use Rattle.commitment.specs.declared.refusal.Refusal.TheVariants.{NoMemory}
 use Rattle.node_logs.specs.Nodes.{NodeParts}
 use Rattle.peer_calls.specs.Calls.{Call}
-use Rattle.peer_calls.specs.NodeRequests.{NodeAsk, Null, Greet, Deliver, Acknowledge, Signed, Segment, node_ask_at}
+use Rattle.peer_calls.specs.NodeRequests.{NodeAsk, Null, Greet, Deliver, Acknowledge, Signed, Segment, Stands}
+use Rattle.peer_calls.specs.NodeRequests.{node_ask_at}
 use Rattle.hosting.specs.declared.host.Host.{Host}
 use Rattle.hosting.specs.Hosting.{AnswersCall, AnswersRead, IsAudited, IsReplied, MayDo, bare, host_ask_at}
 use Rattle.hosting.specs.Hosting.{no_memory, serves}
@@ -24,6 +25,7 @@ nothing_done n time (Deliver text) = (Err NoMemory, refl)
 nothing_done n time (Acknowledge text) = (Err NoMemory, refl)
 nothing_done n time (Signed after) = refl
 nothing_done n time (Segment first last) = refl
+nothing_done n time (Stands a) = refl
 
 -- memory was refused while the arguments were read
 unread : (h : Host) (n : NodeParts) (time : Timeval) (xid : ℕ) (text : List ℕ) (r : Result NodeAsk ReplyBody)

@@ -1,15 +1,17 @@
 -- What a server answers to the calls of others: what its node owes to each of them.
-use Rattle.std.specs.Prelude.{◌≡◌, ◌⊎◌, ◌==◌, ℕ, Bool, true, List, [], ◌++◌, Result, Ok, Err, Option, Some, None}
+use Rattle.std.specs.Prelude.{◌≡◌, ◌⊎◌, ◌==◌, ℕ, Bool, true, false, List, [], ◌++◌, Result, Ok, Err, Option, Some, None}
 use Rattle.std.specs.Prelude.{IsSomeAnd, if◌then◌else◌, option_map}
 use Rattle.nfs_items.specs.Timeval.{Timeval}
-use Rattle.xdr.specs.Item.{number_spelling, spelling}
+use Rattle.xdr.specs.Item.{Value, number_spelling, spelling}
 use Rattle.rpc.specs.Call.{message_at}
 use Rattle.rpc.specs.Reply.{reply_text}
 use Rattle.rpc.specs.declared.reply.Reply.{Reply}
 use Rattle.rpc.specs.declared.reply.ReplyBody.{ReplyBody}
 use Rattle.rpc.specs.declared.reply.ReplyBody.TheVariants.{ProcedureUnavailable, SystemError}
+use Rattle.authenticator.specs.Numbers.{number_in}
 use Rattle.authenticator.specs.Signed.{authenticator_item, authenticator_value}
 use Rattle.authenticator.specs.declared.member.LogVersion.{LogVersion}
+use Rattle.secure_log.specs.Log.{hash_at}
 use Rattle.secure_log.specs.declared.fault.SegmentFault.TheVariants as faults
 use Rattle.envelopes.specs.Acknowledgement.{ack_item, ack_value}
 use Rattle.envelopes.specs.Envelope.{envelope_item, envelope_value}
@@ -33,9 +35,11 @@ use Rattle.nodes.specs.Sides.{IsReplyAt}
 use Rattle.packets.specs.Packet.{answer_number}
 use Rattle.peer_calls.specs.Answers as answers
 use Rattle.peer_calls.specs.Answers.{Answered, Taken, delivered_text, greeted_text, segment_text, signed_text}
+use Rattle.peer_calls.specs.Answers.{stands_text}
 use Rattle.peer_calls.specs.declared.answers.Greeted.TheVariants.{Same, Other}
 use Rattle.peer_calls.specs.Calls.{Call, judged, success_text}
-use Rattle.peer_calls.specs.NodeRequests.{NodeAsk, Null, Greet, Deliver, Acknowledge, Signed, Segment, node_ask_at}
+use Rattle.peer_calls.specs.NodeRequests.{NodeAsk, Null, Greet, Deliver, Acknowledge, Signed, Segment, Stands}
+use Rattle.peer_calls.specs.NodeRequests.{node_ask_at}
 use Rattle.peer_calls.specs.declared.call.Asked.{Asked}
 use Rattle.peer_calls.specs.declared.call.TheConstants.{NODE_PROGRAM}
 use Rattle.peer_calls.specs.declared.call.Unasked.{Unasked}
@@ -105,6 +109,16 @@ pub data IsAudited (n : NodeParts) (first last : ℕ) (results : List ℕ) : Typ
   too_long : RefusesChallenge n first last faults.TooLong → results ≡ segment_text answers.TooLong
       → IsAudited n first last results
 
+-- An authenticator names this node, and the number for which its word stands and its hash are a pair of the log.
+pub record HasPair (n : NodeParts) (a : Value authenticator_item) : Type 0 where
+  pub is_named : a.0 ≡ n.node
+  pub is_pair : hash_at n.entries (number_in n.log_version a.1.0) ≡ Some a.1.1.0
+
+-- whether it does
+abbrev pub IsStood : NodeParts → Value authenticator_item → (results : List ℕ) → Type 0
+IsStood n a results =
+    (HasPair n a × (results ≡ stands_text true)) ⊎ ((¬ HasPair n a) × (results ≡ stands_text false))
+
 -- ---- what is asked
 
 -- whether a host serves a procedure: SEGMENT (5) where it gives segments, and all others
@@ -128,6 +142,7 @@ Does h n time (Acknowledge text) results n' =
 Does h n time (Signed after) results n' =
     (l : Option ℕ) × IsLastSigned (sender_of n) after l × IsSignedText (sender_of n) l results × (n' ≡ n)
 Does h n time (Segment first last) results n' = IsAudited n first last results × (n' ≡ n)
+Does h n time (Stands a) results n' = IsStood n a results × (n' ≡ n)
 
 -- Memory was refused while it was done, or for its results: what was done then stands, and nothing else was done.
 abbrev pub MayDo : NodeParts → Timeval → NodeAsk → NodeParts → Type 0
@@ -137,6 +152,7 @@ MayDo n time (Deliver text) n' = (r : Result (Received Receipt) Refusal) × Rece
 MayDo n time (Acknowledge text) n' = (r : Result AckTaken Refusal) × TakesAck n text r n'
 MayDo n time (Signed after) n' = n' ≡ n
 MayDo n time (Segment first last) n' = n' ≡ n
+MayDo n time (Stands a) n' = n' ≡ n
 
 -- ---- what is answered
 

@@ -1,7 +1,8 @@
 //! What is asked of a server is done, and its results are written.
 
-ghost use Rattle.std.specs.Prelude.{◌≡◌, ◌++◌, List, ℕ, None, OnErr, OnOk, Option, Some};
+ghost use Rattle.std.specs.Prelude.{◌≡◌, ◌↔◌, ◌++◌, IsTrue, List, ℕ, None, OnErr, OnOk, Option, Some};
 ghost use Rattle.xdr.specs.Writing.{Adds};
+ghost use Rattle.authenticator.specs.Signed.{authenticator_value};
 ghost use Rattle.envelopes.specs.Acknowledgement.{ack_in};
 ghost use Rattle.envelopes.specs.Envelope.{envelope_in};
 ghost use Rattle.commitment.specs.RefusalNumbers.{refusal_number};
@@ -9,11 +10,11 @@ ghost use Rattle.commitment.specs.Senders.LookUps.{IsLastSigned};
 ghost use Rattle.node_logs.specs.Nodes.{sender_of};
 ghost use Rattle.peer_calls.specs.Answers.{Taken, delivered_text};
 ghost use Rattle.peer_calls.specs.NodeRequests.{node_ask};
-ghost use Rattle.hosting.specs.Hosting.{Does, IsAckTold, IsAudited, IsDelivered, IsGreeted, IsNumber, IsShown};
-ghost use Rattle.hosting.specs.Hosting.{IsSignedText, MayDo, ack_spelling, audited_text, reply_spelling};
+ghost use Rattle.hosting.specs.Hosting.{Does, HasPair, IsAckTold, IsAudited, IsDelivered, IsGreeted, IsNumber};
+ghost use Rattle.hosting.specs.Hosting.{IsShown, IsSignedText, IsStood, MayDo, ack_spelling, audited_text, reply_spelling};
 
 use crate::host::Host;
-use authenticator::{LogVersion, is_same_hash};
+use authenticator::{Authenticator, LogVersion, is_same_hash};
 use commitment::{Received, Refusal};
 use envelopes::{AckRef, EnvelopeRef};
 use nfs_items::Time;
@@ -54,6 +55,7 @@ pub(crate) fn add_results(
         NodeRequest::Acknowledge(text) => add_ack_told(server.take_ack(alloc, text), out),
         NodeRequest::Signed(after) => add_signed(server.server(), alloc, after, out),
         NodeRequest::Segment(numbers) => add_segment(server.server(), alloc, numbers, out),
+        NodeRequest::Stands(authenticator) => add_stood(server.server(), authenticator, out),
     }
 }
 
@@ -196,4 +198,36 @@ fn add_answer(version: LogVersion, text: &[u8], out: &mut Vec<u8>) -> Result<(),
 {
     out.put_u32(DONE)?;
     write_answer_text(version, text, out)
+}
+
+/// Appends whether an authenticator's pair stands in the log.
+fn add_stood(
+    server: &ServerNode,
+    authenticator: &Authenticator,
+    out: &mut Vec<u8>,
+) -> Result<(), AllocError>
+    ensures { OnOk result ((results : List ℕ)
+        × IsStood server.now (authenticator_value authenticator.now) results
+        × (out.new.items ≡ out.old.items ++ results)) }
+{
+    if has_pair(server, authenticator) {
+        out.put_u32(0)
+    } else {
+        out.put_u32(1)
+    }
+}
+
+/// Whether an authenticator names this server, and its number and hash are a pair of the log. Its signature
+/// isn't looked at.
+fn has_pair(server: &ServerNode, authenticator: &Authenticator) -> bool
+    ensures { IsTrue result ↔ HasPair server.now (authenticator_value authenticator.now) }
+{
+    if authenticator.node != server.number() {
+        return false;
+    }
+    let number = authenticator.word.number(server.log_version());
+    match server.node().log().hash_at(number.get()) {
+        Some(hash) => is_same_hash(&hash, &authenticator.hash),
+        None => false,
+    }
 }

@@ -10,7 +10,7 @@ use command_line::{Request, parse};
 use evidence::{check_base_file, check_file, show_roster};
 use host_commands::{
     ask_witness, make_rosters, make_secret, run_gateway, run_server, run_witness, show_members,
-    stop_process,
+    show_status, stop_process,
 };
 use party_files::{DurableShelf, FileShelf};
 use program_output::{
@@ -94,6 +94,7 @@ fn main(rt: HostRuntime) -> ExitCode {
             run_witness(&rt, &request, DurableShelf::new(&rt, alloc))
         }
         Ok(Request::Stop(folder)) => stop_process(&rt, folder),
+        Ok(Request::Status(folder)) => show_status(&rt, folder),
         Ok(Request::Ask(request)) => ask_witness(&rt, &request),
         Err(error) => report_parse(&rt, words.as_slice(), &error),
     };

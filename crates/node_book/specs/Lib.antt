@@ -3,6 +3,7 @@ pub use Rattle.witness_book_laws.specs.witness_laws as witness_laws
 pub use Rattle.witness_book_laws.specs as witness_book_laws
 pub use Rattle.witness_spec.specs as witness_spec
 pub use Rattle.replay_jobs.specs as replay_jobs
+pub use Rattle.challenge.specs as challenge
 pub mod Events
 pub mod Replies
 pub mod Shares

@@ -25,10 +25,12 @@ mod same_replies;
 mod step;
 
 pub use book::Book;
+pub use challenge::{Base, Evidence};
 pub use event::{Event, EventOf, PlainEvent, Question};
 pub use refusal::Refusal;
 pub use replay_jobs::{
     Back, JobVerdict, PlainDone, PlainJob, ReplayDone, ReplayJob, SharedSegment, SharedState,
+    state_kind,
 };
 pub use reply::{Indication, PlainReply, Reply, ReplyOf};
 pub use step::Step;

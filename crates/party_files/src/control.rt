@@ -2,9 +2,9 @@
 
 use program_output::{COMMAND_LINE, DEVICE, report_file, report_name, report_no_memory};
 use shown_names::ShownName;
-use sockets::STOP;
+use sockets::{STATUS, STOP};
 use std::alloc::Global;
-use std::io::Write;
+use std::io::{Read, Write};
 use std::net::Net;
 use std::os::unix::fs::{FileTypeExt, PermissionsExt};
 use std::os::unix::net::{UnixListener, UnixStream};
@@ -18,7 +18,7 @@ const OTHERS: u32 = 0o077;
 /// The most bytes of the name of a Unix socket.
 const MAX_NAME: usize = 107;
 
-/// How many seconds a process that is told to stop may take to hear it.
+/// How many seconds a process may take to hear what it is told, and to answer.
 const PATIENCE: u64 = 10;
 
 /// Why there is no control socket in a folder.
@@ -105,6 +105,19 @@ pub fn tell_to_stop<R: Net>(rt: &R, alloc: Global, folder: &str) -> io::Result<(
     let mut stream = UnixStream::connect(rt, name.as_str())?;
     stream.set_write_timeout(Some(Duration::from_secs(PATIENCE)))?;
     stream.write_all(STOP)
+}
+
+/// Asks the process whose control socket lies in a folder how it is, and gives what it says: no line where it
+/// says nothing.
+pub fn ask_status<R: Net>(rt: &R, alloc: Global, folder: &str) -> io::Result<String> {
+    let name = format!(in alloc; "{folder}/control")?;
+    let mut stream = UnixStream::connect(rt, name.as_str())?;
+    stream.set_write_timeout(Some(Duration::from_secs(PATIENCE)))?;
+    stream.set_read_timeout(Some(Duration::from_secs(PATIENCE)))?;
+    stream.write_all(STATUS)?;
+    let mut said = String::new(alloc);
+    stream.read_to_string(&mut said)?;
+    Ok(said)
 }
 
 /// Says on standard error why there is no control socket in a folder, and gives the status for it.

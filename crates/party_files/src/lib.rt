@@ -7,7 +7,7 @@ mod rosters;
 mod secret;
 mod shelf;
 
-pub use control::{Control, ControlFault, report_control, tell_to_stop};
+pub use control::{Control, ControlFault, ask_status, report_control, tell_to_stop};
 pub use rosters::{
     HeldRoster, RostersFault, digest_of, epochs_of, read_rosters, report_rosters, roster_name,
 };

@@ -1,11 +1,14 @@
 -- What is asked of a node is read of its arguments, and of no others.
 -- Serves: node_requests_have_one_text.
 use Rattle.std.proofs.Common.{◌≡◌, ℕ, List, Ok, refl, sym, subst, arith}
-use Rattle.xdr.specs.Item.{IsBytes, hyper}
+use Rattle.xdr.specs.Item.{IsBytes, hyper, spelling}
+use Rattle.authenticator.specs.Signed.{authenticator_item}
 use Rattle.peer_calls.specs.Arguments.{greeting_item, numbers_item}
 use Rattle.peer_calls.specs.NodeRequests.{IsNodeAsk, NodeAsk, Null, Greet, Deliver, Acknowledge, Signed, Segment}
+use Rattle.peer_calls.specs.NodeRequests.{Stands}
 use Rattle.peer_calls.specs.NodeRequests.{node_arguments, node_ask_at, node_procedure}
-use Rattle.peer_calls.proofs.Read.{by_number, decoded, nothing_only, text_again, text_only, word_again, word_only}
+use Rattle.peer_calls.proofs.Read.{by_number, decoded, nothing_only, packet_only, text_again, text_only, word_again}
+use Rattle.peer_calls.proofs.Read.{word_only}
 
 -- it is read
 pub read : (a : NodeAsk) → IsNodeAsk a → node_ask_at (node_procedure a) (node_arguments a) ≡ Ok a
@@ -15,6 +18,8 @@ read (Deliver text) fits = rw (word_again 2 text (omega arith)) refl
 read (Acknowledge text) fits = rw (word_again 4 text (omega arith)) refl
 read (Signed after) fits = rw (text_again hyper after fits) refl
 read (Segment first last) fits = rw (text_again numbers_item (first, last) fits) refl
+read (Stands a) fits =
+    rw (word_again 1 (spelling authenticator_item a) (omega arith)) (rw (text_again authenticator_item a fits) refl)
 
 -- A procedure and its arguments are those of a request.
 abbrev AreOf : ℕ → List ℕ → NodeAsk → Type 0
@@ -43,4 +48,8 @@ only procedure bytes a bound e =
     (λ same e. let d = decoded _ _ a e in
     let t = text_only numbers_item d.0 bytes bound d.1 in
     subst (AreOf procedure bytes) (sym d.2) (same, t.0, t.1))
-    (λ e. absurd cc) e) e) e) e) e) e
+    (λ e. by_number procedure 6 _ _ a
+    (λ same e. let d = decoded _ _ a e in
+    let t = packet_only 1 authenticator_item d.0 bytes bound d.1 in
+    subst (AreOf procedure bytes) (sym d.2) (same, t.0, t.1))
+    (λ e. absurd cc) e) e) e) e) e) e) e

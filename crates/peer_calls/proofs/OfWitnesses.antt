@@ -3,7 +3,8 @@
 use Rattle.std.proofs.Common.{◌≡◌, ℕ, List, Ok, refl, sym, subst}
 use Rattle.xdr.specs.Item.{IsBytes, word}
 use Rattle.peer_calls.specs.Arguments.{greeting_item}
-use Rattle.peer_calls.specs.WitnessRequests.{IsWitnessAsk, WitnessAsk, Null, Greet, Deliver, Wanted, Told}
+use Rattle.peer_calls.specs.WitnessRequests.{IsWitnessAsk, WitnessAsk, Null, Greet, Deliver, Wanted, Told, Shown}
+use Rattle.peer_calls.specs.WitnessRequests.{Case}
 use Rattle.peer_calls.specs.WitnessRequests.{witness_arguments, witness_ask_at, witness_procedure}
 use Rattle.peer_calls.proofs.Read.{by_number, decoded, nothing_only, text_again, text_only}
 
@@ -14,6 +15,8 @@ read (Greet digest n) fits = rw (text_again greeting_item (digest, n) fits) refl
 read (Deliver packet) fits = refl
 read (Wanted n) fits = rw (text_again word n fits) refl
 read (Told n) fits = rw (text_again word n fits) refl
+read (Shown n) fits = rw (text_again word n fits) refl
+read (Case n) fits = rw (text_again word n fits) refl
 
 -- A procedure and its arguments are those of a request.
 abbrev AreOf : ℕ → List ℕ → WitnessAsk → Type 0
@@ -38,4 +41,10 @@ only procedure bytes a bound e =
     (λ e. by_number procedure 4 _ _ a
     (λ same e. let d = decoded _ _ a e in let t = text_only word d.0 bytes bound d.1 in
     subst (AreOf procedure bytes) (sym d.2) (same, t.0, t.1))
-    (λ e. absurd cc) e) e) e) e) e
+    (λ e. by_number procedure 5 _ _ a
+    (λ same e. let d = decoded _ _ a e in let t = text_only word d.0 bytes bound d.1 in
+    subst (AreOf procedure bytes) (sym d.2) (same, t.0, t.1))
+    (λ e. by_number procedure 6 _ _ a
+    (λ same e. let d = decoded _ _ a e in let t = text_only word d.0 bytes bound d.1 in
+    subst (AreOf procedure bytes) (sym d.2) (same, t.0, t.1))
+    (λ e. absurd cc) e) e) e) e) e) e) e

@@ -1,8 +1,8 @@
 -- What is read of arguments is what they spell.
 -- Serves: node_requests_have_one_text, witness_requests_have_one_text.
 use Rattle.std.proofs.Common.{◌≡◌, ℕ, Bool, true, false, cond, eqb, List, [], ◌∷◌, ◌++◌, Result, Ok, Err, Option}
-use Rattle.std.proofs.Common.{Some, None, refl, sym, ap, ◌∙◌}
-use Rattle.std.specs.Prelude.{◌<◌, ◌^◌, option_map}
+use Rattle.std.proofs.Common.{Some, None, refl, sym, ap, subst, ◌∙◌}
+use Rattle.std.specs.Prelude.{◌<◌, ◌^◌, option_and_then, option_map}
 use Rattle.std.proofs.lemmas.Bool.{eq-eqb, eqb-true}
 use Rattle.std.proofs.lemmas.List.{append-nil}
 use Rattle.xdr.specs.Item.{Fits, IsBytes, Item, Value, number_spelling, spelling, word_where}
@@ -59,20 +59,40 @@ pub word_again : (n : ℕ) (rest : List ℕ) → n < 2 ^ 32 → after_word n (nu
 word_again n rest small =
     ap rest_of (again (word_where (λ w. eqb w n)) n rest (small, rw (eqb-same n) refl))
 
--- and only after it
-pub word_only : (n : ℕ) (bytes rest : List ℕ) → IsBytes bytes → after_word n bytes ≡ Some rest
-    → bytes ≡ number_spelling 4 n ++ rest
-word_only n bytes rest bound e = at (read_at (word_where (λ w. eqb w n)) bytes) refl e
+-- and only after it, and it is of bytes
+pub word_front : (n : ℕ) (bytes rest : List ℕ) → IsBytes bytes → after_word n bytes ≡ Some rest
+    → (bytes ≡ number_spelling 4 n ++ rest) × IsBytes rest
+word_front n bytes rest bound e = at (read_at (word_where (λ w. eqb w n)) bytes) refl e
   where
     at : (r : Read ℕ) → read_at (word_where (λ w. eqb w n)) bytes ≡ r → rest_of r ≡ Some rest
-        → bytes ≡ number_spelling 4 n ++ rest
+        → (bytes ≡ number_spelling 4 n ++ rest) × IsBytes rest
     at (Ok x) is e =
         let t = takes (word_where (λ w. eqb w n)) bytes x bound is in
         let same : x.0 ≡ n = eqb-true x.0 n t.1.1 in
-        let left : x.1 ≡ rest = cc in
-        t.0.parts ∙ ap (λ (m : ℕ). number_spelling 4 m ++ x.1) same
-        ∙ ap (λ (r : List ℕ). number_spelling 4 n ++ r) left
+        let left : x.1 ≡ rest = cc in (
+          t.0.parts ∙ ap (λ (m : ℕ). number_spelling 4 m ++ x.1) same
+              ∙ ap (λ (r : List ℕ). number_spelling 4 n ++ r) left,
+          subst IsBytes left t.0.rest_fits,
+        )
     at (Err d) is e = absurd cc
+
+pub word_only : (n : ℕ) (bytes rest : List ℕ) → IsBytes bytes → after_word n bytes ≡ Some rest
+    → bytes ≡ number_spelling 4 n ++ rest
+word_only n bytes rest bound e = (word_front n bytes rest bound e).0
+
+-- a packet of an item is its number and its spelling
+pub packet_only : (n : ℕ) (i : Item) (v : Value i) (bytes : List ℕ) → IsBytes bytes
+    → option_and_then (text_at (text_of i)) (after_word n bytes) ≡ Some v
+    → (bytes ≡ number_spelling 4 n ++ spelling i v) × Fits i v
+packet_only n i v bytes bound e = at (after_word n bytes) refl e
+  where
+    at : (o : Option (List ℕ)) → after_word n bytes ≡ o → option_and_then (text_at (text_of i)) o ≡ Some v
+        → (bytes ≡ number_spelling 4 n ++ spelling i v) × Fits i v
+    at (Some rest) is e =
+        let f = word_front n bytes rest bound is in
+        let t = text_only i v rest f.1 e in
+        (f.0 ∙ ap (λ (r : List ℕ). number_spelling 4 n ++ r) t.0, t.1)
+    at None is e = absurd cc
 
 -- no bytes are none
 pub nothing_only : (bytes : List ℕ) (u : Unit {0}) → nothing_in bytes ≡ Some u → bytes ≡ []

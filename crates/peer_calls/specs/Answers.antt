@@ -1,15 +1,16 @@
 -- What a node and a witness answer: the results of their procedures (RFC 4506).
-use Rattle.std.specs.Prelude.{◌≡◌, ◌≢◌, ◌<◌, ◌-◌, ◌^◌, ℕ, ◌==◌, List, ◌++◌, length, map, take, Option, Some, None}
-use Rattle.std.specs.Prelude.{Result, Ok, Err, option_and_then, option_map}
-use Rattle.xdr.specs.Item.{Item, Value, array, fixed, hyper, number_spelling, optional, pair, spelling, word}
-use Rattle.xdr.specs.Item.{word_where}
+use Rattle.std.specs.Prelude.{◌≡◌, ◌≢◌, ◌<◌, ◌-◌, ◌^◌, ℕ, ◌==◌, Bool, true, false, List, ◌++◌, length, map, take}
+use Rattle.std.specs.Prelude.{Option, Some, None, Result, Ok, Err, option_and_then, option_map}
+use Rattle.xdr.specs.Item.{Fits, Item, Value, array, fixed, hyper, number_spelling, opaque, optional, pair}
+use Rattle.xdr.specs.Item.{spelling, word, word_where}
 use Rattle.xdr.specs.Reading.{Read, read_at}
 use Rattle.xdr.specs.Texts.Text.{IsText, Text, text_at}
 use Rattle.envelopes.specs.Acknowledgement.{ack_item, ack_text, ack_value}
 use Rattle.envelopes.specs.Envelope.{envelope_item, envelope_text, envelope_value}
 use Rattle.envelopes.specs.declared.acknowledgement.Ack.{Ack}
 use Rattle.envelopes.specs.declared.envelope.Envelope.{Envelope}
-use Rattle.peer_calls.specs.Arguments.{after_word, after_words, nothing_in, numbers_item, numbers_value, text_of}
+use Rattle.peer_calls.specs.Arguments.{after_word, after_words, hyper_text, nothing_in, numbers_item, numbers_value}
+use Rattle.peer_calls.specs.Arguments.{text_of}
 use Rattle.peer_calls.specs.declared.arguments.Numbers.{Numbers}
 use Rattle.peer_calls.specs.declared.answers.Greeted.{Greeted}
 use Rattle.peer_calls.specs.declared.answers.Greeted.TheVariants.{Same, Other}
@@ -18,6 +19,9 @@ use Rattle.peer_calls.specs.declared.answers.ResultsFault.TheVariants.{Garbage, 
 use Rattle.peer_calls.specs.declared.answers.Segment.{Segment}
 use Rattle.peer_calls.specs.declared.answers.Segment.TheVariants as code
 use Rattle.peer_calls.specs.declared.answers.Told.{Told}
+use Rattle.peer_calls.specs.declared.cases.Case.{Case}
+use Rattle.peer_calls.specs.declared.cases.Case.TheVariants as cases
+use Rattle.peer_calls.specs.declared.cases.TheConstants.{MAX_CASE}
 use Rattle.peer_calls.specs.declared.wanted.Wanted.{Wanted}
 use Rattle.peer_calls.specs.declared.delivered.Delivered.{Delivered}
 use Rattle.peer_calls.specs.declared.delivered.Delivered.TheVariants as delivered
@@ -139,6 +143,17 @@ segment_of (code.Answered packet) = Answered packet.now
 segment_of code.OutOfRange = OutOfRange
 segment_of code.TooLong = TooLong
 
+-- ---- STANDS
+
+-- 0: the pair stands in the log; 1: it doesn't
+abbrev pub stands_text : Bool → List ℕ
+stands_text true = number_spelling 4 0
+stands_text false = number_spelling 4 1
+
+abbrev pub stands_at : List ℕ → Option Bool
+stands_at bytes =
+    after_or (after_word 0 bytes) (alone true) (option_and_then (alone false) (after_word 1 bytes))
+
 -- ---- a witness's WANTED
 
 -- the packet of a message whose acknowledgement is awaited
@@ -173,3 +188,46 @@ told_text = text_of told_item
 
 abbrev pub told_value : Told → Value told_item
 told_value t = (t.standing, (t.open, (t.end, t.seconds)))
+
+-- ---- a witness's SHOWN
+
+-- the results, as those of SIGNED: the packet of an authenticator, if there is one
+abbrev pub shown_text : Option (List ℕ) → List ℕ
+shown_text text = optional_packet 1 text
+
+-- ---- a witness's CASE
+
+-- what a witness answers of its evidence of a node: that it has none; the bytes of the file; or how many bytes it
+-- has, where these are too many
+pub data NodeCase : Type 0 where
+  NoCase : NodeCase
+  Here : (file : List ℕ) → NodeCase
+  TooLarge : (bytes : ℕ) → NodeCase
+
+-- the bytes of a file, as opaque data (RFC 4506, section 4.10)
+abbrev pub file_item : Item
+file_item = opaque MAX_CASE
+
+-- its one text
+abbrev pub case_text : NodeCase → List ℕ
+case_text NoCase = number_spelling 4 0
+case_text (Here file) = number_spelling 4 1 ++ spelling file_item file
+case_text (TooLarge bytes) = number_spelling 4 2 ++ spelling hyper bytes
+
+-- what has such a text
+abbrev pub IsCase : NodeCase → Type 0
+IsCase NoCase = Unit {0}
+IsCase (Here file) = Fits file_item file
+IsCase (TooLarge bytes) = Fits hyper bytes
+
+abbrev pub case_at : List ℕ → Option NodeCase
+case_at bytes =
+    after_or (after_word 0 bytes) (alone NoCase)
+    (after_or (after_word 1 bytes) (λ rest. option_map Here (text_at (text_of file_item) rest))
+    (option_and_then (λ rest. option_map TooLarge (text_at hyper_text rest)) (after_word 2 bytes)))
+
+-- what the program's value says
+abbrev pub case_of : Case → NodeCase
+case_of cases.NoCase = NoCase
+case_of (cases.Here file) = Here file.now
+case_of (cases.TooLarge bytes) = TooLarge bytes

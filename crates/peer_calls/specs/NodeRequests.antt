@@ -1,7 +1,9 @@
 -- What is asked of a node.
-use Rattle.std.specs.Prelude.{ℕ, ◌==◌, List, [], ◌++◌, Result, Err, option_map, if◌then◌else◌}
-use Rattle.xdr.specs.Item.{Fits, hyper, number_spelling, spelling}
+use Rattle.std.specs.Prelude.{ℕ, ◌==◌, List, [], ◌++◌, Result, Err, Option, option_and_then, option_map}
+use Rattle.std.specs.Prelude.{if◌then◌else◌}
+use Rattle.xdr.specs.Item.{Fits, Value, hyper, number_spelling, spelling}
 use Rattle.xdr.specs.Texts.Text.{text_at}
+use Rattle.authenticator.specs.Signed.{authenticator_item, authenticator_text, authenticator_value}
 use Rattle.rpc.specs.declared.reply.ReplyBody.{ReplyBody}
 use Rattle.rpc.specs.declared.reply.ReplyBody.TheVariants.{ProcedureUnavailable}
 use Rattle.peer_calls.specs.declared.call.TheConstants.{NODE_PROGRAM}
@@ -12,7 +14,7 @@ use Rattle.peer_calls.specs.Arguments.{numbers_item, numbers_text, or_garbage}
 use Rattle.peer_calls.specs.Calls.{call_text}
 
 -- Nothing; whether it goes by this roster; to receive an envelope; to take an acknowledgement; its last
--- authenticator after a number; a segment of its log.
+-- authenticator after a number; a segment of its log; whether an authenticator's pair stands in its log.
 pub data NodeAsk : Type 0 where
   Null : NodeAsk
   Greet : (digest : List ℕ) → (node : ℕ) → NodeAsk
@@ -20,6 +22,7 @@ pub data NodeAsk : Type 0 where
   Acknowledge : (text : List ℕ) → NodeAsk
   Signed : (after : ℕ) → NodeAsk
   Segment : (first : ℕ) → (last : ℕ) → NodeAsk
+  Stands : (authenticator : Value authenticator_item) → NodeAsk
 
 -- the number of its procedure
 abbrev pub node_procedure : NodeAsk → ℕ
@@ -29,6 +32,7 @@ node_procedure (Deliver text) = 2
 node_procedure (Acknowledge text) = 3
 node_procedure (Signed after) = 4
 node_procedure (Segment first last) = 5
+node_procedure (Stands a) = 6
 
 -- the one text of its arguments
 abbrev pub node_arguments : NodeAsk → List ℕ
@@ -38,6 +42,7 @@ node_arguments (Deliver text) = number_spelling 4 2 ++ text
 node_arguments (Acknowledge text) = number_spelling 4 4 ++ text
 node_arguments (Signed after) = spelling hyper after
 node_arguments (Segment first last) = spelling numbers_item (first, last)
+node_arguments (Stands a) = number_spelling 4 1 ++ spelling authenticator_item a
 
 -- what has such a text
 abbrev pub IsNodeAsk : NodeAsk → Type 0
@@ -47,10 +52,15 @@ IsNodeAsk (Deliver text) = Unit {0}
 IsNodeAsk (Acknowledge text) = Unit {0}
 IsNodeAsk (Signed after) = Fits hyper after
 IsNodeAsk (Segment first last) = Fits numbers_item (first, last)
+IsNodeAsk (Stands a) = Fits authenticator_item a
 
 -- the call that asks it
 abbrev pub node_call : (xid : ℕ) → NodeAsk → List ℕ
 node_call xid a = call_text xid NODE_PROGRAM (node_procedure a) ++ node_arguments a
+
+-- the authenticator of a packet with one
+abbrev pub shown_at : List ℕ → Option (Value authenticator_item)
+shown_at bytes = option_and_then (text_at authenticator_text) (after_word 1 bytes)
 
 -- what the arguments of a procedure ask, or the refusal
 abbrev pub node_ask_at : (procedure : ℕ) → List ℕ → Result NodeAsk ReplyBody
@@ -63,6 +73,7 @@ node_ask_at procedure bytes =
     else if procedure == 4 then or_garbage (option_map Signed (text_at hyper_text bytes))
     else if procedure == 5
     then or_garbage (option_map (λ v. Segment v.0 v.1) (text_at numbers_text bytes))
+    else if procedure == 6 then or_garbage (option_map Stands (shown_at bytes))
     else Err ProcedureUnavailable
 
 -- what the program's value asks
@@ -73,3 +84,4 @@ node_ask (code.Deliver text) = Deliver text.now
 node_ask (code.Acknowledge text) = Acknowledge text.now
 node_ask (code.Signed a) = Signed a.number
 node_ask (code.Segment n) = Segment n.first n.last
+node_ask (code.Stands a) = Stands (authenticator_value a)

@@ -10,13 +10,16 @@ use Rattle.peer_calls.specs.declared.witness.WitnessRequest.TheVariants as code
 use Rattle.peer_calls.specs.Arguments.{greeting_item, greeting_text, node_text, nothing_in, or_garbage}
 use Rattle.peer_calls.specs.Calls.{call_text}
 
--- Nothing; whether it goes by this roster; to take a packet; what it awaits of a node; what it says of a node.
+-- Nothing; whether it goes by this roster; to take a packet; what it awaits of a node; what it says of a node;
+-- the last authenticator of a node that it was shown; its evidence of a node.
 pub data WitnessAsk : Type 0 where
   Null : WitnessAsk
   Greet : (digest : List ℕ) → (node : ℕ) → WitnessAsk
   Deliver : (packet : List ℕ) → WitnessAsk
   Wanted : (node : ℕ) → WitnessAsk
   Told : (node : ℕ) → WitnessAsk
+  Shown : (node : ℕ) → WitnessAsk
+  Case : (node : ℕ) → WitnessAsk
 
 -- the number of its procedure
 abbrev pub witness_procedure : WitnessAsk → ℕ
@@ -25,6 +28,8 @@ witness_procedure (Greet digest n) = 1
 witness_procedure (Deliver packet) = 2
 witness_procedure (Wanted n) = 3
 witness_procedure (Told n) = 4
+witness_procedure (Shown n) = 5
+witness_procedure (Case n) = 6
 
 -- the one text of its arguments
 abbrev pub witness_arguments : WitnessAsk → List ℕ
@@ -33,6 +38,8 @@ witness_arguments (Greet digest n) = spelling greeting_item (digest, n)
 witness_arguments (Deliver packet) = packet
 witness_arguments (Wanted n) = spelling word n
 witness_arguments (Told n) = spelling word n
+witness_arguments (Shown n) = spelling word n
+witness_arguments (Case n) = spelling word n
 
 -- what has such a text
 abbrev pub IsWitnessAsk : WitnessAsk → Type 0
@@ -41,6 +48,8 @@ IsWitnessAsk (Greet digest n) = Fits greeting_item (digest, n)
 IsWitnessAsk (Deliver packet) = Unit {0}
 IsWitnessAsk (Wanted n) = Fits word n
 IsWitnessAsk (Told n) = Fits word n
+IsWitnessAsk (Shown n) = Fits word n
+IsWitnessAsk (Case n) = Fits word n
 
 -- the call that asks it
 abbrev pub witness_call : (xid : ℕ) → WitnessAsk → List ℕ
@@ -55,6 +64,8 @@ witness_ask_at procedure bytes =
     else if procedure == 2 then Ok (Deliver bytes)
     else if procedure == 3 then or_garbage (option_map Wanted (text_at node_text bytes))
     else if procedure == 4 then or_garbage (option_map Told (text_at node_text bytes))
+    else if procedure == 5 then or_garbage (option_map Shown (text_at node_text bytes))
+    else if procedure == 6 then or_garbage (option_map Case (text_at node_text bytes))
     else Err ProcedureUnavailable
 
 -- what the program's value asks
@@ -64,3 +75,5 @@ witness_ask (code.Greet g) = Greet g.digest g.node
 witness_ask (code.Deliver packet) = Deliver packet.now
 witness_ask (code.Wanted n) = Wanted n.node
 witness_ask (code.Told n) = Told n.node
+witness_ask (code.Shown n) = Shown n.node
+witness_ask (code.Case n) = Case n.node

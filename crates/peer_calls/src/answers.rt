@@ -7,7 +7,7 @@ ghost use Rattle.xdr.specs.Reading.{GivesUnless};
 ghost use Rattle.xdr.specs.ReadFault.{xdr_fault};
 ghost use Rattle.peer_calls.specs.Arguments.{node_text, text_of};
 ghost use Rattle.peer_calls.specs.Answers.{GivesResults, alone, greeted_at, optional_packet_at, segment_at};
-ghost use Rattle.peer_calls.specs.Answers.{segment_of, signed_at, told_item, told_text, told_value};
+ghost use Rattle.peer_calls.specs.Answers.{segment_of, signed_at, stands_at, told_item, told_text, told_value};
 
 use crate::arguments::{after_word, after_words};
 use std::alloc::Global;
@@ -154,7 +154,7 @@ pub fn read_greeted(alloc: Global, bytes: &[u8]) -> Result<Greeted, ResultsFault
 }
 
 /// A value, where nothing follows.
-fn alone<T: Drop>(value: T, rest: &[u8]) -> Result<T, ResultsFault>
+pub(crate) fn alone<T: Drop>(value: T, rest: &[u8]) -> Result<T, ResultsFault>
     ensures { GivesResults (λ x. x) (alone value rest.now) result }
 {
     if rest.is_empty() {
@@ -164,7 +164,8 @@ fn alone<T: Drop>(value: T, rest: &[u8]) -> Result<T, ResultsFault>
     }
 }
 
-/// The results of SIGNED: the text of the authenticator, if there is one, which isn't looked at. Takes no memory.
+/// The results of SIGNED, and of a witness's SHOWN: the text of the authenticator, if there is one, which isn't looked
+/// at. Takes no memory.
 pub fn read_signed(bytes: &[u8]) -> Result<Option<&[u8]>, ResultsFault>
     ensures { GivesResults (λ a. option_map (λ t. t.now) a) (signed_at bytes.now) result }
 {
@@ -200,6 +201,19 @@ pub fn read_segment(bytes: &[u8]) -> Result<Segment<'_>, ResultsFault>
     }
     match after_word(2, bytes) {
         Some(rest) => alone(Segment::TooLong, rest),
+        None => Err(ResultsFault::Garbage),
+    }
+}
+
+/// The results of STANDS: whether the pair stands in the log. Takes no memory.
+pub fn read_stands(bytes: &[u8]) -> Result<bool, ResultsFault>
+    ensures { GivesResults (λ b. b) (stands_at bytes.now) result }
+{
+    if let Some(rest) = after_word(0, bytes) {
+        return alone(true, rest);
+    }
+    match after_word(1, bytes) {
+        Some(rest) => alone(false, rest),
         None => Err(ResultsFault::Garbage),
     }
 }

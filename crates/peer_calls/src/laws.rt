@@ -1,8 +1,9 @@
 //! What holds of all calls of the two programs.
 
-ghost use Rattle.std.specs.Prelude.{◌≡◌, ◌<◌, ◌^◌, ◌++◌, List, ℕ, Ok};
+ghost use Rattle.std.specs.Prelude.{◌≡◌, ◌<◌, ◌^◌, ◌++◌, Bool, List, ℕ, Ok, Some};
 ghost use Rattle.xdr.specs.Item.{IsBytes};
 ghost use Rattle.rpc.specs.Call.{message_at};
+ghost use Rattle.peer_calls.specs.Answers.{IsCase, NodeCase, case_at, case_text, stands_at, stands_text};
 ghost use Rattle.peer_calls.specs.Calls.{call_text, judged};
 ghost use Rattle.peer_calls.specs.NodeRequests.{IsNodeAsk, NodeAsk, node_arguments, node_ask_at, node_procedure};
 ghost use Rattle.peer_calls.specs.WitnessRequests.{IsWitnessAsk, WitnessAsk, witness_arguments, witness_ask_at};
@@ -31,4 +32,10 @@ pub fn witness_requests_have_one_text()
     ensures only { (procedure : ℕ) (bytes : List ℕ) (a : WitnessAsk) → IsBytes bytes →
         witness_ask_at procedure bytes ≡ Ok a →
         (procedure ≡ witness_procedure a) × (bytes ≡ witness_arguments a) × IsWitnessAsk a }
+{}
+
+/// What is answered to STANDS and to CASE is read as what it is.
+pub fn answers_are_read_as_written()
+    ensures stands { (b : Bool) → stands_at (stands_text b) ≡ Some b }
+    ensures case { (c : NodeCase) → IsCase c → case_at (case_text c) ≡ Some c }
 {}

@@ -5,6 +5,7 @@
 mod answers;
 mod arguments;
 mod call;
+mod cases;
 mod delivered;
 pub mod laws;
 mod node;
@@ -14,11 +15,13 @@ mod write;
 
 pub use answers::{
     Greeted, ResultNumber, ResultsFault, Segment, Told, read_greeted, read_segment, read_signed,
+    read_stands,
 };
 pub use arguments::{After, Greeting, NodeNumber, Numbers};
 pub use call::{Asked, NODE_PROGRAM, Unasked, VERSION, WITNESS_PROGRAM, judge_call, read_results};
+pub use cases::{Case, MAX_CASE, read_case};
 pub use delivered::{Delivered, read_delivered};
-pub use node::{NodeRequest, read_node_request, write_node_request};
+pub use node::{NodeRequest, read_node_request, read_shown, write_node_request};
 pub use wanted::{Wanted, WantedMessage};
 pub use witness::{WitnessRequest, read_witness_request, write_witness_request};
 pub use write::write_call;

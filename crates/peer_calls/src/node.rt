@@ -1,20 +1,28 @@
 //! What is asked of a node.
 
-ghost use Rattle.std.specs.Prelude.{◌≡◌, ◌++◌};
+ghost use Rattle.std.specs.Prelude.{◌≡◌, ◌++◌, IfOk, option_map};
+ghost use Rattle.xdr.specs.Item.{number_spelling, spelling};
 ghost use Rattle.xdr.specs.Writing.{Adds, Appends};
 ghost use Rattle.peer_calls.specs.Arguments.{GivesAsk};
 ghost use Rattle.peer_calls.specs.Calls.{call_text};
+ghost use Rattle.authenticator.specs.Signed.{authenticator_item, authenticator_value};
+ghost use Rattle.peer_calls.specs.Arguments.{or_garbage};
 ghost use Rattle.peer_calls.specs.NodeRequests.{node_arguments, node_ask, node_ask_at, node_call, node_procedure};
+ghost use Rattle.peer_calls.specs.NodeRequests.{shown_at};
 
-use crate::arguments::{After, Greeting, Numbers, read_arguments, read_nothing, read_packet};
+use crate::arguments::{
+    After, Greeting, Numbers, after_word, read_arguments, read_nothing, read_packet,
+};
 use crate::call::NODE_PROGRAM;
 use crate::write::{add_greeting, add_numbers, add_packet, write_call};
+use authenticator::Authenticator;
 use rpc::ReplyBody;
 use std::alloc::{AllocError, Global};
+use xdr::texts::{TextFault, read_text};
 use xdr::{Writer, all_or_nothing};
 
 /// What is asked of a node: the procedures of its program, by rising numbers from 0.
-#[derive(Clone, Copy, Debug)]
+#[derive(Drop)]
 pub enum NodeRequest<'a> {
     /// Nothing.
     Null,
@@ -28,14 +36,18 @@ pub enum NodeRequest<'a> {
     Signed(After),
     /// The segment of the log from the first to the last of these numbers.
     Segment(Numbers),
+    /// Whether the pair of number and hash of this authenticator stands in the log.
+    Stands(Authenticator),
 }
 
-/// The number of a packet with an envelope, and of one with an acknowledgement.
+/// The number of a packet with an authenticator, of one with an envelope, and of one with an acknowledgement.
+const AUTHENTICATOR: u32 = 1;
+
 const ENVELOPE: u32 = 2;
 
 const ACK: u32 = 4;
 
-/// What the arguments of a procedure ask of a node: `ProcedureUnavailable` where the procedure is above 5, else
+/// What the arguments of a procedure ask of a node: `ProcedureUnavailable` where the procedure is above 6, else
 /// `GarbageArguments` where they don't decode, or more follows. DELIVER and ACKNOWLEDGE decode by their first word
 /// alone: whether a text follows is the node's to say. `SystemError` comes only where a growth was refused.
 pub fn read_node_request<'a>(
@@ -70,7 +82,37 @@ pub fn read_node_request<'a>(
             Ok(numbers) => Ok(NodeRequest::Segment(numbers)),
             Err(refusal) => Err(refusal),
         },
+        6 => match read_authenticator(alloc, arguments) {
+            Ok(authenticator) => Ok(NodeRequest::Stands(authenticator)),
+            Err(refusal) => Err(refusal),
+        },
         _ => Err(ReplyBody::ProcedureUnavailable),
+    }
+}
+
+/// The authenticator of a packet with one, None where the bytes are no such packet. Its signature isn't checked.
+/// `AllocError` comes only where a growth was refused.
+pub fn read_shown(alloc: Global, packet: &[u8]) -> Result<Option<Authenticator>, AllocError>
+    ensures { IfOk result (λ a. option_map authenticator_value a ≡ shown_at packet.now) }
+{
+    let Some(text) = after_word(AUTHENTICATOR, packet) else {
+        return Ok(None);
+    };
+    match read_text::<Authenticator>(alloc, text) {
+        Ok(authenticator) => Ok(Some(authenticator)),
+        Err(TextFault::NotAText) => Ok(None),
+        Err(TextFault::NoMemory) => Err(AllocError),
+    }
+}
+
+/// The authenticator of the packet that the arguments are.
+fn read_authenticator(alloc: Global, arguments: &[u8]) -> Result<Authenticator, ReplyBody>
+    ensures { GivesAsk authenticator_value (or_garbage (shown_at arguments.now)) result }
+{
+    match read_shown(alloc, arguments) {
+        Ok(Some(authenticator)) => Ok(authenticator),
+        Ok(None) => Err(ReplyBody::GarbageArguments),
+        Err(AllocError) => Err(ReplyBody::SystemError),
     }
 }
 
@@ -86,6 +128,7 @@ impl NodeRequest<'_> {
             NodeRequest::Acknowledge(_) => 3,
             NodeRequest::Signed(_) => 4,
             NodeRequest::Segment(_) => 5,
+            NodeRequest::Stands(_) => 6,
         }
     }
 }
@@ -121,5 +164,15 @@ fn add_arguments(request: &NodeRequest<'_>, out: &mut Vec<u8>) -> Result<(), All
         NodeRequest::Acknowledge(text) => add_packet(ACK, text, out),
         NodeRequest::Signed(after) => out.put_u64(after.number),
         NodeRequest::Segment(numbers) => add_numbers(numbers, out),
+        NodeRequest::Stands(authenticator) => add_shown(authenticator, out),
     }
+}
+
+/// Appends the packet of an authenticator. Where memory is refused, a part of it may stand.
+fn add_shown(authenticator: &Authenticator, out: &mut Vec<u8>) -> Result<(), AllocError>
+    ensures { Adds (number_spelling 4 1 ++ spelling authenticator_item (authenticator_value authenticator.now))
+        out.old.items result out.new.items }
+{
+    out.put_u32(AUTHENTICATOR)?;
+    authenticator.write(out)
 }

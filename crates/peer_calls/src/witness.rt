@@ -28,9 +28,13 @@ pub enum WitnessRequest<'a> {
     Wanted(NodeNumber),
     /// What it says of a node.
     Told(NodeNumber),
+    /// The authenticator of a node with the greatest number of those that it was shown.
+    Shown(NodeNumber),
+    /// Its evidence of a node.
+    Case(NodeNumber),
 }
 
-/// What the arguments of a procedure ask of a witness: `ProcedureUnavailable` where the procedure is above 4, else
+/// What the arguments of a procedure ask of a witness: `ProcedureUnavailable` where the procedure is above 6, else
 /// `GarbageArguments` where they don't decode, or more follows. The arguments of DELIVER are the packet, whatever
 /// they are. `SystemError` comes only where a growth was refused.
 pub fn read_witness_request<'a>(
@@ -58,6 +62,14 @@ pub fn read_witness_request<'a>(
             Ok(node) => Ok(WitnessRequest::Told(node)),
             Err(refusal) => Err(refusal),
         },
+        5 => match read_arguments(alloc, arguments) {
+            Ok(node) => Ok(WitnessRequest::Shown(node)),
+            Err(refusal) => Err(refusal),
+        },
+        6 => match read_arguments(alloc, arguments) {
+            Ok(node) => Ok(WitnessRequest::Case(node)),
+            Err(refusal) => Err(refusal),
+        },
         _ => Err(ReplyBody::ProcedureUnavailable),
     }
 }
@@ -73,6 +85,8 @@ impl WitnessRequest<'_> {
             WitnessRequest::Deliver(_) => 2,
             WitnessRequest::Wanted(_) => 3,
             WitnessRequest::Told(_) => 4,
+            WitnessRequest::Shown(_) => 5,
+            WitnessRequest::Case(_) => 6,
         }
     }
 }
@@ -107,5 +121,7 @@ fn add_arguments(request: &WitnessRequest<'_>, out: &mut Vec<u8>) -> Result<(), 
         WitnessRequest::Deliver(packet) => out.extend_from_slice(packet),
         WitnessRequest::Wanted(node) => out.put_u32(node.node),
         WitnessRequest::Told(node) => out.put_u32(node.node),
+        WitnessRequest::Shown(node) => out.put_u32(node.node),
+        WitnessRequest::Case(node) => out.put_u32(node.node),
     }
 }

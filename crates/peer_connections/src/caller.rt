@@ -49,6 +49,14 @@ pub struct Answer {
 }
 
 impl Answer {
+    /// A record as the answer to the call with this transaction id. `NoSuccess` where it isn't that.
+    pub(crate) fn to_call(xid: u32, record: Vec<u8>) -> Result<Answer, CallFault> {
+        if read_results(xid, &record).is_none() {
+            return Err(CallFault::NoSuccess);
+        }
+        Ok(Answer { xid, record })
+    }
+
     /// Its results.
     pub fn results(&self) -> &[u8] {
         read_results(self.xid, &self.record).unwrap_or(&[])
@@ -121,9 +129,6 @@ impl PeerCaller {
         let Ok(Some(record)) = self.reader.next(self.alloc, &UpTo(most)) else {
             return Err(CallFault::Broken);
         };
-        if read_results(xid, &record).is_none() {
-            return Err(CallFault::NoSuccess);
-        }
-        Ok(Answer { xid, record })
+        Answer::to_call(xid, record)
     }
 }

@@ -1,6 +1,7 @@
 //! The stream of a peer.
 
 use crate::phase::{Phase, is_serving};
+use crate::seats::Seats;
 use std::io::{self, Read, Write};
 use std::net::TcpStream;
 use std::sync::{Mutex, Wait};
@@ -53,8 +54,16 @@ impl Waiting {
     }
 }
 
-/// A peer's stream. A read finds its end once the process is to end and no record has begun, or where nothing came
-/// for long between records; it fails where a record takes too long. The last error is kept.
+/// A connection among the places of its process.
+#[derive(Clone, Copy)]
+struct Seat<'a> {
+    seats: &'a Seats,
+    id: u64,
+}
+
+/// A peer's stream. A read finds its end once the process is to end and no record has begun, where nothing came for
+/// long between records, or once the connection has lost its place; it fails where a record takes too long. The last
+/// error is kept.
 #[derive(Drop)]
 pub struct PeerStream<'a, R, T> {
     rt: &'a R,
@@ -62,6 +71,7 @@ pub struct PeerStream<'a, R, T> {
     stream: &'a TcpStream,
     phase: &'a Mutex<Phase>,
     waiting: &'a Mutex<Waiting>,
+    seat: Option<Seat<'a>>,
     last: Option<io::Error>,
 }
 
@@ -87,13 +97,28 @@ impl<'a, R: Wait, T: std::time::Clock> PeerStream<'a, R, T> {
             stream,
             phase,
             waiting,
+            seat: None,
             last: None,
         }
+    }
+
+    /// The same of a connection with this number, which may lose its place.
+    pub fn among(mut self, seats: &'a Seats, id: u64) -> PeerStream<'a, R, T> {
+        self.seat = Some(Seat { seats, id });
+        self
     }
 
     /// The last error, if there was one.
     pub fn last(&self) -> Option<io::Error> {
         self.last
+    }
+
+    /// Whether the connection has lost its place.
+    fn is_displaced(&self) -> bool {
+        match &self.seat {
+            Some(seat) => !seat.seats.holds(self.rt, self.clock, seat.id),
+            None => false,
+        }
     }
 
     /// Keeps an error, and returns it.
@@ -140,7 +165,7 @@ impl<'a, R: Wait, T: std::time::Clock> Read for PeerStream<'a, R, T> {
             if is_late && is_within {
                 return Err(self.noted(io::Error::from(io::ErrorKind::TimedOut)));
             }
-            if is_late || (!is_within && !is_serving(self.rt, self.phase)) {
+            if is_late || self.is_displaced() || (!is_within && !is_serving(self.rt, self.phase)) {
                 return Ok(0);
             }
             match (&mut self.stream).read(buf) {

@@ -1,5 +1,6 @@
 //! The way to a server on another host.
 
+use crate::client::RemoteClient;
 use std::alloc::Global;
 use thiserror::Error;
 
@@ -34,16 +35,18 @@ pub enum CourierFault {
 pub trait Courier {
     /// Carries the text of a call's envelope to the server, and writes what comes back, in place of what the
     /// bytes were: what is to be an acknowledgement's text, and what is to be the text of a reply's envelope.
-    /// A call that is carried again is to be answered as it was at first.
+    /// A call that is carried again is to be answered as it was at first. The client is the one that calls, as
+    /// it stays while the call is carried: a courier that waits may show it to others.
     fn carry(
         &mut self,
         alloc: Global,
+        client: &RemoteClient,
         call: &[u8],
         ack: &mut Vec<u8>,
         reply: &mut Vec<u8>,
     ) -> Result<Carried, CourierFault>;
 
-    /// Carries the text of the acknowledgement of a reply to the server. One that was carried before does no
-    /// harm.
+    /// Takes over the text of the acknowledgement of a reply, to carry it to the server, now or before the next
+    /// call. After a fault it wasn't taken over. One that was carried before does no harm.
     fn acknowledge(&mut self, alloc: Global, receipt: &[u8]) -> Result<(), CourierFault>;
 }

@@ -82,7 +82,13 @@ fn make_round<C: Courier>(
     ensures stops { IfErr result (λ f. StopsRound client.old pending.now.number f client.new) }
     ensures size { IfOk result FitsReply }
 {
-    let carried = match courier.carry(alloc, &texts.call, &mut texts.ack, &mut texts.reply) {
+    let carried = match courier.carry(
+        alloc,
+        client,
+        &texts.call,
+        &mut texts.ack,
+        &mut texts.reply,
+    ) {
         Ok(carried) => carried,
         Err(fault) => return Err(CallFault::Uncarried(fault)),
     };

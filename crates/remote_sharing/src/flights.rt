@@ -161,6 +161,20 @@ impl<P: Presence> Flights<P> {
         }
     }
 
+    /// Whether calls of these bytes are in flight, and the connections that they belong to have all ended.
+    pub fn are_left(&self, bytes: &[u8]) -> bool {
+        let mut are_left = false;
+        for flight in &self.flights {
+            if flight.bytes.as_slice() == bytes {
+                if !flight.presence.has_ended() {
+                    return false;
+                }
+                are_left = true;
+            }
+        }
+        are_left
+    }
+
     /// A connection's part in a call of these bytes: in one whose connection has ended, or in a new one. Where memory
     /// is refused nothing has changed.
     pub(crate) fn claim(

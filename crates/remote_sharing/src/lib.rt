@@ -5,4 +5,5 @@ mod flights;
 mod shared;
 
 pub use flights::{Flights, Presence};
+pub use remote::{AcceptFault, CallFault, Carried, Courier, CourierFault, Remote, RemoteClient};
 pub use shared::{SharedRemote, serve_shared};

@@ -2,8 +2,8 @@
 use Rattle.std.specs.Prelude.{◌+◌, ◌≤◌, length}
 use Rattle.std.specs.FinMap.{len}
 use Rattle.std.specs.Arc.{arc_value}
-use Rattle.state_machine.specs.declared.states.received.TheConstants.{MAX_RECEIVED}
-use Rattle.state_machine.specs.declared.states.sends.TheConstants.{MAX_SENDS}
+use Rattle.replay.specs.state_machine.declared.states.received.TheConstants.{MAX_RECEIVED}
+use Rattle.replay.specs.state_machine.declared.states.sends.TheConstants.{MAX_SENDS}
 use Rattle.replay.specs.replay_spec.Placed.{places_in}
 use Rattle.replay.specs.replay_spec.Replay.{verdict_of}
 use Rattle.replay.specs.replay_spec.Replay as spec

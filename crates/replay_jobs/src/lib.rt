@@ -11,6 +11,6 @@ mod verdict;
 pub use done::{PlainDone, ReplayDone};
 pub use job::{Back, ReplayJob};
 pub use plain::PlainJob;
-pub use replay::SharedState;
+pub use replay::{SharedState, state_kind};
 pub use segment::SharedSegment;
 pub use verdict::JobVerdict;

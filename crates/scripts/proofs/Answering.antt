@@ -6,14 +6,14 @@ use Rattle.std.specs.Prelude.{IfOk}
 use Rattle.authenticator.specs.Numbers.{number_in}
 use Rattle.authenticator.specs.declared.authenticator.Authenticator.{Authenticator}
 use Rattle.authenticator.specs.declared.member.LogVersion.{LogVersion}
-use Rattle.witness_service.specs.Claims.{Claim, KeepsOne}
+use Rattle.witness_calls.specs.witness_service.Claims.{Claim, KeepsOne}
 use Rattle.witness_spec.specs.Events.{Event, Forward, Ask, ItsIndication, ItsChallenges, ItsEvidence}
 use Rattle.witness_spec.specs.Events as e
 use Rattle.evidence_spec.specs.Evidence.{EvidenceParts}
 use Rattle.witness_spec.specs.Refusals.{NoMemory, refusal_number}
 use Rattle.witness_spec.specs.Replies.{Reply, refused, is_want, is_want_of_memory}
 use Rattle.witness_spec.specs.Replies as r
-use Rattle.node_book.specs.Replies.{indication_in, refusal_in}
+use Rattle.witness_books.specs.node_book.Replies.{indication_in, refusal_in}
 use Rattle.witness_calls.specs.Telling.{AsksOpen, Extends, Hears, IsSaid, Says, Tells, Withholds}
 use Rattle.witness_calls.specs.Telling.{wants_memory}
 use Rattle.witness_calls.specs.declared.said.Said.{Said}

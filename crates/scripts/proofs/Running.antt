@@ -8,8 +8,8 @@ use Rattle.std.proofs.KnownBytes.{Appends-nil, Appends-trans}
 use Rattle.std.proofs.lemmas.Grind.{flat_map-append}
 use Rattle.std.specs.Io.KnownBytes.{Appends}
 use Rattle.std.specs.List.{AllByRecursion}
-use Rattle.witness_service.specs.Claims.{Claim, Held, claims_of}
-use Rattle.witness_service.specs.declared.shared.ReceiptFault.{ReceiptFault}
+use Rattle.witness_calls.specs.witness_service.Claims.{Claim, Held, claims_of}
+use Rattle.witness_calls.specs.witness_service.declared.shared.ReceiptFault.{ReceiptFault}
 use Rattle.witness_calls.specs.Closing.{IsFaulty}
 use Rattle.witness_spec.specs.Starting.{KnownBase}
 use Rattle.scripts.specs.Ends.{AreJoined, Began, Closes, IsEnd, IsOneBase, IsScriptEnd, IsWatch, LeavesScript, Plays, Watch}

@@ -2,9 +2,9 @@
 use Rattle.std.specs.Prelude.{◌≡◌, ℕ, ⊤, List, [], ◌∷◌, ◌++◌, Option, Some, None, codes}
 use Rattle.std.specs.Io.KnownBytes.{Appends, IsAtEnd}
 use Rattle.std.specs.List.{flat_map, AllByRecursion}
-use Rattle.witness_service.specs.Claims.{Claim, claims_of}
-use Rattle.witness_service.specs.declared.shared.ReceiptFault.{ReceiptFault}
-use Rattle.witness_service.specs.declared.shared.ReceiptFault.TheVariants as faults
+use Rattle.witness_calls.specs.witness_service.Claims.{Claim, claims_of}
+use Rattle.witness_calls.specs.witness_service.declared.shared.ReceiptFault.{ReceiptFault}
+use Rattle.witness_calls.specs.witness_service.declared.shared.ReceiptFault.TheVariants as faults
 use Rattle.witness_books.specs.Books.{bases_in, beginning_of}
 use Rattle.witness_spec.specs.Starting.{KnownBase}
 use Rattle.witness_calls.specs.Closing.{IsFaulty, IsOneRun, passes_in}

@@ -1,7 +1,7 @@
 -- The line of what a witness said, which is that of any reply that says it.
 use Rattle.std.specs.Prelude.{◌≡◌, ℕ, false, List, ◌++◌, codes, decimal}
 use Rattle.witness_spec.specs.Refusals.{refusal_number}
-use Rattle.node_book.specs.Replies.{indication_in, refusal_in}
+use Rattle.witness_books.specs.node_book.Replies.{indication_in, refusal_in}
 use Rattle.witness_calls.specs.declared.said.Said.{Said}
 use Rattle.witness_calls.specs.declared.said.Said.TheVariants as s
 use Rattle.witness_calls.specs.Telling.{wants_memory, word_of}

@@ -8,7 +8,7 @@ use Rattle.authenticator.specs.declared.authenticator.Authenticator.{Authenticat
 use Rattle.authenticator.specs.declared.member.LogVersion.{LogVersion}
 use Rattle.authenticator.specs.declared.member.LogVersion.TheVariants.{One}
 use Rattle.authenticator.specs.declared.member.Member.{Member}
-use Rattle.witness_service.specs.Claims.{Claim}
+use Rattle.witness_calls.specs.witness_service.Claims.{Claim}
 use Rattle.witness_spec.specs.Events.{Event, Audit, Forward, Ask, ItsIndication, ItsChallenges, ItsEvidence}
 use Rattle.witness_spec.specs.Refusals.{refusal_number}
 use Rattle.witness_spec.specs.Replies.{Reply, Indication, Challenge}

@@ -2,7 +2,7 @@
 
 ghost use Rattle.std.specs.Prelude.{◌≡◌, ◌++◌, codes, IfOk, string_bytes};
 ghost use Rattle.authenticator.specs.Numbers.{number_in};
-ghost use Rattle.node_book.specs.Replies.{indication_in};
+ghost use Rattle.witness_books.specs.node_book.Replies.{indication_in};
 ghost use Rattle.scripts.specs.Said.{said_line};
 ghost use Rattle.scripts.specs.Turns.{flooded_line, forwarded_words, marked_line, refused_line, told_line};
 

@@ -2,7 +2,7 @@
 
 ghost use Rattle.std.specs.Prelude.{◌≡◌, [], false, IfErr, IfOk, IsOk, map};
 ghost use Rattle.std.specs.Io.KnownBytes.{IsAtEnd};
-ghost use Rattle.node_book.specs.Rows.{known_in};
+ghost use Rattle.witness_books.specs.node_book.Rows.{known_in};
 ghost use Rattle.scripts.specs.Ends.{IsEnd, IsReadToEnd, IsScriptEnd, LeavesScript, Writes, end_by, fault_after};
 
 use crate::bases::BaseFiles;

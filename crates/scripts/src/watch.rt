@@ -2,7 +2,7 @@
 
 ghost use Rattle.std.specs.Prelude.{◌≡◌, ◌≢◌, [], ◌∷◌, false, IfErr, IfNone, IfOk, IfSome, OnOk, map};
 ghost use Rattle.std.specs.Io.KnownBytes.{Appends, IsAtEnd};
-ghost use Rattle.node_book.specs.Rows.{known_in};
+ghost use Rattle.witness_books.specs.node_book.Rows.{known_in};
 ghost use Rattle.scripts.specs.Ends.{Began, Closes, IsEnd, Watches, joined_line, last_line};
 ghost use Rattle.scripts.specs.Turns.{Leaves, Runs, TakesTurn};
 

@@ -3,5 +3,6 @@
 
 mod locked;
 mod server;
+mod status;
 
 pub use server::{Ending, ServerOrder, host_server};

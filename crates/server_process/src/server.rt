@@ -1,19 +1,19 @@
 //! A server with its node: connections as they come, each in a thread of its own.
 
-use crate::locked::LockedServer;
+use crate::locked::{LockedServer, Seat};
+use crate::status::{ServerTeller, Tally, count_received};
 use frames::FrameReader;
 use hosting::Host;
 use nodes::HonestServer;
 use peer_connections::{
-    Accepting, Output, PeerStream, Phase, Place, Waiting, attend, set_timeouts,
+    Accepting, Commands, Output, PeerStream, Phase, Place, Seats, Standing, Waiting, attend,
+    set_timeouts,
 };
 use request_streams::{ServeEnd, ServeFault, serve_requests};
 use rpc::records::Counting;
-use secure_log::log_entries::Entry;
 use std::alloc::{AllocError, Global};
 use std::io::{BufReader, Write};
 use std::net::{OpenListener, SocketAddr, TcpStream};
-use std::os::unix::net::UnixListener;
 use std::sync::{Mutex, Wait};
 use std::thread;
 use std::thread::{Scope, Threads};
@@ -29,12 +29,14 @@ pub struct ServerOrder<'a, L> {
     pub server: HonestServer,
     /// The digest of its roster's text.
     pub digest: [u8; 32],
+    /// The epoch of that roster.
+    pub epoch: u32,
     /// Where clients connect.
     pub listener: L,
     /// Where audits are answered, if not at the first address too.
     pub audits: Option<L>,
-    /// The control socket, by which the process can be told to stop.
-    pub control: Option<&'a UnixListener>,
+    /// Where the process can be told to stop, and asked how it is.
+    pub control: Option<Commands<'a>>,
 }
 
 /// Why a server no longer serves.
@@ -54,6 +56,8 @@ struct Context<'a, R, T, W, E> {
     server: &'a Mutex<HonestServer>,
     phase: &'a Mutex<Phase>,
     output: &'a Mutex<Output<W, E>>,
+    seats: &'a Seats,
+    tally: &'a Mutex<Tally>,
     digest: [u8; 32],
 }
 
@@ -84,12 +88,14 @@ where
     let ServerOrder {
         server,
         digest,
+        epoch,
         listener,
         audits,
         control,
     } = order;
     let server = Mutex::new(server);
     let phase = Mutex::new(Phase::Serving);
+    let tally = Mutex::new(Tally::new(epoch));
     serve_until_end(
         rt,
         alloc,
@@ -97,6 +103,7 @@ where
         &phase,
         output,
         &server,
+        &tally,
         digest,
         &listener,
         audits.as_ref(),
@@ -113,10 +120,11 @@ fn serve_until_end<'a, R, T, L, W, E>(
     phase: &'a Mutex<Phase>,
     output: &'a Mutex<Output<W, E>>,
     server: &'a Mutex<HonestServer>,
+    tally: &'a Mutex<Tally>,
     digest: [u8; 32],
     first: &'a L,
     second: Option<&'a L>,
-    control: Option<&'a UnixListener>,
+    control: Option<Commands<'a>>,
 )
 where
     R: Threads + Wait + Sync,
@@ -134,6 +142,7 @@ where
         first,
         second,
     };
+    let seats = Seats::new(alloc, clock);
     let context = Context {
         rt,
         alloc,
@@ -141,15 +150,36 @@ where
         server,
         phase,
         output,
+        seats: &seats,
+        tally,
         digest,
     };
     thread::scope(thread::scope_env(), context.rt, |scope| {
         if let Some(control) = control {
-            let run = move || attend(context.rt, context.clock, context.phase, control);
+            let run = move || attend_control(context, control);
             let _ = scope.spawn(run);
         }
         serve_all(context, accepting, scope)
     });
+}
+
+/// Takes commands at the control socket until the process no longer serves.
+fn attend_control<R, T, W, E>(context: Context<'_, R, T, W, E>, commands: Commands<'_>)
+where
+    R: Wait,
+    T: std::time::Clock,
+{
+    let Context {
+        rt,
+        alloc,
+        clock,
+        server,
+        phase,
+        tally,
+        ..
+    } = context;
+    let teller = ServerTeller::new(rt, server, tally);
+    attend(rt, alloc, clock, phase, commands, &teller);
 }
 
 /// Why the process no longer serves.
@@ -160,17 +190,6 @@ fn end_of<R: Wait>(rt: &R, phase: &Mutex<Phase>, server: &Mutex<HonestServer>) -
         },
         Phase::Serving | Phase::Stopping => Ending::Stopped,
     }
-}
-
-/// How many messages were received, by the entries of a log.
-fn count_received(entries: &[Entry]) -> u64 {
-    let mut count = 0_u64;
-    for entry in entries {
-        if let Entry::Recv { .. } = entry {
-            count = count.saturating_add(1);
-        }
-    }
-    count
 }
 
 /// Accepts connections, and starts a thread for each. With two listeners segments are given out at the second alone.
@@ -192,19 +211,31 @@ where
         let Some((stream, address, place)) = accepting.next() else {
             return;
         };
-        let gives_segments = is_alone || place == Place::Second;
-        let run = move || serve_peer(context, stream, address, gives_segments);
+        let address_kind = AddressKind {
+            is_alone,
+            is_for_audits: place == Place::Second,
+        };
+        let run = move || serve_peer(context, stream, address, address_kind);
         // Where no thread can be made the connection is closed.
         let _ = scope.spawn(run);
     }
 }
 
-/// Serves a peer's connection to its end.
+/// What an address of a server is for.
+#[derive(Clone, Copy)]
+pub(crate) struct AddressKind {
+    /// It is the only one, so that calls and audits come to it.
+    pub(crate) is_alone: bool,
+    /// Audits alone come to it.
+    pub(crate) is_for_audits: bool,
+}
+
+/// Serves a peer's connection to its end, or until it loses its place.
 fn serve_peer<R, T, W, E>(
     context: Context<'_, R, T, W, E>,
     stream: TcpStream,
     address: SocketAddr,
-    gives_segments: bool,
+    kind: AddressKind,
 )
 where
     R: Threads + Wait + Sync,
@@ -212,7 +243,20 @@ where
     W: Write,
     E: Write,
 {
-    if let Err(fault) = serve_records(context, &stream, gives_segments) {
+    let standing = if kind.is_for_audits {
+        Standing::Auditor
+    } else {
+        Standing::Stranger
+    };
+    // Where there is no memory for a place the connection is closed.
+    let Some(id) = context.seats.enter(context.rt, context.clock, standing) else {
+        return;
+    };
+    context.tally.lock(context.rt).opened();
+    let served = serve_records(context, &stream, kind, id);
+    context.tally.lock(context.rt).closed();
+    context.seats.leave(context.rt, id);
+    if let Err(fault) = served {
         let line = format!(in context.alloc; "nfsacc: {address}: {fault}\n");
         context.output.lock(context.rt).say(line);
     }
@@ -222,7 +266,8 @@ where
 fn serve_records<R, T, W, E>(
     context: Context<'_, R, T, W, E>,
     stream: &TcpStream,
-    gives_segments: bool,
+    kind: AddressKind,
+    id: u64,
 ) -> Result<ServeEnd, ServeFault>
 where
     R: Threads + Wait + Sync,
@@ -235,13 +280,14 @@ where
         alloc,
         clock,
         phase,
+        seats,
         ..
     } = context;
     // Where it can't be set, replies come later, and nothing else changes.
     let _ = stream.set_nodelay(true);
     set_timeouts(stream);
     let waiting = Mutex::new(Waiting::new());
-    let input = PeerStream::new(rt, clock, stream, phase, &waiting);
+    let input = PeerStream::new(rt, clock, stream, phase, &waiting).among(seats, id);
     let Ok(input) = BufReader::with_capacity(alloc, READ_AHEAD, input) else {
         return Err(ServeFault::NoMemory);
     };
@@ -249,8 +295,15 @@ where
     let mut writer = Counting::new(PeerStream::new(rt, clock, stream, phase, &waiting));
     let host = Host {
         digest: context.digest,
-        gives_segments,
+        gives_segments: kind.is_alone || kind.is_for_audits,
     };
-    let mut locked = LockedServer::new(rt, context.server, SystemClock::new(clock), host, phase);
+    let seat = Seat {
+        seats,
+        id,
+        clock,
+        kind,
+    };
+    let (server, times) = (context.server, SystemClock::new(clock));
+    let mut locked = LockedServer::new(rt, server, times, host, phase, seat, context.tally);
     serve_requests(alloc, &mut locked, &mut reader, &mut writer)
 }

@@ -13,10 +13,9 @@ mod phase;
 mod run;
 mod stream;
 
-pub use auditing::NodeReport;
+pub use auditing::{Closed, NodeReport, ReceiptFault, Shelf};
 pub use node_keys::Masters;
 pub use nodes::{ClientNode, ServerNode};
 pub use order::Order;
 pub use run::{Finished, ServeFault, serve};
 pub use serve_options::{Heights, ServeOptions};
-pub use witness_calls::{Closed, ReceiptFault, Shelf};

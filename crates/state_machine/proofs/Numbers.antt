@@ -7,9 +7,9 @@ use Rattle.service.specs.rpc.Call.{Message, OtherVersion, Version2, message_at}
 use Rattle.service.specs.nfs_items.Timeval.{Timeval}
 use Rattle.service.specs.nfs_items.Caller.{Caller}
 use Rattle.service.proofs.nfs_laws.OfFrames.UnnamedFiles.{heads}
-use Rattle.server_spec.specs.World.{World, at_time}
-use Rattle.server_spec.specs.Replies.{ServedCall, Nfs, Mount, OrRefusal, call_or_refusal, call_results}
-use Rattle.server_spec.specs.Replies.{call_reply, reply_to, world_after_call, world_after}
+use Rattle.state_spec.specs.server_spec.World.{World, at_time}
+use Rattle.state_spec.specs.server_spec.Replies.{ServedCall, Nfs, Mount, OrRefusal, call_or_refusal, call_results}
+use Rattle.state_spec.specs.server_spec.Replies.{call_reply, reply_to, world_after_call, world_after}
 use Rattle.state_spec.specs.State.{Idle, Heard, Owes, Machine, Server, Client}
 use Rattle.state_machine.specs.Machines.{IsOf}
 use Rattle.state_spec.specs.Steps.{after_reading}

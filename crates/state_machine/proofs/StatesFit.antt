@@ -3,9 +3,9 @@
 use Rattle.std.proofs.Common.{◌≡◌, ℕ, ◌<◌, ◌^◌, map, refl, subst, arith}
 use Rattle.std.specs.FinMap as finite
 use Rattle.xdr.specs.Item.{Fits, array}
-use Rattle.server_spec.specs.World.{World}
-use Rattle.server_spec.specs.IsWorld.{IsWorld}
-use Rattle.server_spec.specs.FileItems.{file_item, file_value}
+use Rattle.state_spec.specs.server_spec.World.{World}
+use Rattle.state_spec.specs.server_spec.IsWorld.{IsWorld}
+use Rattle.state_spec.specs.server_spec.FileItems.{file_item, file_value}
 use Rattle.state_spec.specs.Limits.{max_received, max_sends}
 use Rattle.state_spec.specs.State.{Stage, Machine, Server, Client, State}
 use Rattle.state_spec.specs.StateItems.{received_item, received_value, sent_item, sent_value, stage_item}

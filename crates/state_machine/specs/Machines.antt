@@ -6,8 +6,8 @@ use Rattle.std.specs.FinSet.{FinSet}
 use Rattle.xdr.specs.Item.{Fits}
 use Rattle.service.specs.nfs_items.Terms.{FileNumber}
 use Rattle.service.specs.nfs_items.Timeval.{Timeval, timeval, timeval_value}
-use Rattle.server_spec.specs.World.{World}
-use Rattle.server_spec.specs.FileItems.{file_item, file_value}
+use Rattle.state_spec.specs.server_spec.World.{World}
+use Rattle.state_spec.specs.server_spec.FileItems.{file_item, file_value}
 use Rattle.state_spec.specs.State.{received_cmp, SentMessage, Stage, State}
 use Rattle.state_spec.specs.State as spec
 use Rattle.state_spec.specs.StateItems.{rest_item, world_value}

@@ -5,7 +5,7 @@ ghost use Rattle.xdr.specs.Item.{Fits};
 ghost use Rattle.state_spec.specs.State.{IsState, clock_in, opening_client, opening_server};
 ghost use Rattle.state_spec.specs.StateItems.{state_item};
 ghost use Rattle.state_spec.specs.StateText.{said};
-ghost use Rattle.server_spec.specs.FileItems.{file_item};
+ghost use Rattle.state_spec.specs.server_spec.FileItems.{file_item};
 ghost use Rattle.file_texts.specs.fs_spec.Maxima.{max_files};
 ghost use Rattle.state_machine.specs.Stages.{stage_in};
 ghost use Rattle.state_machine.specs.Machines.{machine_in, missing_in, server_state, client_state};

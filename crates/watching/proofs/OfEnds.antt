@@ -10,9 +10,9 @@ use Rattle.authenticator.proofs.Members.{member_node}
 use Rattle.authenticator.specs.declared.refusal.Refusal as checks
 use Rattle.secure_log.specs.LogEntries.Chain.{IsAmong}
 use Rattle.authenticator.specs.declared.authenticator.Authenticator.{Authenticator}
-use Rattle.evidence_spec.specs.replay_spec.Replay.{Verdict, Sound, Fault, verdict_of}
-use Rattle.evidence_spec.specs.replay_spec.Stepping.{ReplayFault}
-use Rattle.evidence_spec.specs.replay_spec.Placed.{places_in}
+use Rattle.witness_spec.specs.evidence_spec.replay_spec.Replay.{Verdict, Sound, Fault, verdict_of}
+use Rattle.witness_spec.specs.evidence_spec.replay_spec.Stepping.{ReplayFault}
+use Rattle.witness_spec.specs.evidence_spec.replay_spec.Placed.{places_in}
 use Rattle.witness_spec.specs.packets.Packet.{Delivery}
 use Rattle.witness_spec.specs.packets.Packet as packets
 use Rattle.witness_spec.specs.packets.Judging.{judged}
@@ -38,9 +38,9 @@ use Rattle.witness_spec.specs.Owing.{Owes, back_reply}
 use Rattle.witness_spec.specs.Histories.{History, own_of, own_step, IsHistory, IsOwed, OwesTo}
 use Rattle.witness_spec.specs.Histories.{BookParts}
 use Rattle.witness_spec.specs.Histories.{StandEach, StandsFor, AreOwed, IsWanting}
-use Rattle.witness_laws.proofs.Doing.{Doing, Nothing, Notes, Accepts, Asks, Begins, Files, PutsBack, doing}
-use Rattle.witness_laws.proofs.Checked.{IsCheckedStep, AreChecked, IsGiven, own_checked}
-use Rattle.witness_laws.proofs.OwnSteps.{own_owed}
+use Rattle.witness_book_laws.proofs.witness_laws.Doing.{Doing, Nothing, Notes, Accepts, Asks, Begins, Files, PutsBack, doing}
+use Rattle.witness_book_laws.proofs.witness_laws.Checked.{IsCheckedStep, AreChecked, IsGiven, own_checked}
+use Rattle.witness_book_laws.proofs.witness_laws.OwnSteps.{own_owed}
 use Rattle.witness_book_laws.proofs.Known.{RosterAt}
 use Rattle.witness_book_laws.proofs.AllBooks.{all_watched, its_beginning}
 use Rattle.watching.specs.Ends.{ends_of, with_end, sound_to, end_filed, moved_ends, ends_after, StepsMoveEnds}

@@ -8,7 +8,7 @@ use Rattle.witness_spec.specs.Replies as replies
 use Rattle.witness_spec.specs.Starting.{Beginning}
 use Rattle.witness_spec.specs.Contract.{StepsTo}
 use Rattle.witness_spec.specs.Events.{ItsChallenges}
-use Rattle.node_book.specs.Replies.{indication_in}
+use Rattle.witness_books.specs.node_book.Replies.{indication_in}
 use Rattle.witness_books.specs.Books.{BooksParts, beginning_of, parts_in}
 use Rattle.watching.specs.Ends.{end_in, ends_of}
 use Rattle.watching.specs.Telling.{Lists, Steps, Tells}

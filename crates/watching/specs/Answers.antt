@@ -1,24 +1,33 @@
 -- What a witness answers to a call.
-use Rattle.std.specs.Prelude.{◌≡◌, ◌⊎◌, ◌-◌, ℕ, ◌==◌, List, [], ◌∷◌, ◌++◌, map, Result, Ok, Err}
-use Rattle.std.specs.Prelude.{Option}
-use Rattle.std.specs.Prelude.{Some, None, if◌then◌else◌}
+use Rattle.std.specs.Prelude.{◌≡◌, ◌⊎◌, ◌-◌, ℕ, ◌==◌, nat_le, List, [], ◌∷◌, ◌++◌, length, map, Result, Ok, Err}
+use Rattle.std.specs.Prelude.{Option, Some, None, option_map, if◌then◌else◌}
 use Rattle.xdr.specs.Item.{fixed, number_spelling, spelling}
 use Rattle.rpc.specs.Reply.{reply_text}
 use Rattle.rpc.specs.declared.reply.Reply.{Reply}
 use Rattle.rpc.specs.declared.reply.ReplyBody.{ReplyBody}
 use Rattle.rpc.specs.declared.reply.ReplyBody.TheVariants.{SystemError}
+use Rattle.authenticator.specs.Roster.{roster_value}
+use Rattle.authenticator.specs.Signed.{authenticator_item, authenticator_value}
+use Rattle.authenticator.specs.declared.authenticator.Authenticator.{Authenticator}
+use Rattle.authenticator.specs.declared.member.Member.{Member}
 use Rattle.envelopes.specs.declared.envelope.Envelope.{Envelope}
 use Rattle.packets.specs.Packet.{SendChallenge, packet_text}
-use Rattle.peer_calls.specs.Answers.{message_value, told_item, wanted_item}
+use Rattle.peer_calls.specs.Answers.{NodeCase, NoCase, Here, TooLarge, case_text, message_value, shown_text, told_item}
+use Rattle.peer_calls.specs.Answers.{wanted_item}
 use Rattle.peer_calls.specs.Calls.{Call, success_text}
-use Rattle.peer_calls.specs.WitnessRequests.{WitnessAsk, Null, Greet, Deliver, Wanted, Told, witness_ask_at}
+use Rattle.peer_calls.specs.WitnessRequests.{WitnessAsk, Null, Greet, Deliver, Wanted, Told, Shown, Case}
+use Rattle.peer_calls.specs.WitnessRequests.{witness_ask_at}
+use Rattle.peer_calls.specs.declared.cases.TheConstants.{MAX_CASE}
 use Rattle.peer_calls.specs.declared.call.Asked.{Asked}
 use Rattle.peer_calls.specs.declared.call.Unasked.{Unasked}
 use Rattle.peer_calls.specs.declared.call.Unasked.TheVariants.{NoCall, Refused}
 use Rattle.witness_spec.specs.Replies.{Challenge, AuditOf, SendOf, Indication, Trusted, Suspected, Exposed}
-use Rattle.node_book.specs.Replies.{indication_in}
-use Rattle.witness_books.specs.Books.{BooksParts}
-use Rattle.watching.specs.Telling.{IsDelivered, ListsIf, MayBeDelivered, TellsIf, WereAsked, delivered_number}
+use Rattle.witness_books.specs.node_book.Replies.{indication_in}
+use Rattle.challenge.specs.Cases.{case_item}
+use Rattle.witness_spec.specs.evidence_spec.Evidence.{EvidenceParts, evidence_value}
+use Rattle.watching.specs.Shown.{MayNote, Notes, StandingParts, last_shown}
+use Rattle.watching.specs.Telling.{IsDelivered, ListsIf, MayBeDelivered, ShowsIf, TellsIf, WereAsked}
+use Rattle.watching.specs.Telling.{delivered_number}
 use Rattle.watching.specs.declared.answer.Outcome.{Outcome}
 use Rattle.watching.specs.declared.answer.Outcome.TheVariants as outcomes
 use Rattle.watching.specs.declared.deliver.Delivered.{Delivered}
@@ -83,29 +92,53 @@ told_results h (Some told) =
     spelling told_item
     (standing_number (indication_in told.indication), (told.open, (told.end, seconds_told h told)))
 
+-- the packet of what a node showed last, if it showed something
+abbrev pub shown_results : Option Authenticator → List ℕ
+shown_results a = shown_text (option_map (λ x. spelling authenticator_item (authenticator_value x)) a)
+
+-- the bytes of the file with evidence: the roster's text, and then the evidence's
+abbrev pub case_file : List Member → EvidenceParts → List ℕ
+case_file ms e = spelling case_item (roster_value ms, evidence_value e)
+
+-- the file, or how many bytes it has, where these are too many
+abbrev pub case_sent : (file : List ℕ) → NodeCase
+case_sent file = if nat_le (length file) MAX_CASE then Here file else TooLarge (length file)
+
+-- what is answered of the evidence against a node, if there is some
+abbrev pub case_results : List Member → Option EvidenceParts → List ℕ
+case_results ms None = case_text NoCase
+case_results ms (Some e) = case_text (case_sent (case_file ms e))
+
 -- ---- what is asked
 
--- What was asked of a witness has these results, by what its books replied, and led the books on to these.
-abbrev pub Does : Host → BooksParts → WitnessAsk → (results : List ℕ) → BooksParts → Type 0
-Does h books Null results books' = (results ≡ []) × (books' ≡ books)
-Does h books (Greet digest node) results books' = IsGreeted digest h.digest results × (books' ≡ books)
-Does h books (Deliver packet) results books' =
-    (became : Delivered) × IsDelivered books packet became books'
+-- What was asked of a witness has these results, by what its books replied, and led it on to this.
+abbrev pub Does : Host → StandingParts → WitnessAsk → (results : List ℕ) → StandingParts → Type 0
+Does h s Null results s' = (results ≡ []) × (s' ≡ s)
+Does h s (Greet digest node) results s' = IsGreeted digest h.digest results × (s' ≡ s)
+Does h s (Deliver packet) results s' =
+    (became : Delivered) × IsDelivered s.books packet became s'.books × Notes s packet became s'
     × (results ≡ number_spelling 4 (delivered_number became))
-Does h books (Wanted node) results books' =
-    (challenges : List Challenge) × ListsIf books node challenges books' ×
-    (results ≡ wanted_results challenges)
-Does h books (Told node) results books' =
-    (told : Option NodeTold) × TellsIf books node told books' × (results ≡ told_results h told)
+Does h s (Wanted node) results s' =
+    (challenges : List Challenge) × ListsIf s.books node challenges s'.books × (s'.shown ≡ s.shown)
+    × (results ≡ wanted_results challenges)
+Does h s (Told node) results s' =
+    (told : Option NodeTold) × TellsIf s.books node told s'.books × (s'.shown ≡ s.shown)
+    × (results ≡ told_results h told)
+Does h s (Shown node) results s' = (results ≡ shown_results (last_shown s node)) × (s' ≡ s)
+Does h s (Case node) results s' =
+    (evidence : Option EvidenceParts) × ShowsIf s.books node evidence s'.books × (s'.shown ≡ s.shown)
+    × (results ≡ case_results s.books.roster evidence)
 
 -- Memory was refused while it was done, or for its results: the books may have been led on by it, and by
 -- nothing else.
-abbrev pub MayDo : BooksParts → WitnessAsk → BooksParts → Type 0
-MayDo books Null books' = books' ≡ books
-MayDo books (Greet digest node) books' = books' ≡ books
-MayDo books (Deliver packet) books' = MayBeDelivered books packet books'
-MayDo books (Wanted node) books' = WereAsked books node books'
-MayDo books (Told node) books' = WereAsked books node books'
+abbrev pub MayDo : StandingParts → WitnessAsk → StandingParts → Type 0
+MayDo s Null s' = s' ≡ s
+MayDo s (Greet digest node) s' = s' ≡ s
+MayDo s (Deliver packet) s' = MayBeDelivered s.books packet s'.books × MayNote s packet s'
+MayDo s (Wanted node) s' = WereAsked s.books node s'.books × (s'.shown ≡ s.shown)
+MayDo s (Told node) s' = WereAsked s.books node s'.books × (s'.shown ≡ s.shown)
+MayDo s (Shown node) s' = s' ≡ s
+MayDo s (Case node) s' = WereAsked s.books node s'.books × (s'.shown ≡ s.shown)
 
 -- ---- what is answered
 
@@ -114,32 +147,32 @@ abbrev pub without_results : (xid : ℕ) → ReplyBody → List ℕ
 without_results xid body = reply_text (record { xid = xid; body = body })
 
 -- What is answered to what is asked: its results after SUCCESS, or SYSTEM_ERR where memory was refused.
-pub data Answers (h : Host) (books : BooksParts) (xid : ℕ) (a : WitnessAsk) (text : List ℕ)
-    (books' : BooksParts)
+pub data Answers (h : Host) (s : StandingParts) (xid : ℕ) (a : WitnessAsk) (text : List ℕ)
+    (s' : StandingParts)
     : Type 0 where
-  Done : (results : List ℕ) → Does h books a results books' → text ≡ success_text xid ++ results
-      → Answers h books xid a text books'
-  NoMemory : MayDo books a books' → text ≡ without_results xid SystemError → Answers h books xid a text books'
+  Done : (results : List ℕ) → Does h s a results s' → text ≡ success_text xid ++ results
+      → Answers h s xid a text s'
+  NoMemory : MayDo s a s' → text ≡ without_results xid SystemError → Answers h s xid a text s'
 
 -- what is answered to the arguments of a procedure, or to those that ask nothing
-abbrev pub AnswersRead : Host → BooksParts → (xid : ℕ) → Result WitnessAsk ReplyBody → (text : List ℕ)
-    → BooksParts
+abbrev pub AnswersRead : Host → StandingParts → (xid : ℕ) → Result WitnessAsk ReplyBody → (text : List ℕ)
+    → StandingParts
     → Type 0
-AnswersRead h books xid (Ok a) text books' = Answers h books xid a text books'
-AnswersRead h books xid (Err body) text books' =
-    (books' ≡ books) × ((text ≡ without_results xid body) ⊎ (text ≡ without_results xid SystemError))
+AnswersRead h s xid (Ok a) text s' = Answers h s xid a text s'
+AnswersRead h s xid (Err body) text s' =
+    (s' ≡ s) × ((text ≡ without_results xid body) ⊎ (text ≡ without_results xid SystemError))
 
 -- what becomes of the books where memory was refused for a reply
-abbrev pub MayDoRead : BooksParts → Result WitnessAsk ReplyBody → BooksParts → Type 0
-MayDoRead books (Ok a) books' = (books' ≡ books) ⊎ MayDo books a books'
-MayDoRead books (Err body) books' = books' ≡ books
+abbrev pub MayDoRead : StandingParts → Result WitnessAsk ReplyBody → StandingParts → Type 0
+MayDoRead s (Ok a) s' = (s' ≡ s) ⊎ MayDo s a s'
+MayDoRead s (Err body) s' = s' ≡ s
 
 -- A call was answered so.
-abbrev pub RepliesTo : Host → BooksParts → (xid : ℕ) → Result WitnessAsk ReplyBody → Outcome → (text : List ℕ)
-    → BooksParts → Type 0
-RepliesTo h books xid ask outcomes.Replied text books' = AnswersRead h books xid ask text books'
-RepliesTo h books xid ask outcomes.NoMemory text books' = MayDoRead books ask books'
-RepliesTo h books xid ask outcomes.NoCall text books' = ⊥
+abbrev pub RepliesTo : Host → StandingParts → (xid : ℕ) → Result WitnessAsk ReplyBody → Outcome → (text : List ℕ)
+    → StandingParts → Type 0
+RepliesTo h s xid ask outcomes.Replied text s' = AnswersRead h s xid ask text s'
+RepliesTo h s xid ask outcomes.NoMemory text s' = MayDoRead s ask s'
+RepliesTo h s xid ask outcomes.NoCall text s' = ⊥
 
 -- a reply without results was written, or memory was refused for it
 abbrev pub IsWritten : Reply → Outcome → (text : List ℕ) → Type 0
@@ -153,10 +186,10 @@ call_in a = record { xid = a.xid; procedure = a.procedure; arguments = a.argumen
 
 -- What becomes of a record, by what its bytes ask of a witness: what is no call gets no reply, and a refused
 -- call its refusal.
-abbrev pub AnswersRecord : Host → BooksParts → Result Call Unasked → Outcome → (text : List ℕ) → BooksParts
+abbrev pub AnswersRecord : Host → StandingParts → Result Call Unasked → Outcome → (text : List ℕ) → StandingParts
     → Type 0
-AnswersRecord h books (Err NoCall) outcome text books' = (outcome ≡ outcomes.NoCall) × (books' ≡ books)
-AnswersRecord h books (Err (Refused reply)) outcome text books' = IsWritten reply outcome text ×
-    (books' ≡ books)
-AnswersRecord h books (Ok c) outcome text books' =
-    RepliesTo h books c.xid (witness_ask_at c.procedure c.arguments) outcome text books'
+AnswersRecord h s (Err NoCall) outcome text s' = (outcome ≡ outcomes.NoCall) × (s' ≡ s)
+AnswersRecord h s (Err (Refused reply)) outcome text s' = IsWritten reply outcome text ×
+    (s' ≡ s)
+AnswersRecord h s (Ok c) outcome text s' =
+    RepliesTo h s c.xid (witness_ask_at c.procedure c.arguments) outcome text s'

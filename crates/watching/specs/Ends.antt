@@ -2,7 +2,7 @@
 use Rattle.std.specs.Prelude.{◌≡◌, ℕ, ◌==◌, List, [], ◌∷◌, map, Option, Some, None, if◌then◌else◌}
 use Rattle.authenticator.specs.Roster.{IsRoster}
 use Rattle.authenticator.specs.declared.member.Member.{Member}
-use Rattle.evidence_spec.specs.replay_spec.Replay.{Verdict, Sound, Fault}
+use Rattle.witness_spec.specs.evidence_spec.replay_spec.Replay.{Verdict, Sound, Fault}
 use Rattle.witness_spec.specs.Events.{Event, JobParts}
 use Rattle.witness_spec.specs.Events as events
 use Rattle.witness_spec.specs.Replies.{Reply, Filed}

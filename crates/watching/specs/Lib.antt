@@ -1,4 +1,5 @@
 pub mod Ends
+pub mod Shown
 pub mod Telling
 pub mod Answers
 pub mod Segments

@@ -3,13 +3,15 @@ use Rattle.std.specs.Prelude.{◌≡◌, ◌⊎◌, ◌+◌, ℕ, false, List, [
 use Rattle.std.specs.Prelude.{decimal}
 use Rattle.authenticator.specs.Roster.{member_of}
 use Rattle.witness_spec.specs.Events.{Event, Question, Deliver, Ask, ItsIndication, ItsChallenges}
+use Rattle.witness_spec.specs.Events.{ItsEvidence}
+use Rattle.witness_spec.specs.evidence_spec.Evidence.{EvidenceParts}
 use Rattle.witness_spec.specs.Refusals.{refusal_number}
 use Rattle.witness_spec.specs.Replies.{Reply, Challenge, is_want_of_memory}
 use Rattle.witness_spec.specs.Replies as replies
 use Rattle.witness_spec.specs.Starting.{Beginning}
 use Rattle.witness_spec.specs.Histories.{BookParts}
 use Rattle.witness_spec.specs.Contract.{StepsTo}
-use Rattle.node_book.specs.Replies.{indication_in, refusal_in}
+use Rattle.witness_books.specs.node_book.Replies.{indication_in, refusal_in}
 use Rattle.witness_books.specs.Books.{BooksParts, beginning_of, parts_in}
 use Rattle.witness_calls.specs.Telling.{IsSaid, indication_word}
 use Rattle.witness_calls.specs.declared.said.Said.TheVariants as said
@@ -42,6 +44,13 @@ Lists old node challenges new = Steps old (Ask node ItsChallenges) (replies.Open
 abbrev pub ListsIf : (old : BooksParts) → (node : ℕ) → List Challenge → (new : BooksParts) → Type 0
 ListsIf old node challenges new =
     ((member_of old.roster node ≡ None) × (challenges ≡ []) × (new ≡ old)) ⊎ Lists old node challenges new
+
+-- Of one who is no member there is no evidence, and the books stay; of a member they were asked for it, and it is
+-- this, if there is some.
+abbrev pub ShowsIf : (old : BooksParts) → (node : ℕ) → Option EvidenceParts → (new : BooksParts) → Type 0
+ShowsIf old node evidence new =
+    ((member_of old.roster node ≡ None) × (evidence ≡ None) × (new ≡ old))
+    ⊎ Steps old (Ask node ItsEvidence) (replies.EvidenceIs evidence) new
 
 -- The books told a member's failure indication and then its open challenges, and up to where its log was
 -- audited.

@@ -16,7 +16,7 @@ use peer_calls::{
 };
 use rpc::{Reply, ReplyBody, write_reply, write_success};
 use std::alloc::{AllocError, Global};
-use witness_service::SignatureCache;
+use witness_calls::SignatureCache;
 
 /// What became of a record.
 #[derive(Clone, Copy, Debug, PartialEq, Eq)]
@@ -42,7 +42,7 @@ pub fn answer_request(
     record: &[u8],
     out: &mut Vec<u8>,
 ) -> Outcome
-    ensures beginning { beginning_of standing.new ≡ beginning_of standing.old }
+    ensures beginning { beginning_of standing.new.books ≡ beginning_of standing.old.books }
     ensures answers { AnswersRecord host.now standing.old (judged WITNESS_PROGRAM (message_at «record».now))
         result out.new.items standing.new }
 {
@@ -75,7 +75,7 @@ fn answer_asked(
     out: &mut Vec<u8>,
 ) -> Outcome
     requires { out.old.items ≡ [] }
-    ensures beginning { beginning_of standing.new ≡ beginning_of standing.old }
+    ensures beginning { beginning_of standing.new.books ≡ beginning_of standing.old.books }
     ensures answers { RepliesTo host.now standing.old asked.now.xid
         (witness_ask_at asked.now.procedure asked.now.arguments.now) result out.new.items standing.new }
 {
@@ -97,7 +97,7 @@ fn answer_read(
     out: &mut Vec<u8>,
 ) -> Outcome
     requires { out.old.items ≡ [] }
-    ensures beginning { beginning_of standing.new ≡ beginning_of standing.old }
+    ensures beginning { beginning_of standing.new.books ≡ beginning_of standing.old.books }
     ensures answers { RepliesTo host.now standing.old xid (Ok (witness_ask request.now)) result out.new.items
         standing.new }
 {
@@ -123,7 +123,7 @@ fn add_answer(
     out: &mut Vec<u8>,
 ) -> Result<(), AllocError>
     requires { out.old.items ≡ [] }
-    ensures beginning { beginning_of standing.new ≡ beginning_of standing.old }
+    ensures beginning { beginning_of standing.new.books ≡ beginning_of standing.old.books }
     ensures done { OnOk result ((results : List ℕ)
         × Does host.now standing.old (witness_ask request.now) results standing.new
         × (out.new.items ≡ success_text xid ++ results)) }

@@ -1,12 +1,12 @@
 //! What becomes of a packet.
 
 ghost use Rattle.std.specs.Prelude.{◌≡◌, false, IfOk, OnOk};
-ghost use Rattle.node_book.specs.Replies.{reply_in};
+ghost use Rattle.witness_books.specs.node_book.Replies.{reply_in};
 ghost use Rattle.witness_spec.specs.Replies.{is_want_of_memory};
 ghost use Rattle.watching.specs.Telling.{IsTaken, delivered_number};
 
-use node_book::{Refusal, Reply};
 use std::alloc::AllocError;
+use witness_books::{Refusal, Reply};
 use witness_calls::Said;
 
 /// What became of a packet.

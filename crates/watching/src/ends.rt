@@ -1,13 +1,13 @@
 //! The numbers up to which the members' logs were audited.
 
 ghost use Rattle.std.specs.Prelude.{◌≡◌, length, option_map, replicate, IfOk};
-ghost use Rattle.node_book.specs.Events.{event_in};
-ghost use Rattle.node_book.specs.Replies.{reply_in};
+ghost use Rattle.witness_books.specs.node_book.Events.{event_in};
+ghost use Rattle.witness_books.specs.node_book.Replies.{reply_in};
 ghost use Rattle.watching.specs.Ends.{end_done, end_filed, end_in, end_parts, filed_by, with_end};
 
 use authenticator::Member;
-use node_book::{Event, EventOf, JobVerdict, ReplayDone, Reply, ReplyOf};
 use std::alloc::{AllocError, Global};
+use witness_books::{Event, EventOf, JobVerdict, ReplayDone, Reply, ReplyOf};
 
 /// The last number of a node's log that a replay found sound.
 #[derive(Clone, Copy, Debug)]

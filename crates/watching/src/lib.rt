@@ -2,11 +2,13 @@
 #![tactic(auto)]
 
 mod answer;
+mod audited;
 mod bound;
 mod deliver;
 mod ends;
 pub mod laws;
 mod results;
+mod shown;
 mod standing;
 mod told;
 
@@ -16,3 +18,4 @@ pub use deliver::Delivered;
 pub use results::{Host, Opened};
 pub use standing::Standing;
 pub use told::NodeTold;
+pub use witness_calls::{Said, Shelf, packet_texts, write_case};

@@ -1,25 +1,28 @@
 //! What is asked of a witness is done, and its results are written.
 
-ghost use Rattle.std.specs.Prelude.{◌≡◌, ◌++◌, List, ℕ, OnErr, OnOk, length, map, option_map};
+ghost use Rattle.std.specs.Prelude.{◌≡◌, ◌++◌, List, ℕ, IfOk, OnErr, OnOk, length, map, option_map};
+ghost use Rattle.std.specs.Arc.{arc_value};
 ghost use Rattle.xdr.specs.Item.{optional, spelling};
 ghost use Rattle.xdr.specs.Writing.{Adds};
-ghost use Rattle.node_book.specs.Replies.{challenge_in, indication_in};
+ghost use Rattle.witness_books.specs.node_book.Replies.{challenge_in, indication_in};
 ghost use Rattle.peer_calls.specs.Arguments.{numbers_item, numbers_value};
 ghost use Rattle.peer_calls.specs.WitnessRequests.{witness_ask};
 ghost use Rattle.witness_books.specs.Books.{beginning_of};
-ghost use Rattle.peer_calls.specs.Answers.{told_item};
-ghost use Rattle.watching.specs.Answers.{Does, IsGreeted, MayDo, audit_of, message_text, messages_of};
-ghost use Rattle.watching.specs.Answers.{messages_text, seconds_of, standing_number, told_results};
-ghost use Rattle.watching.specs.Answers.{wanted_results};
+ghost use Rattle.peer_calls.specs.Answers.{case_text, told_item};
+ghost use Rattle.watching.specs.Answers.{Does, IsGreeted, MayDo, audit_of, case_file, case_results, case_sent};
+ghost use Rattle.watching.specs.Answers.{message_text, messages_of, messages_text, seconds_of, shown_results};
+ghost use Rattle.watching.specs.Answers.{standing_number, told_results, wanted_results};
 
 use crate::standing::Standing;
 use crate::told::NodeTold;
-use challenge::Challenge;
-use node_book::Indication;
-use packets::write_challenge;
-use peer_calls::{Greeting, Numbers, WitnessRequest};
+use authenticator::{Authenticator, Roster};
+use challenge::{Challenge, Evidence};
+use packets::{write_challenge, write_learn};
+use peer_calls::{Greeting, MAX_CASE, Numbers, WitnessRequest};
 use std::alloc::{AllocError, Global};
-use witness_service::SignatureCache;
+use std::sync::Arc;
+use witness_books::Indication;
+use witness_calls::{SignatureCache, write_case};
 use xdr::Writer;
 
 /// When the oldest open challenge to a node was opened.
@@ -65,7 +68,7 @@ pub(crate) fn add_results(
     request: &WitnessRequest<'_>,
     out: &mut Vec<u8>,
 ) -> Result<(), AllocError>
-    ensures beginning { beginning_of standing.new ≡ beginning_of standing.old }
+    ensures beginning { beginning_of standing.new.books ≡ beginning_of standing.old.books }
     ensures done { OnOk result ((results : List ℕ)
         × Does host.now standing.old (witness_ask request.now) results standing.new
         × (out.new.items ≡ out.old.items ++ results)) }
@@ -85,6 +88,11 @@ pub(crate) fn add_results(
         WitnessRequest::Told(asked) => {
             let told = standing.told(alloc, asked.node)?;
             add_told(host, told, out)
+        }
+        WitnessRequest::Shown(asked) => add_shown(standing.shown(asked.node), out),
+        WitnessRequest::Case(asked) => {
+            let evidence = standing.evidence(alloc, asked.node)?;
+            add_case(alloc, standing.books().roster(), evidence, out)
         }
     }
 }
@@ -230,4 +238,53 @@ fn add_standing(
     out.put_u32(count)?;
     out.put_u64(end)?;
     out.put_u64(seconds)
+}
+
+/// Appends the packet of what a node showed last, if it showed something.
+fn add_shown(shown: Option<&Authenticator>, out: &mut Vec<u8>) -> Result<(), AllocError>
+    ensures { Adds (shown_results (option_map (λ a. a.now) shown.entry)) out.old.items result out.new.items }
+{
+    let Some(authenticator) = shown else {
+        return out.put_bool(false);
+    };
+    out.put_bool(true)?;
+    write_learn(authenticator, out)
+}
+
+/// Appends the file with the evidence against a node, if there is some, or how many bytes it has where these are
+/// too many.
+fn add_case(
+    alloc: Global,
+    roster: &Roster,
+    evidence: Option<Arc<Evidence>>,
+    out: &mut Vec<u8>,
+) -> Result<(), AllocError>
+    ensures { Adds (case_results roster.now (option_map arc_value evidence)) out.old.items result out.new.items }
+{
+    let Some(evidence) = evidence else {
+        return out.put_u32(0);
+    };
+    let file = file_of(alloc, roster, &evidence)?;
+    add_file(&file, out)
+}
+
+/// The bytes of the file with some evidence.
+fn file_of(alloc: Global, roster: &Roster, evidence: &Evidence) -> Result<Vec<u8>, AllocError>
+    ensures { IfOk result (λ file. file.items ≡ case_file roster.now evidence.now) }
+{
+    let mut file = Vec::new(alloc);
+    write_case(roster, evidence, &mut file)?;
+    Ok(file)
+}
+
+/// Appends the bytes of a file, or how many they are where these are too many.
+fn add_file(file: &[u8], out: &mut Vec<u8>) -> Result<(), AllocError>
+    ensures { Adds (case_text (case_sent file.now)) out.old.items result out.new.items }
+{
+    if file.len() > MAX_CASE as usize {
+        out.put_u32(2)?;
+        return out.put_u64(file.len() as u64);
+    }
+    out.put_u32(1)?;
+    out.put_opaque(file)
 }

@@ -1,192 +1,181 @@
-//! A witness's books without a journal.
+//! What a witness keeps of the members of a roster.
 
-ghost use Rattle.std.specs.Prelude.{◌≡◌, [], ◌∷◌, map, true, IfErr, IfOk, OnErr};
-ghost use Rattle.node_book.specs.Events.{event_in};
-ghost use Rattle.node_book.specs.Replies.{challenge_in, indication_in, reply_in};
+ghost use Rattle.std.specs.Prelude.{◌≡◌, [], ◌∷◌, None, length, map, option_map, replicate, true, IfErr};
+ghost use Rattle.std.specs.Prelude.{IfOk, OnErr};
+ghost use Rattle.std.specs.Arc.{arc_value};
+ghost use Rattle.witness_books.specs.node_book.Events.{event_in};
+ghost use Rattle.witness_books.specs.node_book.Replies.{challenge_in, reply_in};
 ghost use Rattle.witness_spec.specs.Contract.{starting_books};
-ghost use Rattle.witness_spec.specs.Events.{Ask, ItsIndication};
-ghost use Rattle.witness_spec.specs.Replies.{Told};
 ghost use Rattle.witness_spec.specs.Starting.{from_the_first};
 ghost use Rattle.witness_books.specs.Books.{beginning_of, is_refusal, parts_in};
 ghost use Rattle.witness_books.specs.Headline.{KeepsHeadline};
 ghost use Rattle.watching.specs.Ends.{end_in, ends_of};
-ghost use Rattle.watching.specs.Telling.{IsDelivered, Lists, ListsIf, MayBeDelivered, Steps, TellsIf};
+ghost use Rattle.watching.specs.Shown.{Notes, last_shown, with_packet};
+ghost use Rattle.watching.specs.Telling.{IsDelivered, ListsIf, MayBeDelivered, ShowsIf, Steps, TellsIf};
 ghost use Rattle.watching.specs.Telling.{WereAsked};
 
+use crate::audited::AuditedBooks;
 use crate::deliver::Delivered;
-use crate::ends::{end_of, filed_end, put_end, sound_end, zeros};
-use crate::laws::steps_move_ends;
+use crate::shown::{note_shown, nothing_shown, shown_of};
 use crate::told::NodeTold;
-use authenticator::Roster;
-use challenge::Challenge;
-use node_book::{Event, EventOf, Indication, Question, Reply, ReplyOf, what_leaves_books};
+use authenticator::{Authenticator, Roster};
+use challenge::{Challenge, Evidence};
+use peer_calls::read_shown;
 use std::alloc::{AllocError, AllocFailed, Global};
 use std::marker::Model;
-use witness_books::Books;
-use witness_books::laws::spelled_is_taken;
-use witness_calls::Said;
-use witness_service::{SignatureCache, admit};
+use std::sync::Arc;
+use witness_books::{Books, Event, Reply};
+use witness_calls::SignatureCache;
 
-/// A witness's books, from their first step on, without a journal of the steps: what it takes of memory is
-/// bounded by the books. Its type keeps that the books stand for some history from their beginning, as
+/// A witness's books, from their first step on, without a journal of the steps, and of each member the
+/// authenticator with the greatest number of those that were handed in and not refused: what it takes of memory
+/// is bounded by the books. Its type keeps that the books stand for some history from their beginning, as
 /// `Books` does, and for each member the last number of its log that was filed sound.
 ///
-/// A clause sees the books.
+/// A clause sees the books and these authenticators.
 #[derive(Drop)]
 pub struct Standing {
-    books: Books,
-    ends: Vec<u64>,
+    audited: AuditedBooks,
+    shown: Vec<Option<Authenticator>>,
 }
 
 impl Model for Standing {
-    ghost use Rattle.witness_books.specs.Books.{BooksParts, books_code, parts_in};
-    ghost use Rattle.std.specs.Prelude.{◌≡◌};
-    ghost use Rattle.watching.specs.Ends.{ends_of};
+    ghost use Rattle.std.specs.Prelude.{◌≡◌, length};
+    ghost use Rattle.watching.specs.Shown.{StandingParts, standing_code};
 
-    ghost Value = { BooksParts };
+    ghost Value = { StandingParts };
 
-    ghost coded = { books_code };
+    ghost coded = { standing_code };
 
-    ghost view = { λ s. s.books };
+    ghost view = { λ s. record { books = s.audited; shown = s.shown.items } };
 
-    ghost invariant = { λ s. s.ends.items ≡ ends_of (parts_in s.books) };
+    ghost invariant = { λ s. length s.shown.items ≡ length s.audited.roster };
 }
 
 impl Standing {
-    /// The books of a roster's members before any step, each from its log's first entry. Where a growth was
-    /// refused the roster comes back.
+    /// The books of a roster's members before any step, each from its log's first entry; nothing was shown.
+    /// Where a growth was refused the roster comes back.
     pub fn open(alloc: Global, roster: Roster) -> Result<Standing, AllocFailed<Roster>>
-        ensures beginning { IfOk result (λ s. beginning_of s ≡ from_the_first roster) }
-        ensures opening { IfOk result (λ s. parts_in s ≡ starting_books (from_the_first roster)) }
+        ensures beginning { IfOk result (λ s. beginning_of s.books ≡ from_the_first roster) }
+        ensures opening { IfOk result (λ s. parts_in s.books ≡ starting_books (from_the_first roster)) }
+        ensures shown { IfOk result (λ s. s.shown ≡ replicate (length roster) None) }
         ensures back { IfErr result (λ e. e.value ≡ roster) }
     {
-        let Ok(ends) = zeros(alloc, roster.members().len()) else {
+        let Ok(shown) = nothing_shown(alloc, roster.members().len()) else {
             return Err(AllocFailed { value: roster });
         };
-        let books = Books::new(alloc, roster)?;
-        Ok(Standing { books, ends })
+        let audited = AuditedBooks::open(alloc, roster)?;
+        Ok(Standing { audited, shown })
     }
 
     /// The books.
     pub fn books(&self) -> &Books
-        ensures { result.now ≡ self.now }
+        ensures { result.now ≡ self.now.books }
     {
-        &self.books
+        self.audited.books()
     }
 
     /// One event, with its reply, as `Books::step` gives it: the books go on with it, from whatever history
-    /// they stood for to that history with this event. What is refused changes nothing.
+    /// they stood for to that history with this event. What is refused changes nothing. What was shown stays:
+    /// a packet is to be handed to `deliver`.
     pub fn step(&mut self, alloc: Global, event: Event) -> Reply
-        ensures beginning { beginning_of self.new ≡ beginning_of self.old }
-        ensures steps { Steps self.old (event_in event) (reply_in result) self.new }
-        ensures headline { KeepsHeadline (beginning_of self.old) (parts_in self.old) (event_in event ∷ [])
-            (reply_in result ∷ []) (parts_in self.new) }
+        ensures beginning { beginning_of self.new.books ≡ beginning_of self.old.books }
+        ensures steps { Steps self.old.books (event_in event) (reply_in result) self.new.books }
+        ensures headline { KeepsHeadline (beginning_of self.old.books) (parts_in self.old.books)
+            (event_in event ∷ []) (reply_in result ∷ []) (parts_in self.new.books) }
         ensures stays { is_refusal (reply_in result) ≡ true → self.new ≡ self.old }
+        ensures shown { self.new.shown ≡ self.old.shown }
     {
-        steps_move_ends();
-        self.books.stand();
-        let sound = sound_end(&event);
-        let reply = self.books.step(alloc, event);
-        if let Some(end) = filed_end(sound, &reply) {
-            put_end(
-                self.books.roster().members(),
-                &mut self.ends,
-                end.node,
-                end.number,
-            );
-        }
-        reply
+        self.audited.step(alloc, event)
     }
-}
 
-impl Standing {
-    /// Hands a packet over: its bytes are checked as `admit` does, and then they are one step of the books.
+    /// Hands a packet over: its bytes are checked as `admit` does, and then they are one step of the books. An
+    /// authenticator that isn't refused is kept as what its node showed last, where its number is greater.
     /// `AllocError` comes only where a growth was refused.
-
     pub fn deliver(
         &mut self,
         alloc: Global,
         cache: &mut SignatureCache,
         packet: &[u8],
     ) -> Result<Delivered, AllocError>
-        ensures beginning { beginning_of self.new ≡ beginning_of self.old }
-        ensures taken { IfOk result (λ d. IsDelivered self.old packet.now d self.new) }
-        ensures refused { OnErr result (MayBeDelivered self.old packet.now self.new) }
+        ensures beginning { beginning_of self.new.books ≡ beginning_of self.old.books }
+        ensures taken { IfOk result (λ d. IsDelivered self.old.books packet.now d self.new.books) }
+        ensures notes { IfOk result (λ d. Notes self.old packet.now d self.new) }
+        ensures refused { OnErr result (MayBeDelivered self.old.books packet.now self.new.books) }
+        ensures stays { OnErr result (self.new.shown ≡ self.old.shown) }
     {
-        spelled_is_taken();
-        what_leaves_books();
-        match admit(alloc, self.books().roster(), cache, packet) {
-            Ok(event) => Delivered::of(self.step(alloc, event)),
-            Err(refusal) => Delivered::of(ReplyOf::Refused(refusal)),
+        let shown = read_shown(alloc, packet)?;
+        let became = self.audited.deliver(alloc, cache, packet)?;
+        match became {
+            Delivered::Taken | Delivered::Already => self.note(shown),
+            Delivered::Refused(_) => {}
         }
+        Ok(became)
     }
 
-    /// The challenges to a member that are open, in the order in which they came.
-    fn challenges(&mut self, alloc: Global, node: u32) -> Result<Vec<Challenge>, AllocError>
-        ensures beginning { beginning_of self.new ≡ beginning_of self.old }
-        ensures lists { IfOk result (λ cs. Lists self.old node (map challenge_in cs.items) self.new) }
-        ensures asked { WereAsked self.old node self.new }
+    /// Keeps the authenticator of a packet, if it has one, where its number is greater.
+    fn note(&mut self, shown: Option<Authenticator>)
+        ensures books { self.new.books ≡ self.old.books }
+        ensures shown { self.new.shown ≡ with_packet self.old.books.roster shown self.old.shown }
     {
-        match Said::of(self.step(alloc, EventOf::Ask(node, Question::Challenges))) {
-            Said::Open(challenges) => Ok(challenges),
-            _ => Err(AllocError),
+        if let Some(authenticator) = shown {
+            let members = self.audited.books().roster().members();
+            note_shown(members, &mut self.shown, authenticator);
         }
     }
+}
 
-    /// A member's failure indication.
-    fn indication(&mut self, alloc: Global, node: u32) -> Result<Indication, AllocError>
-        ensures beginning { beginning_of self.new ≡ beginning_of self.old }
-        ensures told { IfOk result (λ i.
-            Steps self.old (Ask node ItsIndication) (Told (indication_in i)) self.new) }
-        ensures asked { WereAsked self.old node self.new }
-    {
-        match Said::of(self.step(alloc, EventOf::Ask(node, Question::Indication))) {
-            Said::Told(indication) => Ok(indication),
-            _ => Err(AllocError),
-        }
-    }
-
+impl Standing {
     /// The last number of a member's log that was filed sound, 0 where none was.
     pub fn end(&self, node: u32) -> Option<u64>
-        ensures { result ≡ end_in self.now.roster node (ends_of (parts_in self.now)) }
+        ensures { result ≡ end_in self.now.books.roster node (ends_of (parts_in self.now.books)) }
     {
-        self.books.stand();
-        end_of(self.books.roster().members(), &self.ends, node)
+        self.audited.end(node)
+    }
+
+    /// The authenticator of a node with the greatest number of those that were handed in and not refused.
+    pub fn shown(&self, node: u32) -> Option<&Authenticator>
+        ensures { option_map (λ a. a.now) result ≡ last_shown self.now node }
+    {
+        shown_of(self.audited.books().roster().members(), &self.shown, node)
     }
 
     /// What the books await of a node: the challenges that are open, none where it is no member. `AllocError`
     /// comes only where a growth was refused.
     pub fn wanted(&mut self, alloc: Global, node: u32) -> Result<Vec<Challenge>, AllocError>
-        ensures beginning { beginning_of self.new ≡ beginning_of self.old }
-        ensures lists { IfOk result (λ cs. ListsIf self.old node (map challenge_in cs.items) self.new) }
-        ensures asked { WereAsked self.old node self.new }
+        ensures beginning { beginning_of self.new.books ≡ beginning_of self.old.books }
+        ensures lists { IfOk result (λ cs.
+            ListsIf self.old.books node (map challenge_in cs.items) self.new.books) }
+        ensures asked { WereAsked self.old.books node self.new.books }
+        ensures shown { self.new.shown ≡ self.old.shown }
     {
-        if self.books.roster().member(node).is_none() {
-            return Ok(Vec::new(alloc));
-        }
-        self.challenges(alloc, node)
+        self.audited.wanted(alloc, node)
     }
 
     /// What the books say of a node; none where it is no member. `AllocError` comes only where a growth was
     /// refused.
     pub fn told(&mut self, alloc: Global, node: u32) -> Result<Option<NodeTold>, AllocError>
-        ensures beginning { beginning_of self.new ≡ beginning_of self.old }
-        ensures told { IfOk result (λ told. TellsIf self.old node told self.new) }
-        ensures asked { WereAsked self.old node self.new }
+        ensures beginning { beginning_of self.new.books ≡ beginning_of self.old.books }
+        ensures told { IfOk result (λ told. TellsIf self.old.books node told self.new.books) }
+        ensures asked { WereAsked self.old.books node self.new.books }
+        ensures shown { self.new.shown ≡ self.old.shown }
     {
-        if self.books.roster().member(node).is_none() {
-            return Ok(None);
-        }
-        let indication = self.indication(alloc, node)?;
-        let open = self.challenges(alloc, node)?.len();
-        match self.end(node) {
-            Some(end) => Ok(Some(NodeTold {
-                node,
-                indication,
-                open,
-                end,
-            })),
-            None => Err(AllocError),
-        }
+        self.audited.told(alloc, node)
+    }
+
+    /// The evidence against a node, if there is some; none where it is no member. `AllocError` comes only where
+    /// a growth was refused.
+    pub fn evidence(
+        &mut self,
+        alloc: Global,
+        node: u32,
+    ) -> Result<Option<Arc<Evidence>>, AllocError>
+        ensures beginning { beginning_of self.new.books ≡ beginning_of self.old.books }
+        ensures shows { IfOk result (λ e.
+            ShowsIf self.old.books node (option_map arc_value e) self.new.books) }
+        ensures asked { WereAsked self.old.books node self.new.books }
+        ensures shown { self.new.shown ≡ self.old.shown }
+    {
+        self.audited.evidence(alloc, node)
     }
 }

@@ -3,8 +3,8 @@
 ghost use Rattle.std.specs.Prelude.{◌≡◌, IfOk, string_bytes};
 ghost use Rattle.watching.specs.Telling.{told_line};
 
-use node_book::Indication;
 use std::alloc::{AllocError, Global};
+use witness_books::Indication;
 use witness_calls::indication_word;
 
 /// What a witness's books say of a member.

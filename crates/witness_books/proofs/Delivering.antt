@@ -28,7 +28,7 @@ use Rattle.node_book.specs.witness_spec.Histories.{BookParts, StandsFor, StandEa
 use Rattle.node_book.specs.witness_spec.Contract.{StepsTo}
 use Rattle.node_book.specs.Events.{key_of}
 use Rattle.witness_books.specs.Delivering.{IsDelivery, Spell}
-use Rattle.witness_laws.proofs.OfAnswers.Answering.{roster_self}
+use Rattle.node_book.proofs.witness_laws.OfAnswers.Answering.{roster_self}
 
 -- ---- whose step it is
 

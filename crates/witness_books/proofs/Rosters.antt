@@ -6,7 +6,7 @@ use Rattle.authenticator.specs.declared.member.Member.{Member}
 use Rattle.authenticator.proofs.Signed.{is_false}
 use Rattle.node_book.specs.witness_spec.Whose.{same_roster}
 use Rattle.node_book.proofs.witness_laws.Checked.{roster_is}
-use Rattle.witness_laws.proofs.OfAnswers.Answering.{roster_self}
+use Rattle.node_book.proofs.witness_laws.OfAnswers.Answering.{roster_self}
 
 -- What is true exactly where two rosters are equal is the test of them.
 pub test_of_rosters : (b : Bool) (xs ys : List Member) → IsTrue b ↔ (xs ≡ ys) → b ≡ same_roster xs ys

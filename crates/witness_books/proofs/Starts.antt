@@ -10,7 +10,7 @@ use Rattle.std.proofs.lemmas.List.{drop_more, take_rest}
 use Rattle.std.proofs.Math.ListN.{drop_of_length-le}
 use Rattle.authenticator.specs.Roster.{IsRoster}
 use Rattle.authenticator.specs.declared.member.Member.{Member}
-use Rattle.challenge.specs.KnownBases as bases
+use Rattle.node_book.specs.challenge.KnownBases as bases
 use Rattle.secure_log.specs.LogEntries.Chain.{IsAmong}
 use Rattle.node_book.specs.Rows.{BaseIsOfLog, known_in}
 use Rattle.node_book.proofs.witness_book_laws.Histories.{base_known, its_member}

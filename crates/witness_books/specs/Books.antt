@@ -7,7 +7,7 @@ use Rattle.std.specs.Coded.{Coded, code_by, coded×, coded_list}
 use Rattle.authenticator.specs.Roster.{IsRoster}
 use Rattle.authenticator.specs.declared.member.Member.{Member}
 use Rattle.authenticator.specs.contracts.member.Member as members
-use Rattle.challenge.specs.KnownBases as bases
+use Rattle.node_book.specs.challenge.KnownBases as bases
 use Rattle.node_book.specs.witness_spec.Replies.{Reply}
 use Rattle.node_book.specs.witness_spec.Replies as replies
 use Rattle.node_book.specs.witness_spec.Starting.{KnownBase, Beginning, base_of}

@@ -1,6 +1,7 @@
 pub use Rattle.authenticator.specs as authenticator
 pub use Rattle.node_book.specs.witness_spec as witness_spec
 pub use Rattle.node_book.specs as node_book
+pub use Rattle.node_book.specs.challenge as challenge
 pub mod Memory
 pub mod Routing
 pub mod Books

@@ -3,7 +3,7 @@ use Rattle.std.specs.Prelude.{◌≡◌, ℕ, ◌==◌, List, map, find, Option,
 use Rattle.std.specs.List.{AllByRecursion, IsDistinct}
 use Rattle.authenticator.specs.Roster.{member_of}
 use Rattle.authenticator.specs.declared.member.Member.{Member}
-use Rattle.challenge.specs.KnownBases as bases
+use Rattle.node_book.specs.challenge.KnownBases as bases
 use Rattle.node_book.specs.evidence_spec.Base.{IsBaseOf}
 use Rattle.node_book.specs.witness_spec.Starting.{KnownBase, node_of}
 use Rattle.node_book.specs.Rows.{known_in}

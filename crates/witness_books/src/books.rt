@@ -24,9 +24,8 @@ use crate::note::{Note, event_twice, note_refusal};
 use crate::route::{Routed, refuse_event, route};
 use crate::start::{StartFault, books_at_first, check_start, share_bases};
 use authenticator::{Checked, Member, Roster};
-use challenge::Base;
 use node_book::{
-    Book, Event, PlainReply, Refusal, Reply, Step, books_are_ready, books_can_stand,
+    Base, Book, Event, PlainReply, Refusal, Reply, Step, books_are_ready, books_can_stand,
     journals_are_histories, left_out_changes_nothing, what_leaves_books,
 };
 use std::alloc::{AllocError, AllocFailed, Global};

@@ -12,9 +12,11 @@ mod start;
 pub use authenticator::Roster;
 pub use books::Books;
 pub use delivery::{event_of, read_event};
-pub use node_book::{Event, EventOf, Indication, Question, Refusal, Reply, ReplyOf};
+pub use node_book::{
+    Back, Base, Event, EventOf, Indication, JobVerdict, Question, Refusal, ReplayDone, ReplayJob,
+    Reply, ReplyOf, SharedSegment,
+};
 pub use note::Note;
-pub use replay_jobs::{Back, JobVerdict, ReplayDone, ReplayJob, SharedSegment};
 pub use route::refuse_event;
 pub use runs::run;
 pub use start::StartFault;

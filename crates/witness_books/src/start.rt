@@ -3,7 +3,7 @@
 ghost use Rattle.std.specs.Prelude.{◌≡◌, ◌==◌, ◌↔◌, All, IfErr, IfOk, IsTrue, map};
 ghost use Rattle.std.specs.List.{AllByRecursion, list_any};
 ghost use Rattle.authenticator.specs.Roster.{IsRoster};
-ghost use Rattle.challenge.specs.KnownBases.{parts_of};
+ghost use Rattle.node_book.specs.challenge.KnownBases.{parts_of};
 ghost use Rattle.node_book.specs.evidence_spec.Base.{IsBaseOf};
 ghost use Rattle.node_book.specs.Rows.{BaseIsOfLog, base_in, known_in};
 ghost use Rattle.node_book.specs.witness_spec.Starting.{IsBeginning, IsOfSome, node_of};
@@ -14,9 +14,7 @@ ghost use Rattle.witness_books.specs.Starts.{base_at, handed, start_fault_number
 
 use crate::route::has_key;
 use authenticator::{Checked, Member, Roster};
-use challenge::Base;
-use node_book::Book;
-use replay::state_kind;
+use node_book::{Base, Book, state_kind};
 use std::alloc::{AllocError, Global};
 use std::sync::Arc;
 use thiserror::Error;

@@ -1,8 +1,8 @@
 -- Claims that follow others.
 -- Serves: the steps of a round of replays.
 use Rattle.std.proofs.Common.{◌≡◌, ◌∙◌, sym, ap, inl, inr, List, [], ◌∷◌, ◌++◌, append_assoc, append-nil}
-use Rattle.node_book.specs.witness_spec.Events.{Event}
-use Rattle.node_book.specs.witness_spec.Replies.{Reply}
+use Rattle.witness_books.specs.node_book.witness_spec.Events.{Event}
+use Rattle.witness_books.specs.node_book.witness_spec.Replies.{Reply}
 use Rattle.witness_service.specs.Claims.{Claim, Keeps}
 use Rattle.witness_calls.specs.Telling.{Extends}
 

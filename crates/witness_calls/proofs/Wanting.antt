@@ -1,10 +1,10 @@
 -- What doesn't say that memory ran out.
 -- Serves: Said's is_no_memory.
 use Rattle.std.proofs.Common.{◌≡◌, false, refl}
-use Rattle.node_book.specs.Replies.{refusal_in}
-use Rattle.node_book.specs.declared.refusal.Refusal.{Refusal}
-use Rattle.node_book.specs.declared.refusal.Refusal.TheVariants as f
-use Rattle.node_book.specs.witness_spec.Replies.{is_want}
+use Rattle.witness_books.specs.node_book.Replies.{refusal_in}
+use Rattle.witness_books.specs.node_book.declared.refusal.Refusal.{Refusal}
+use Rattle.witness_books.specs.node_book.declared.refusal.Refusal.TheVariants as f
+use Rattle.witness_books.specs.node_book.witness_spec.Replies.{is_want}
 use Rattle.witness_calls.specs.Telling.{wants_memory}
 use Rattle.witness_calls.specs.declared.said.Said.{Said}
 use Rattle.witness_calls.specs.declared.said.Said.TheVariants as s

@@ -2,8 +2,8 @@
 -- Serves: Caller's told.
 use Rattle.std.proofs.Common.{inr, List, ℕ, Result, Ok, Err}
 use Rattle.std.specs.Prelude.{IfErr}
-use Rattle.node_book.specs.declared.reply.Indication.{Indication}
-use Rattle.node_book.specs.witness_spec.Events.{Ask, ItsIndication, ItsChallenges}
+use Rattle.witness_books.specs.node_book.declared.reply.Indication.{Indication}
+use Rattle.witness_books.specs.node_book.witness_spec.Events.{Ask, ItsIndication, ItsChallenges}
 use Rattle.witness_service.specs.Claims.{Claim}
 use Rattle.witness_calls.specs.Telling.{Says, Withholds}
 use Rattle.witness_calls.specs.declared.said.Said.{Said}

@@ -1,12 +1,12 @@
 -- What a witness says to a caller: what its replies say, and what it tells of a node.
 use Rattle.std.specs.Prelude.{◌≡◌, ◌⊎◌, ℕ, Bool, false, List, [], ◌∷◌, ◌++◌, length, map, option_map, codes}
 use Rattle.std.specs.Arc.{arc_value}
-use Rattle.node_book.specs.Replies.{challenge_in, indication_in, refusal_in}
-use Rattle.node_book.specs.declared.refusal.Refusal.{Refusal}
-use Rattle.node_book.specs.declared.reply.Indication.{Indication}
-use Rattle.node_book.specs.witness_spec.Events.{JobParts, DoneParts, Event, Ask, ItsIndication, ItsChallenges}
-use Rattle.node_book.specs.witness_spec.Replies.{Reply, Challenge, is_want}
-use Rattle.node_book.specs.witness_spec.Replies as r
+use Rattle.witness_books.specs.node_book.Replies.{challenge_in, indication_in, refusal_in}
+use Rattle.witness_books.specs.node_book.declared.refusal.Refusal.{Refusal}
+use Rattle.witness_books.specs.node_book.declared.reply.Indication.{Indication}
+use Rattle.witness_books.specs.node_book.witness_spec.Events.{JobParts, DoneParts, Event, Ask, ItsIndication, ItsChallenges}
+use Rattle.witness_books.specs.node_book.witness_spec.Replies.{Reply, Challenge, is_want}
+use Rattle.witness_books.specs.node_book.witness_spec.Replies as r
 use Rattle.witness_service.specs.Claims.{Claim, Keeps}
 use Rattle.witness_calls.specs.declared.said.Said.{Said}
 use Rattle.witness_calls.specs.declared.said.Said.TheVariants as s

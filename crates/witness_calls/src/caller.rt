@@ -1,10 +1,10 @@
 //! A pass at a witness.
 
 ghost use Rattle.std.specs.Prelude.{◌≡◌};
-ghost use Rattle.node_book.specs.Events.{event_in, question_in};
-ghost use Rattle.node_book.specs.Replies.{reply_in};
-ghost use Rattle.node_book.specs.witness_spec.Events.{Ask, Audit, Forward, ItsChallenges, ItsEvidence};
-ghost use Rattle.node_book.specs.witness_spec.Events.{ItsIndication};
+ghost use Rattle.witness_books.specs.node_book.Events.{event_in, question_in};
+ghost use Rattle.witness_books.specs.node_book.Replies.{reply_in};
+ghost use Rattle.witness_books.specs.node_book.witness_spec.Events.{Ask, Audit, Forward, ItsChallenges, ItsEvidence};
+ghost use Rattle.witness_books.specs.node_book.witness_spec.Events.{ItsIndication};
 ghost use Rattle.witness_service.specs.Claims.{Keeps};
 ghost use Rattle.witness_calls.specs.Telling.{Hears, Says};
 

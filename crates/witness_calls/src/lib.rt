@@ -21,4 +21,6 @@ pub use replays::{Outcome, Replayed};
 pub use said::{Said, indication_word};
 pub use shelf::Shelf;
 pub use told::Told;
-pub use witness_service::{Closed, Pass, ReceiptFault, StartFault, WitnessService};
+pub use witness_service::{
+    Closed, Pass, ReceiptFault, SignatureCache, StartFault, WitnessService, admit,
+};

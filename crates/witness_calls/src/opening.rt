@@ -1,8 +1,8 @@
 //! A witness, opened.
 
 ghost use Rattle.std.specs.Prelude.{◌≡◌, [], All, IfErr, IfOk, map, vec_len};
-ghost use Rattle.node_book.specs.Rows.{known_in};
-ghost use Rattle.node_book.specs.witness_spec.Starting.{from_the_first};
+ghost use Rattle.witness_books.specs.node_book.Rows.{known_in};
+ghost use Rattle.witness_books.specs.node_book.witness_spec.Starting.{from_the_first};
 ghost use Rattle.witness_books.specs.Books.{beginning_of};
 ghost use Rattle.witness_books.specs.Starts.{MayStart, StartFails, handed};
 

@@ -11,7 +11,8 @@ use replay_pool::{NoGate, replay_round};
 use std::alloc::AllocError;
 use std::sync::Wait;
 use std::thread::Threads;
-use witness_service::{Back, EventOf, JobVerdict, ReplayDone, ReplayJob, ReplyOf};
+use witness_books::{Back, JobVerdict, ReplayDone, ReplayJob};
+use witness_service::{EventOf, ReplyOf};
 
 /// What the replay of a node's segment found.
 #[derive(Clone, Copy)]

@@ -1,8 +1,8 @@
 //! What a witness said.
 
 ghost use Rattle.std.specs.Prelude.{◌≡◌};
-ghost use Rattle.node_book.specs.Replies.{refusal_in, reply_in};
-ghost use Rattle.node_book.specs.witness_spec.Replies.{is_want};
+ghost use Rattle.witness_books.specs.node_book.Replies.{refusal_in, reply_in};
+ghost use Rattle.witness_books.specs.node_book.witness_spec.Replies.{is_want};
 ghost use Rattle.witness_calls.specs.Telling.{IsSaid, indication_word, wants_memory};
 
 use authenticator::{Authenticator, Number};

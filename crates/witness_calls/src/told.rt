@@ -1,7 +1,7 @@
 //! What a witness says of a node, in one line.
 
 ghost use Rattle.std.specs.Prelude.{◌≡◌, IfErr, IfOk};
-ghost use Rattle.node_book.specs.witness_spec.Events.{Ask, ItsChallenges};
+ghost use Rattle.witness_books.specs.node_book.witness_spec.Events.{Ask, ItsChallenges};
 ghost use Rattle.witness_calls.specs.Telling.{IsListed, Says, Tells, Withholds, indication_word};
 
 use crate::caller::Caller;

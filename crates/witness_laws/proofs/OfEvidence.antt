@@ -6,3 +6,4 @@ pub mod Before
 pub mod Charges
 pub mod Audited
 pub mod Told
+pub mod Taken

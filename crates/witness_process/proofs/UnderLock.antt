@@ -6,18 +6,19 @@ use Rattle.peer_calls.specs.Calls.{judged}
 use Rattle.peer_calls.specs.declared.call.TheConstants.{WITNESS_PROGRAM}
 use Rattle.request_streams.specs.Serving.{IsAnswerIf}
 use Rattle.request_streams.specs.declared.answerer.Outcome.TheVariants as streams
-use Rattle.witness_books.specs.Books.{BooksParts, beginning_of}
+use Rattle.witness_books.specs.Books.{beginning_of}
 use Rattle.watching.specs.Answers.{AnswersRecord}
+use Rattle.watching.specs.Shown.{StandingParts}
 use Rattle.watching.specs.declared.answer.Outcome.TheVariants as outcomes
 use Rattle.watching.specs.declared.results.Host.{Host}
 use Rattle.witness_process.specs.Answered.{IsAnsweredUnderLock}
 
-pub under_lock : (h : Host) (books : BooksParts) (bytes text : List ℕ) (left : BooksParts)
-    → beginning_of left ≡ beginning_of books
-    → AnswersRecord h books (judged WITNESS_PROGRAM (message_at bytes)) outcomes.Replied text left
+pub under_lock : (h : Host) (standing : StandingParts) (bytes text : List ℕ) (left : StandingParts)
+    → beginning_of left.books ≡ beginning_of standing.books
+    → AnswersRecord h standing (judged WITNESS_PROGRAM (message_at bytes)) outcomes.Replied text left
     → IsAnswerIf (IsAnsweredUnderLock h.digest) bytes text streams.Replied
-under_lock h books bytes text left same answers = record {
-  books = books;
+under_lock h standing bytes text left same answers = record {
+  standing = standing;
   host = h;
   own = refl;
   left = left;

@@ -1,7 +1,7 @@
 -- Which line is said of a node, and when.
 use Rattle.std.specs.Prelude.{◌≡◌, ◌<◌, ◌-◌, ℕ, List, [], ◌++◌, Option, Some, None}
-use Rattle.node_book.specs.declared.reply.Indication.{Indication}
-use Rattle.node_book.specs.declared.reply.Indication.TheVariants.{Trusted, Suspected, Exposed}
+use Rattle.witness_books.specs.node_book.declared.reply.Indication.{Indication}
+use Rattle.witness_books.specs.node_book.declared.reply.Indication.TheVariants.{Trusted, Suspected, Exposed}
 use Rattle.witness_books.specs.Books.{BooksParts}
 use Rattle.watching.specs.Telling.{Tells, told_line}
 use Rattle.watching.specs.declared.told.NodeTold.{NodeTold}

@@ -33,7 +33,7 @@ impl Account {
         alloc: Global,
         node: u32,
     ) -> Result<Option<Account>, AllocError>
-        ensures beginning { beginning_of standing.new ≡ beginning_of standing.old }
+        ensures beginning { beginning_of standing.new.books ≡ beginning_of standing.old.books }
         ensures node { IfOk result (λ asked. IfSome asked (λ a. a.node ≡ node)) }
     {
         match standing.told(alloc, node)? {

@@ -17,6 +17,7 @@ pub(crate) struct Context<'a, R, T, W, E, S> {
     pub(crate) clock: &'a T,
     pub(crate) roster: &'a Roster,
     pub(crate) digest: [u8; 32],
+    pub(crate) epoch: u32,
     pub(crate) watch: &'a Mutex<Watch>,
     pub(crate) phase: &'a Mutex<Phase>,
     pub(crate) output: &'a Mutex<Output<W, E>>,

@@ -4,9 +4,9 @@ ghost use Rattle.std.specs.Prelude.{◌≡◌, ◌↔◌, IfOk, IfSome, IsNone, 
 ghost use Rattle.witness_process.specs.Lines.{IsDue, IsLineOf, IsSaid, IsUntouched, saying_of, seconds_open};
 
 use crate::opened::{OpenChallenge, Wanted};
-use node_book::Indication;
 use std::alloc::{AllocError, Global};
 use watching::NodeTold;
+use witness_books::Indication;
 
 /// What a line says of a node.
 #[derive(Clone, Copy, Debug)]

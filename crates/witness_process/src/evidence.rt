@@ -2,13 +2,12 @@
 
 use crate::context::Context;
 use challenge::Evidence;
-use node_book::Indication;
 use std::alloc::{AllocError, Global};
 use std::io::Write;
 use std::sync::Wait;
 use std::time::Clock;
-use watching::NodeTold;
-use witness_calls::{Shelf, write_case};
+use watching::{NodeTold, Shelf, write_case};
+use witness_books::Indication;
 
 /// The name of the file with the evidence against a node that is exposed, which is put in its place unless it is there;
 /// none of another node, where no folder is named, or where it can't be put there, which is said.

@@ -7,7 +7,7 @@ use std::alloc::AllocError;
 use std::sync::Wait;
 use std::thread::Threads;
 use std::time::Clock;
-use witness_service::{Back, ReplayJob};
+use witness_books::{Back, ReplayJob};
 
 /// Has the segments replayed that these nodes gave, files what was found, and hands on what the logs show of others. A
 /// node that gave none is passed over. `AllocError` comes only where a growth was refused; a replay that isn't done then

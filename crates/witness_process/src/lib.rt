@@ -14,13 +14,13 @@ mod orders;
 mod printing;
 mod rounds;
 mod rows;
+mod status;
 mod times;
 mod visits;
 mod watch;
 mod witness;
 
-pub use node_book::Indication;
 pub use orders::{Ending, WatchedServer, WitnessOrder};
-pub use watching::NodeTold;
+pub use watching::{NodeTold, Shelf};
 pub use witness::run_witness;
-pub use witness_calls::Shelf;
+pub use witness_books::Indication;

@@ -1,7 +1,7 @@
 //! What a witness watches.
 
 use authenticator::Roster;
-use std::os::unix::net::UnixListener;
+use peer_connections::Commands;
 
 /// A server that is audited.
 #[derive(Clone, Copy, Debug)]
@@ -19,6 +19,8 @@ pub struct WitnessOrder<'a, L, S> {
     pub roster: Roster,
     /// The digest of the roster's text.
     pub digest: [u8; 32],
+    /// The epoch of the roster.
+    pub epoch: u32,
     /// The servers that are audited.
     pub servers: &'a [WatchedServer<'a>],
     /// The seconds between two rounds, at least 1.
@@ -31,8 +33,8 @@ pub struct WitnessOrder<'a, L, S> {
     pub shelf: S,
     /// Where gateways and others connect.
     pub listener: L,
-    /// The control socket, by which the process can be told to stop.
-    pub control: Option<&'a UnixListener>,
+    /// Where the process can be told to stop, and asked how it is.
+    pub control: Option<Commands<'a>>,
     /// How many threads replay at once, 1 to 16; another number counts as the nearest of these.
     pub workers: usize,
 }

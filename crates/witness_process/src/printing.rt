@@ -11,7 +11,7 @@ use std::alloc::{AllocError, Global};
 use std::io::Write;
 use std::sync::Wait;
 use std::time::Clock;
-use witness_calls::Shelf;
+use watching::Shelf;
 
 /// The most lines that are said one after the other before something else is done.
 const MAX_LINES: u32 = 1024;

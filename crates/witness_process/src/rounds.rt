@@ -13,7 +13,7 @@ use std::net::{Net, TcpListener, TcpStream};
 use std::sync::Wait;
 use std::thread::Threads;
 use std::time::Clock;
-use witness_calls::Shelf;
+use watching::Shelf;
 
 /// Goes round until the process no longer serves. Where memory is refused for the connections the process ends.
 pub(crate) fn go_round<R, T, W, E, S>(

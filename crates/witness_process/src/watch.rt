@@ -12,16 +12,15 @@ use crate::rows::Row;
 use crate::times::seconds_now;
 use authenticator::{Authenticator, Roster};
 use challenge::{Challenge, Evidence};
-use node_book::{EventOf, Question, Refusal, ReplayDone, ReplayJob, ReplyOf};
 use peer_calls::Numbers;
 use request_streams::Outcome;
 use std::alloc::{AllocError, Global};
 use std::mem;
 use std::sync::Arc;
 use std::time::Clock;
-use watching::{Delivered, Host, Opened, Standing, answer_request};
-use witness_calls::Said;
-use witness_calls::packet_texts::learn_packet;
+use watching::packet_texts::learn_packet;
+use watching::{Delivered, Host, Opened, Said, Standing, answer_request};
+use witness_books::{EventOf, Question, Refusal, ReplayDone, ReplayJob, ReplyOf};
 use witness_service::SignatureCache;
 
 /// The most signatures that the cache keeps: they take some 4 MiB.
@@ -82,6 +81,23 @@ impl Watch {
     /// The last reading of the clock, in seconds.
     pub(crate) fn time(&self) -> u64 {
         self.host.time
+    }
+
+    /// Adds what the books say of each member to a text, a line each. `AllocError` comes only where a growth was
+    /// refused.
+    pub(crate) fn tell_nodes(
+        &mut self,
+        alloc: Global,
+        text: &mut String,
+    ) -> Result<(), AllocError> {
+        for row in &self.rows {
+            if let Some(account) = Account::ask(&mut self.standing, alloc, row.node)? {
+                let said = account.told().line(alloc)?;
+                let line = format!(in alloc; "node: {said}\n")?;
+                text.push_str(&line)?;
+            }
+        }
+        Ok(())
     }
 
     /// Answers a record, by the digest of the roster. Of whom it brings a packet, what is kept is asked for anew.

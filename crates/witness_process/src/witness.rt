@@ -4,23 +4,23 @@ use crate::answering::LockedWatch;
 use crate::context::Context;
 use crate::orders::{Ending, WatchedServer, WitnessOrder};
 use crate::rounds::{catch_up, go_round, keep_up};
+use crate::status::WitnessTeller;
 use crate::times::seconds_now;
 use crate::watch::Watch;
 use authenticator::Roster;
 use frames::FrameReader;
 use peer_connections::{
-    Accepting, Output, PeerStream, Phase, Waiting, attend, end_serving, set_timeouts,
+    Accepting, Commands, Output, PeerStream, Phase, Waiting, attend, end_serving, set_timeouts,
 };
 use request_streams::{ServeEnd, ServeFault, serve_requests};
 use rpc::records::Counting;
 use std::alloc::{AllocError, Global};
 use std::io::{BufReader, Write};
 use std::net::{Net, OpenListener, SocketAddr, TcpListener, TcpStream};
-use std::os::unix::net::UnixListener;
 use std::sync::{Mutex, Wait};
 use std::thread;
 use std::thread::{Scope, Threads};
-use witness_calls::Shelf;
+use watching::Shelf;
 
 /// The bytes that are read of a stream at once.
 const READ_AHEAD: usize = 65536;
@@ -48,6 +48,7 @@ where
     let WitnessOrder {
         roster,
         digest,
+        epoch,
         servers,
         every,
         patience,
@@ -69,6 +70,7 @@ where
         clock,
         roster: &roster,
         digest,
+        epoch,
         watch: &watch,
         phase: &phase,
         output,
@@ -98,7 +100,7 @@ fn run_until_end<'a, R, T, L, S, W, E>(
     context: Context<'a, R, T, W, E, S>,
     servers: &'a [WatchedServer<'a>],
     listener: &'a L,
-    control: Option<&'a UnixListener>,
+    control: Option<Commands<'a>>,
 )
 where
     R: Threads + Wait + Sync + Net<Listener = TcpListener, Stream = TcpStream>,
@@ -127,7 +129,7 @@ fn run_threads<'s, V, R, T, L, W, E, S>(
     context: Context<'s, R, T, W, E, S>,
     accepting: Accepting<'s, R, T, L, W, E>,
     servers: &'s [WatchedServer<'s>],
-    control: Option<&'s UnixListener>,
+    control: Option<Commands<'s>>,
     scope: &Scope<'s, V>,
 )
 where
@@ -143,27 +145,47 @@ where
     serve_all(context, accepting, scope)
 }
 
-/// Starts the thread that waits for the command to stop, if there is a control socket.
+/// Starts the thread that takes commands, if there is a control socket.
 fn attend_control<'s, V, R, T, W, E, S>(
     context: Context<'s, R, T, W, E, S>,
-    control: Option<&'s UnixListener>,
+    control: Option<Commands<'s>>,
     scope: &Scope<'s, V>,
 )
 where
     R: Threads + Wait + Sync,
     T: std::time::Clock + Sync,
+    W: Send,
+    E: Send,
+    S: Send,
 {
     let Some(control) = control else {
         return;
     };
+    let run = move || answer_commands(context, control);
+    let _ = scope.spawn(run);
+}
+
+/// Takes commands at the control socket until the process no longer serves.
+fn answer_commands<R, T, W, E, S>(context: Context<'_, R, T, W, E, S>, commands: Commands<'_>)
+where
+    R: Wait,
+    T: std::time::Clock,
+{
     let Context {
         rt,
+        alloc,
         clock,
         phase,
         ..
     } = context;
-    let run = move || attend(rt, clock, phase, control);
-    let _ = scope.spawn(run);
+    attend(
+        rt,
+        alloc,
+        clock,
+        phase,
+        commands,
+        &WitnessTeller { context },
+    );
 }
 
 /// Starts the threads that go round the servers and keep up with what is pushed.

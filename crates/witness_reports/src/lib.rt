@@ -6,4 +6,6 @@ mod audits;
 mod report;
 
 pub use audits::{are_forwarded, was_filed_to, was_refused};
+pub use node_book::Indication;
 pub use report::{NodeReport, final_reports};
+pub use witness_service::Note;

@@ -9,8 +9,7 @@ ghost use Rattle.node_book.specs.witness_spec.Replies.{EvidenceIs, Told};
 ghost use Rattle.witness_reports.specs.Reports.{AreAnswers, EndsWith, ListsSoMany};
 
 use authenticator::Member;
-use challenge::Evidence;
-use node_book::{EventOf, Indication, PlainEvent, PlainReply, Question, ReplyOf};
+use node_book::{EventOf, Evidence, Indication, PlainEvent, PlainReply, Question, ReplyOf};
 use std::alloc::{AllocError, Global};
 use std::sync::Arc;
 use witness_service::{Journal, Note};

@@ -3,7 +3,7 @@
 use Rattle.std.proofs.Common.{◌≡◌, ℕ, ◌<◌, List}
 use Rattle.std.proofs.Common.{map, get_or, length, sym, ap, ◌∙◌}
 use Rattle.std.proofs.lemmas.List.{get_or-map}
-use Rattle.challenge.specs.KnownBases as bases
+use Rattle.witness_books.specs.challenge.KnownBases as bases
 use Rattle.witness_books.specs.node_book.Rows.{known_in}
 
 -- a base in memory is told by what a witness keeps of it

@@ -4,10 +4,9 @@ ghost use Rattle.std.specs.Prelude.{◌≡◌, ◌↔◌, IfOk, IsTrue};
 ghost use Rattle.witness_books.specs.Books.{bases_in, beginning_in, beginning_of};
 
 use authenticator::{Roster, Signs};
-use challenge::Base;
 use std::alloc::{AllocError, Global};
 use std::sync::Arc;
-use witness_books::Books;
+use witness_books::{Base, Books};
 
 /// These bases, each with one owner more. `AllocError` comes where a growth was refused, or where owners
 /// can't be counted further.

@@ -5,8 +5,8 @@ use Rattle.std.specs.List.{All, AllByRecursion}
 use Rattle.std.proofs.lemmas.List.Elements.{All-from_recursion}
 use Rattle.xdr.specs.Item.{Fits, choice}
 use Rattle.mount_types.specs.declared.limits.TheConstants.{MNTNAMLEN, MNTPATHLEN}
-use Rattle.fs_spec.specs.Maxima.{max_name}
-use Rattle.fs_spec.specs.Listing.{NamedEntry}
+use Rattle.nfs_laws.specs.fs_spec.Maxima.{max_name}
+use Rattle.nfs_laws.specs.fs_spec.Listing.{NamedEntry}
 use Rattle.state_machine.specs.file_texts.Bounds.{IsWritable}
 use Rattle.state_spec.specs.server_spec.FileItems.{file_item, entry_item, is_file_kind, kind_item}
 use Rattle.state_machine.specs.file_texts.Parts.{kind_said, file_said, body_of}

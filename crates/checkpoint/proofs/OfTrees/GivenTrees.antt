@@ -5,11 +5,11 @@ use Rattle.std.proofs.Common.{sym, subst, ◌∙◌}
 use Rattle.std.specs.Prelude.{IsTrue, ◌↔◌}
 use Rattle.std.specs.List.{All}
 use Rattle.std.proofs.lemmas.List.Elements.{All-nil, All-map, All-from_recursion}
-use Rattle.fs_spec.specs.Listing.{NamedEntry, entry_name}
-use Rattle.fs_spec.specs.Maxima.{max_name}
-use Rattle.fs_spec.specs.Names.{is_name}
-use Rattle.fs_spec.specs.Files.{Body, Regular, Symlink, Directory, File, listing_in}
-use Rattle.fs_spec.specs.Trees.{IsBody, IsFile}
+use Rattle.nfs_laws.specs.fs_spec.Listing.{NamedEntry, entry_name}
+use Rattle.nfs_laws.specs.fs_spec.Maxima.{max_name}
+use Rattle.nfs_laws.specs.fs_spec.Names.{is_name}
+use Rattle.nfs_laws.specs.fs_spec.Files.{Body, Regular, Symlink, Directory, File, listing_in}
+use Rattle.nfs_laws.specs.fs_spec.Trees.{IsBody, IsFile}
 use Rattle.nfs_laws.specs.Sizes.Bounds.{HasWords, AreWords}
 use Rattle.file_tree.specs.tree_rules.FileRules.Rules.{AreFiles, AreNames, AreRising, numbers_of}
 use Rattle.file_tree.proofs.tree_rules.OfFileRules.Listed.{holds_at, place_of_file}

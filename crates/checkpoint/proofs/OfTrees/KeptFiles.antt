@@ -1,8 +1,8 @@
 -- A digest that is kept for a file that is there is that of its text.
 -- Serves: `digest_of`.
 use Rattle.std.proofs.Common.{◌≡◌, ℕ, List, Some, sym, ap, ◌∙◌}
-use Rattle.fs_spec.specs.Files.{File, Files, file_at}
-use Rattle.fs_spec.proofs.Walks.{some_same}
+use Rattle.nfs_laws.specs.fs_spec.Files.{File, Files, file_at}
+use Rattle.nfs_laws.proofs.fs_spec.Walks.{some_same}
 use Rattle.file_tree.specs.KeptDigests.{IsDigestAt}
 use Rattle.state_spec.specs.server_spec.FileItems.{file_digest}
 

@@ -5,8 +5,8 @@ use Rattle.std.proofs.Common.{arith}
 use Rattle.std.specs.Prelude.{OnOk}
 use Rattle.xdr.specs.Item.{Item, Value, Fits, array, spelling, number_spelling}
 use Rattle.xdr.specs.Writing.{Adds}
-use Rattle.fs_spec.specs.Maxima.{max_files}
-use Rattle.fs_spec.specs.Files.{File}
+use Rattle.nfs_laws.specs.fs_spec.Maxima.{max_files}
+use Rattle.nfs_laws.specs.fs_spec.Files.{File}
 use Rattle.inodes.specs.Inodes as stored
 use Rattle.inodes.specs.declared.inode.Inode.{Inode}
 use Rattle.file_tree.specs.tree_rules.Listed.{files_in}

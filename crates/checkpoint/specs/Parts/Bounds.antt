@@ -3,7 +3,7 @@ use Rattle.std.specs.Prelude.{◌≤◌, length}
 use Rattle.std.specs.List.{All}
 use Rattle.mount_types.specs.declared.limits.TheConstants.{MNTNAMLEN, MNTPATHLEN}
 use Rattle.mount_types.specs.Mounts.{max_mounts}
-use Rattle.fs_spec.specs.Maxima.{max_files}
+use Rattle.nfs_laws.specs.fs_spec.Maxima.{max_files}
 use Rattle.state_machine.specs.file_texts.Bounds.{IsWritable}
 use Rattle.state_machine.specs.file_texts.Parts.{body_of}
 use Rattle.state_machine.specs.file_texts.declared.parts.FilePart.{FilePart}

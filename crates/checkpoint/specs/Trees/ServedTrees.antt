@@ -1,9 +1,9 @@
 -- What the files of a server are.
 use Rattle.std.specs.Prelude.{ℕ, List, IsTrue}
 use Rattle.nfs_items.specs.Terms.{FileNumber}
-use Rattle.fs_spec.specs.Files.{File}
-use Rattle.fs_spec.specs.Trees.{IsFileTree}
-use Rattle.fs_spec.specs.Changes.Limits.{has_room}
+use Rattle.nfs_laws.specs.fs_spec.Files.{File}
+use Rattle.nfs_laws.specs.fs_spec.Trees.{IsFileTree}
+use Rattle.nfs_laws.specs.fs_spec.Changes.Limits.{has_room}
 use Rattle.file_tree.specs.tree_rules.FileRules.Rules.{AreRising, files_listed, numbers_of}
 
 -- files in a list are those of a server of a number, with the number that the next file gets: by rising

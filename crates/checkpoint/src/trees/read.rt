@@ -2,8 +2,8 @@
 
 ghost use Rattle.std.specs.Prelude.{◌≡◌, ◌<◌, ◌^◌, ◌↔◌, ℕ, IfOk, IsTrue, MatchOption};
 ghost use Rattle.std.specs.List.{All};
-ghost use Rattle.fs_spec.specs.Trees.{IsFileTree};
-ghost use Rattle.fs_spec.specs.Changes.Limits.{has_room};
+ghost use Rattle.nfs_laws.specs.fs_spec.Trees.{IsFileTree};
+ghost use Rattle.nfs_laws.specs.fs_spec.Changes.Limits.{has_room};
 ghost use Rattle.nfs_laws.specs.Sizes.Bounds.{HasWords};
 ghost use Rattle.file_tree.specs.tree_rules.FileRules.Rules.{AreFiles, files_listed};
 ghost use Rattle.inodes.specs.Inodes.{file_in, files_of};

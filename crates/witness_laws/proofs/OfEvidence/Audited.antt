@@ -2,7 +2,8 @@
 -- replay finds a fault is one after them, from where the audit begins on.
 -- Serves: evidence_where_exposed, evidence_proves.
 use Rattle.std.proofs.Common.{◌≡◌, ℕ, ◌+◌, ◌-◌, ◌^◌, ◌<◌, ◌≤◌, Bool, true, false, not, ◌==◌, nat_lt, List}
-use Rattle.std.proofs.Common.{[], ◌∷◌, ◌++◌, length, Option, Some, None, refl, sym, ap, subst, ◌∙◌, arith}
+use Rattle.std.proofs.Common.{[], ◌∷◌, ◌++◌, ◌⊎◌, inl, inr, length, Option, Some, None, refl, sym, ap, subst}
+use Rattle.std.proofs.Common.{◌∙◌, arith}
 use Rattle.std.proofs.Common.{append_assoc, append-nil, eq-eqb}
 use Rattle.std.specs.Prelude.{IsTrue}
 use Rattle.std.specs.List.{AllByRecursion}
@@ -16,7 +17,7 @@ use Rattle.authenticator.specs.declared.member.LogVersion.{LogVersion}
 use Rattle.authenticator.specs.declared.member.LogVersion.TheVariants.{One, Two}
 use Rattle.authenticator.specs.declared.member.Member.{Member}
 use Rattle.secure_log.specs.LogEntries.Chain.{Link, Logged, last_hash, logged_link}
-use Rattle.secure_log.specs.LogEntries.Chain.{logged_links, span, IsAmong}
+use Rattle.secure_log.specs.LogEntries.Chain.{logged_links, marks, span, IsAmong}
 use Rattle.secure_log.specs.LogEntries.Words.{ClosesAt, MaySkip, last_word}
 use Rattle.secure_log.specs.Versioned.{VersionedParts, ClosedParts, IsClosedIn, logged_item, logged_values}
 use Rattle.secure_log.specs.Versioned.{segment_marks, start_number, versioned_links, versioned_value}
@@ -48,7 +49,7 @@ use Rattle.witness_laws.proofs.OfEvidence.Audits.{IsGoodSegment, its_log_version
 use Rattle.witness_laws.proofs.OfEvidence.Before.{on_right, one_shown, accepted_shown}
 use Rattle.witness_laws.proofs.OfEvidence.Charges.{IsGoodCharge, based_fits, its_version, lower_fits, replay_fits}
 use Rattle.witness_laws.proofs.OfEvidence.Starts.{base_hash, base_shown, begun_fits, start_there}
-use Rattle.witness_laws.proofs.OfEvidence.Marks.{few_spans, last_spans, last_there, opening_there}
+use Rattle.witness_laws.proofs.OfEvidence.Marks.{few_spans, last_spans, last_there, marks_either, opening_there}
 
 -- ---- entries in two parts
 
@@ -136,6 +137,10 @@ pub record IsAudited (w : Watched) (past : Past) : Type 0 where
   pub there : IsAmong
       ((end_of w past).number, last_hash (first_hash w) (logged_links (first_number w) (audited w past)))
       (shown w past)
+  -- and so was each of their marks
+  pub marked : (q : Pair)
+      → IsAmong q (marks (first_number w) (first_hash w) (logged_links (first_number w) (audited w past)))
+      → IsAmong q (shown w past)
   -- where there are any, the hash where the audit began has 32 bytes
   pub opened : 0 < length (audited w past) → length (first_hash w) ≡ 32
   -- each has a text
@@ -154,6 +159,7 @@ pub none_audited : (w : Watched) → IsInRoster w → IsAudited w []
 none_audited w is = record {
   count = omega arith;
   there = start_there w.roster w.member w.base is.base;
+  marked = λ q i. at_first q i;
   opened = λ some. absurd (omega (arith, some));
   each = tt;
   skips = tt;
@@ -161,6 +167,10 @@ none_audited w is = record {
   honest = tt;
   last = refl;
 }
+  where
+    at_first : (q : Pair) → IsAmong q (marks (first_number w) (first_hash w) []) → IsAmong q (shown w [])
+    at_first q (inl e) = subst (λ p. IsAmong p (shown w [])) (sym e) (start_there w.roster w.member w.base is.base)
+    at_first q (inr i) = absurd i
 
 -- the hash before entries has 32 bytes, where it has with some, or is that of a segment that follows
 opened_by : (hash : List ℕ) (n : ℕ) (front : List Logged) (opening : List ℕ)
@@ -180,6 +190,10 @@ record IsJoined (w : Watched) (past : Past) (s : VersionedParts) : Type 0 where
       (logged_links (first_number w) (audited w past ++ s.entries)) s.closing.word
   places : logged_places (first_number w) (first_hash w) (audited w past ++ s.entries)
       ≡ logged_places (first_number w) (first_hash w) (audited w past) ++ places_in s
+  marked : (q : Pair)
+      → IsAmong q (marks (first_number w) (first_hash w) (logged_links (first_number w) (audited w past ++ s.entries)))
+      → IsAmong q (marks (first_number w) (first_hash w) (logged_links (first_number w) (audited w past)))
+      ⊎ IsAmong q (segment_marks s)
 
 is_joined : (w : Watched) (past : Past) (c : ClosedParts) → IsInRoster w → is_exposed w past ≡ false
     → IsAudited w past → IsNext w past c → IsGoodSegment w c.segment → IsJoined w past c.segment
@@ -229,6 +243,11 @@ is_joined w past c member e a next good =
           ∙ ap (λ n. logged_places (first_number w) (first_hash w) front ++ logged_places n hash es) place
           ∙ ap (λ h. logged_places (first_number w) (first_hash w) front ++ logged_places (s.first - 1) h es) opening
           ∙ ap (λ ps. logged_places (first_number w) (first_hash w) front ++ ps) (sym own);
+      marked = λ q i.
+          subst (λ ms. IsAmong q (marks n0 h0 (logged_links n0 front)) ⊎ IsAmong q ms)
+          (ap (λ n. marks n hash (logged_links n es)) place
+          ∙ ap (λ h. marks (s.first - 1) h (versioned_links s)) opening)
+          (marks_either n0 h0 front es q i);
     }
 
 -- its last pair was shown
@@ -244,7 +263,7 @@ last_shown w past c next good =
     (last_there (s.first - 1) s.opening links)))
 
 module _ (w : Watched) (past : Past) (p : Step × Reply) where
-  shown_stays : (q : Pair) → IsAmong q (shown w past) → IsAmong q (shown w (p ∷ past))
+  pub shown_stays : (q : Pair) → IsAmong q (shown w past) → IsAmong q (shown w (p ∷ past))
   shown_stays q i =
       on_right q (pairs_noted w.member.log_version (is_exposed w past) (noted p.0 p.1))
       (pairs_accepted (accepted p.0 p.1) ++ shown w past)
@@ -254,6 +273,8 @@ module _ (w : Watched) (past : Past) (p : Step × Reply) where
   record Are (number : ℕ) (state : State) (es : List Logged) : Type 0 where
     count : first_number w + span es ≡ number
     there : IsAmong (number, last_hash (first_hash w) (logged_links (first_number w) es)) (shown w (p ∷ past))
+    marked : (q : Pair) → IsAmong q (marks (first_number w) (first_hash w) (logged_links (first_number w) es))
+        → IsAmong q (shown w (p ∷ past))
     opened : 0 < length es → length (first_hash w) ≡ 32
     each : EachFits w.member.log_version (first_number w) es
     skips : EachMaySkip w.member.log_version (first_number w) es
@@ -270,6 +291,7 @@ module _ (w : Watched) (past : Past) (p : Step × Reply) where
       record {
         count = b.count;
         there = b.there;
+        marked = b.marked;
         opened = b.opened;
         each = b.each;
         skips = b.skips;
@@ -290,6 +312,7 @@ module _ (w : Watched) (past : Past) (p : Step × Reply) where
           (end_of w past).number,
           last_hash (first_hash w) (logged_links (first_number w) (audited w past)),
         ) a.there;
+        marked = λ q i. shown_stays q (a.marked q i);
         opened = a.opened;
         each = a.each;
         skips = a.skips;
@@ -322,6 +345,7 @@ module _ (w : Watched) (past : Past) (p : Step × Reply) where
         )
             (subst (λ h. IsAmong (last_of s, h) (shown w past)) (sym k.hash)
             (last_shown w past j.segment next good));
+        marked = λ q i. either_shown q (k.marked q i);
         opened = λ some. k.long;
         each = k.each;
         skips = k.skips;
@@ -334,6 +358,12 @@ module _ (w : Watched) (past : Past) (p : Step × Reply) where
         last = last_joined (first_state w) a.states run.states
             ∙ (ap (λ x. last_state x run.states) a.last ∙ run.last);
       })
+    where
+      either_shown : (q : Pair)
+          → IsAmong q (marks (first_number w) (first_hash w) (logged_links (first_number w) (audited w past)))
+          ⊎ IsAmong q (segment_marks j.segment.segment) → IsAmong q (shown w (p ∷ past))
+      either_shown q (inl i) = shown_stays q (a.marked q i)
+      either_shown q (inr i) = shown_stays q (accepted_shown w past j.segment.segment q next.among i)
 
 -- ---- a fault
 

@@ -1,11 +1,12 @@
 -- The marks of numbered links: where they lie, and that there is one at each number.
 -- Serves: evidence_where_exposed, evidence_proves.
 use Rattle.std.proofs.Common.{◌≡◌, ℕ, zero, suc, ◌+◌, ◌<◌, ◌≤◌, Bool, true, false, nat_lt, List, [], ◌∷◌}
-use Rattle.std.proofs.Common.{inl, inr, length, refl, ap, arith}
+use Rattle.std.proofs.Common.{◌++◌, inl, inr, length, refl, ap, subst, arith}
 use Rattle.std.specs.Prelude.{◌⊎◌}
 use Rattle.std.proofs.lemmas.Bool.{ltb-true, ltb-false}
 use Rattle.secure_log.specs.LogEntries.Chain.{AreNumbered, IsAmong, Link, Logged, hash_after, last_hash}
-use Rattle.secure_log.specs.LogEntries.Chain.{last_number, logged_links, marks, no_entry, none_from, span}
+use Rattle.secure_log.specs.LogEntries.Chain.{last_number, logged_link, logged_links, marks, no_entry, none_from}
+use Rattle.secure_log.specs.LogEntries.Chain.{span}
 use Rattle.secure_log.proofs.OfLogEntries.FewerTexts.{left, right, either}
 use Rattle.witness_spec.specs.Pairs.{Pair}
 
@@ -117,6 +118,41 @@ last_there before opening (l ∷ links) =
     inr (right (none_from (before + 1) l.skipped) (marks l.number (hash_after opening l) links)
     (last_number l.number links, last_hash (hash_after opening l) links)
     (last_there l.number (hash_after opening l) links))
+
+-- marks of entries in two parts are those of the first, or of the second after the first's number and hash
+abbrev AreEither : (before : ℕ) (opening : List ℕ) (xs ys : List Logged) (q : Pair) → Type 0
+AreEither before opening xs ys q =
+    IsAmong q (marks before opening (logged_links before xs))
+    ⊎ IsAmong q (marks (before + span xs) (last_hash opening (logged_links before xs))
+    (logged_links (before + span xs) ys))
+
+-- so they are where an entry more stands before them
+either_on : (before : ℕ) (opening : List ℕ) (x : Logged) (xs ys : List Logged) (q : Pair)
+    → AreEither (before + 1 + x.skipped) (hash_after opening (logged_link (before + 1 + x.skipped) x)) xs ys q
+    → AreEither before opening (x ∷ xs) ys q
+either_on before opening x xs ys q (inl i) =
+    let n = before + 1 + x.skipped in
+    let next = hash_after opening (logged_link n x) in
+    inl (inr (right (none_from (before + 1) x.skipped) (marks n next (logged_links n xs)) q i))
+either_on before opening x xs ys q (inr i) =
+    let n = before + 1 + x.skipped in
+    let last = last_hash (hash_after opening (logged_link n x)) (logged_links n xs) in
+    let same : n + span xs ≡ before + span (x ∷ xs) = omega arith in
+    inr (subst (λ m. IsAmong q (marks m last (logged_links m ys))) same i)
+
+pub marks_either : (before : ℕ) (opening : List ℕ) (xs ys : List Logged) (q : Pair)
+    → IsAmong q (marks before opening (logged_links before (xs ++ ys))) → AreEither before opening xs ys q
+marks_either before opening [] ys q i =
+    let same : before ≡ before + 0 = omega arith in
+    inr (subst (λ n. IsAmong q (marks n opening (logged_links n ys))) same i)
+marks_either before opening (x ∷ xs) ys q (inl e) = inl (inl e)
+marks_either before opening (x ∷ xs) ys q (inr i) =
+    let n = before + 1 + x.skipped in
+    let next = hash_after opening (logged_link n x) in
+    elim (either (none_from (before + 1) x.skipped) (marks n next (logged_links n (xs ++ ys))) q i) [
+      | inl j ↦ inl (inr (left (none_from (before + 1) x.skipped) (marks n next (logged_links n xs)) q j))
+      | inr j ↦ either_on before opening x xs ys q (marks_either n next xs ys q j)
+    ]
 
 -- ---- spans
 

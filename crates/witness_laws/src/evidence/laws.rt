@@ -1,6 +1,7 @@
-//! When there is evidence against a node, and what it proves.
+//! When there is evidence against a node, and what it proves; and what was audited where there is none.
 
 ghost use Rattle.witness_spec.specs.Laws.{EvidenceWhereExposed, EvidenceProves};
+ghost use Rattle.witness_laws.specs.Audits.{AuditedLogsAreHonest, TakenIsShown};
 
 use witness_spec::accepted_evidence_proves;
 
@@ -16,3 +17,14 @@ pub fn evidence_proves()
 {
     accepted_evidence_proves();
 }
+
+/// While a node isn't exposed, all that was audited of it is one log, honest from where the audit began up to the
+/// end; and at each of its numbers nothing else was shown than what that log has there.
+pub fn audited_logs_are_honest()
+    ensures { AuditedLogsAreHonest }
+{}
+
+/// Each authenticator that a witness took of a node that isn't exposed, new or known before, was shown.
+pub fn taken_is_shown()
+    ensures { TakenIsShown }
+{}

@@ -26,6 +26,10 @@ returns c =
     c.in_ok-arg-7.ensures.shape (search rules) ∙ ap₂ with_rule with_witness c.word_option-2.ensures.rule in
     let with_every =
     c.in_ok-arg-8.ensures.shape (search rules) ∙ ap₂ with_rule with_listen c.word_option-3.ensures.rule in
-    IfOk-weaker c.arg-9.result _ _
+    let with_reserve =
+    c.in_ok-arg-9.ensures.shape (search rules) ∙ ap₂ with_rule with_every c.word_option-4.ensures.rule in
+    let with_give_up =
+    c.in_ok-arg-10.ensures.shape (search rules) ∙ ap₂ with_rule with_reserve c.word_option-5.ensures.rule in
+    IfOk-weaker c.arg-11.result _ _
     (λ r added. added.shape (search rules)
-    ∙ ap₂ with_rule with_every c.word_option-4.ensures.rule) c.arg-9.ensures
+    ∙ ap₂ with_rule with_give_up c.word_option-6.ensures.rule) c.arg-11.ensures

@@ -1,7 +1,7 @@
 use Rattle.std.proofs.Common.{◌≡◌, Some, None, codes, refl}
 use Rattle.command_line.proofs.Asked.{found_is}
 use Rattle.command_line.proofs.Named.{not_so}
-use Rattle.command_line.proofs.HostsAsked.{server_is, gateway_is, witness_is, ask_is, stop_is}
+use Rattle.command_line.proofs.HostsAsked.{server_is, gateway_is, witness_is, ask_is, status_is, stop_is}
 use Rattle.command_line.proofs.hosts.hosts_request_in.Goals as goal
 
 pub returns-in-Some-clause-some : goal.returns-in-Some-clause-some
@@ -17,6 +17,7 @@ returns-in-Some-clause-some c words none found =
       listen = _;
       audit = _;
       progress = _;
+      log_file = _;
     }) none is (record {
       secret = asked.secret;
       rosters = asked.rosters;
@@ -25,6 +26,7 @@ returns-in-Some-clause-some c words none found =
       listen = asked.listen;
       audit = asked.audit;
       progress = asked.progress;
+      log_file = asked.log_file;
     })
 
 pub returns-in-Some-subcommand_matches-clause-some : goal.returns-in-Some-subcommand_matches-clause-some
@@ -42,6 +44,8 @@ returns-in-Some-subcommand_matches-clause-some c words none found =
       listen = _;
       every = _;
       reserve = _;
+      give_up = _;
+      log_file = _;
     }) none is (record {
       secret = asked.secret;
       nodes = asked.nodes;
@@ -52,6 +56,8 @@ returns-in-Some-subcommand_matches-clause-some c words none found =
       listen = asked.listen;
       every = asked.every;
       reserve = asked.reserve;
+      give_up = asked.give_up;
+      log_file = asked.log_file;
     })
 
 pub returns-in-Some-subcommand_matches-2-clause-some : goal.returns-in-Some-subcommand_matches-2-clause-some
@@ -68,6 +74,7 @@ returns-in-Some-subcommand_matches-2-clause-some c words none found =
       evidence = _;
       epoch = _;
       state = _;
+      log_file = _;
     }) none is (record {
       rosters = asked.rosters;
       at = asked.at;
@@ -77,6 +84,7 @@ returns-in-Some-subcommand_matches-2-clause-some c words none found =
       evidence = asked.evidence;
       epoch = asked.epoch;
       state = asked.state;
+      log_file = asked.log_file;
     })
 
 pub returns-in-Some-subcommand_matches-3-clause-some : goal.returns-in-Some-subcommand_matches-3-clause-some
@@ -96,6 +104,12 @@ returns-in-Some-subcommand_matches-4-clause-some c words none found =
     c.in-Some-subcommand_matches-4.ensures.rows in
     stop_is words _ _ none is c.text_of.ensures
 
+pub returns-in-Some-subcommand_matches-5-clause-some : goal.returns-in-Some-subcommand_matches-5-clause-some
+returns-in-Some-subcommand_matches-5-clause-some c words none found =
+    let is = found_is c.args.matches.now _ _ _ found (c.in-Some-subcommand_matches-5.ensures.found.0 refl)
+    c.in-Some-subcommand_matches-5.ensures.rows in
+    status_is words _ _ none is c.text_of-in-Some-subcommand_matches-5.ensures
+
 pub returns-clause-none : goal.returns-clause-none
 returns-clause-none c = (
   λ e. not_so (c.in_default.ensures.found.1 e),
@@ -108,7 +122,10 @@ returns-clause-none c = (
         (
           λ e. not_so (c.in_default-subcommand_matches-4.ensures.found.1 e),
           (
-              tt),
+            λ e. not_so (c.in_default-subcommand_matches-5.ensures.found.1 e),
+            (
+                tt),
+          ),
         ),
       ),
     ),

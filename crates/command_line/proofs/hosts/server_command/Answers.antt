@@ -22,5 +22,8 @@ returns c =
     c.in_ok-arg-5.ensures.shape (search rules) ∙ ap₂ with_rule with_node c.needed_option-5.ensures.rule in
     let with_audit =
     c.in_ok-arg-6.ensures.shape (search rules) ∙ ap₂ with_rule with_listen c.word_option.ensures.rule in
-    IfOk-weaker c.arg-7.result _ _
-    (λ r added. added.shape (search rules) ∙ ap₂ with_rule with_audit c.flag.ensures.rule) c.arg-7.ensures
+    let with_progress =
+    c.in_ok-arg-7.ensures.shape (search rules) ∙ ap₂ with_rule with_audit c.flag.ensures.rule in
+    IfOk-weaker c.arg-8.result _ _
+    (λ r added. added.shape (search rules)
+    ∙ ap₂ with_rule with_progress c.word_option-2.ensures.rule) c.arg-8.ensures

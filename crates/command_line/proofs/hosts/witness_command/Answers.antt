@@ -24,6 +24,8 @@ returns c =
     c.in_ok-arg-6.ensures.shape (search rules) ∙ ap₂ with_rule with_patience c.word_option-3.ensures.rule in
     let with_epoch =
     c.in_ok-arg-7.ensures.shape (search rules) ∙ ap₂ with_rule with_evidence c.word_option-4.ensures.rule in
-    IfOk-weaker c.arg-8.result _ _
+    let with_state =
+    c.in_ok-arg-8.ensures.shape (search rules) ∙ ap₂ with_rule with_epoch c.word_option-5.ensures.rule in
+    IfOk-weaker c.arg-9.result _ _
     (λ r added. added.shape (search rules)
-    ∙ ap₂ with_rule with_epoch c.word_option-5.ensures.rule) c.arg-8.ensures
+    ∙ ap₂ with_rule with_state c.word_option-6.ensures.rule) c.arg-9.ensures

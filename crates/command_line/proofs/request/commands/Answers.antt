@@ -8,4 +8,5 @@ returns c =
     let two = c.in_ok-nfsacc-3.ensures _ _ one c.gateway_command.ensures refl in
     let three = c.in_ok-nfsacc-4.ensures _ _ two c.witness_command.ensures refl in
     let four = c.in_ok-nfsacc-5.ensures _ _ three c.ask_command.ensures refl in
-    c.with_subcommand-5.ensures _ _ four c.stop_command.ensures refl
+    let five = c.in_ok-nfsacc-6.ensures _ _ four c.stop_command.ensures refl in
+    c.with_subcommand-6.ensures _ _ five c.status_command.ensures refl

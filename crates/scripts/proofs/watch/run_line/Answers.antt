@@ -1,5 +1,5 @@
 use Rattle.std.proofs.Common.{◌≡◌, List, ℕ, string_bytes, subst, sym}
-use Rattle.witness_service.specs.Claims.{Claim}
+use Rattle.witness_calls.specs.witness_service.Claims.{Claim}
 use Rattle.scripts.specs.Turns.{Does, IsDone}
 use Rattle.scripts.specs.declared.line.Line.TheVariants as lines
 use Rattle.scripts.proofs.Running.{none_taken, turn_taken}

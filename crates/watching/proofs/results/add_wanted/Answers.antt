@@ -1,5 +1,5 @@
 use Rattle.std.proofs.Common.{rules, map}
-use Rattle.node_book.specs.Replies.{challenge_in}
+use Rattle.witness_books.specs.node_book.Replies.{challenge_in}
 use Rattle.watching.proofs.OfResults.{wanted_written}
 use Rattle.watching.proofs.results.add_wanted.Goals as goal
 

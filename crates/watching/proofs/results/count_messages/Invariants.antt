@@ -1,5 +1,5 @@
 use Rattle.std.proofs.Common.{◌≡◌, ◌≤◌, ◌+◌, length, map}
-use Rattle.node_book.specs.Replies.{challenge_in}
+use Rattle.witness_books.specs.node_book.Replies.{challenge_in}
 use Rattle.watching.specs.Answers.{messages_of}
 use Rattle.watching.proofs.results.count_messages.Given as goal
 

@@ -1,8 +1,8 @@
 use Rattle.std.proofs.Common.{◌<◌, ◌^◌, ℕ, arith, sym, ap, subst, ◌∙◌}
 use Rattle.std.specs.Prelude.{IsTrue}
 use Rattle.std.specs.List.{All}
-use Rattle.fs_spec.specs.Trees.{IsFileTree}
-use Rattle.fs_spec.specs.Changes.Limits.{has_room}
+use Rattle.nfs_laws.specs.fs_spec.Trees.{IsFileTree}
+use Rattle.nfs_laws.specs.fs_spec.Changes.Limits.{has_room}
 use Rattle.nfs_laws.specs.Sizes.Bounds.{HasWords}
 use Rattle.file_tree.specs.tree_rules.FileRules.Rules.{AreFiles, files_listed}
 use Rattle.inodes.specs.Inodes.{file_in}

@@ -1,6 +1,6 @@
 use Rattle.std.proofs.Common.{subst}
 use Rattle.xdr.specs.Item.{Fits}
-use Rattle.server_spec.specs.FileItems.{file_item}
+use Rattle.state_spec.specs.server_spec.FileItems.{file_item}
 use Rattle.state_spec.specs.State.{State, IsState}
 use Rattle.state_spec.specs.StateItems.{state_item}
 use Rattle.state_spec.specs.StateText.{said}

@@ -1,6 +1,6 @@
 use Rattle.std.proofs.Common.{ap, inl, inr}
-use Rattle.node_book.specs.replay_jobs.Jobs.{done_parts}
-use Rattle.node_book.specs.Replies.{reply_in}
+use Rattle.witness_books.specs.node_book.replay_jobs.Jobs.{done_parts}
+use Rattle.witness_books.specs.node_book.Replies.{reply_in}
 use Rattle.witness_calls.proofs.said.Said.of.Goals as goal
 
 pub returns-in-Job : goal.returns-in-Job

@@ -1,0 +1,7 @@
+mod Spelled
+mod Places
+mod Trails
+mod Owed
+mod Calls
+mod WorkedRun
+mod Accepted

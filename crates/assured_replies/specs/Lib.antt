@@ -1,0 +1,4 @@
+pub mod Owed
+pub mod Laws
+pub mod Gateways
+pub mod Example

@@ -1,0 +1,99 @@
+//! Acknowledgements of replies on their way to the server.
+
+use crate::trouble::Trouble;
+use peer_calls::{NodeRequest, ResultNumber};
+use peer_connections::{Meanwhile, NodeConnection, Sent};
+use std::alloc::{AllocError, Global};
+use xdr::texts::read_text;
+
+/// The most bytes of the answer to ACKNOWLEDGE.
+const MOST_ACKNOWLEDGED: u32 = 28;
+
+/// The acknowledgement of a reply.
+#[derive(Drop)]
+struct Receipt {
+    text: Vec<u8>,
+    /// That it was sent over the connection that there is.
+    sent: Option<Sent>,
+}
+
+/// Acknowledgements of replies that the server hasn't answered yet, oldest first. Those that were sent over the
+/// connection that there is come before the others.
+#[derive(Drop)]
+pub(crate) struct Receipts {
+    receipts: Vec<Receipt>,
+}
+
+impl Receipts {
+    /// None.
+    pub(crate) fn new(alloc: Global) -> Receipts {
+        Receipts {
+            receipts: Vec::new(alloc),
+        }
+    }
+
+    /// Whether each was answered.
+    pub(crate) fn is_empty(&self) -> bool {
+        self.receipts.is_empty()
+    }
+
+    /// Adds the text of one more.
+    pub(crate) fn add(&mut self, alloc: Global, text: &[u8]) -> Result<(), AllocError> {
+        let receipt = Receipt {
+            text: text.to_vec(alloc)?,
+            sent: None,
+        };
+        match self.receipts.push(receipt) {
+            Ok(()) => Ok(()),
+            Err(_) => Err(AllocError),
+        }
+    }
+
+    /// There is another connection: none was sent over it.
+    pub(crate) fn begin_again(&mut self) {
+        for receipt in &mut self.receipts {
+            receipt.sent = None;
+        }
+    }
+
+    /// Sends those that weren't sent over this connection.
+    pub(crate) fn send<M: Meanwhile>(
+        &mut self,
+        connection: &mut NodeConnection,
+        meanwhile: &mut M,
+    ) -> Result<(), Trouble> {
+        for receipt in &mut self.receipts {
+            if receipt.sent.is_none() {
+                let request = NodeRequest::Acknowledge(&receipt.text);
+                receipt.sent = Some(connection.send(&request, meanwhile)?);
+            }
+        }
+        Ok(())
+    }
+
+    /// Takes the answers to those that were sent over this connection. Whether the server logged one, had it before or
+    /// refuses it, it isn't sent again.
+    pub(crate) fn take_answers<M: Meanwhile>(
+        &mut self,
+        alloc: Global,
+        connection: &mut NodeConnection,
+        meanwhile: &mut M,
+    ) -> Result<(), Trouble> {
+        for _ in 0..self.receipts.len() {
+            let Some(sent) = self.first_sent() else {
+                break;
+            };
+            let answer = connection.answer(sent, MOST_ACKNOWLEDGED, meanwhile)?;
+            let _result = read_text::<ResultNumber>(alloc, answer.results())?;
+            if !self.receipts.is_empty() {
+                self.receipts.remove(0);
+            }
+        }
+        Ok(())
+    }
+
+    /// That the first one was sent, if it was.
+    fn first_sent(&self) -> Option<Sent> {
+        self.receipts.first()?.sent
+    }
+}
