@@ -586,6 +586,58 @@ def check_same_call(program: str):
     print('a call that comes again on another connection is made once')
 
 
+def check_in_flight(program: str, most: int = 4):
+    """Calls of several local connections are in flight at once. One more waits for one of them. Each gets its reply."""
+    with Hosts(program) as hosts:
+        usual(hosts)
+        server = hosts.keep(Slow(hosts.keys('one', 1, SERVER, 7), hosts.roster()))
+        witness = hosts.witness({1: server.address})
+        state = hosts.state()
+        gateway = hosts.gateway('two', '2-2', server.address, witness.address(), state=state)
+        address = gateway.address()
+        calls = [word(100 + number) + ATTRIBUTES[4:] for number in range(most + 2)]
+        connections = [Connection(address[1]) for _ in calls]
+        for connection, call in zip(connections, calls):
+            connection.send(record(call))
+        end = time.monotonic() + 60
+        while server.came < most:
+            assert time.monotonic() < end, f'{server.came} calls came'
+            time.sleep(0.1)
+        time.sleep(1)
+        assert server.came == most, f'{server.came} calls came'
+        assert hosts.status_of(state)['calls'] == ['0']
+        server.may_answer.set()
+        for connection, call in zip(connections, calls):
+            assert connection.reply() == owed(call)
+        logged = log_of(server.address, hosts.roster())
+        assert sorted(each.body for each in logged.calls) == sorted(calls)
+        takes_two_keys(logged)
+        hosts.wait_until(witness.address(), lambda told: told[2][:2] == ('trusted', 0) and told[2][2] >= 3 * len(calls))
+        assert hosts.stop(gateway, state) == 0, gateway.said()
+    print(f'{most} calls are in flight at once, and {len(calls)} get their own replies')
+
+
+def check_put_back(program: str):
+    """A gateway whose notes were put back, and that would sign its numbers again, ends with 6 before it signs."""
+    with Hosts(program) as hosts:
+        usual(hosts)
+        server = hosts.server('one')
+        witness = hosts.witness({1: server.address()})
+        gateway = hosts.gateway('two', '2-2', server.address(), witness.address())
+        connection = Connection(gateway.address()[1])
+        for _ in range(3):
+            assert connection.ask(ATTRIBUTES) == owed(ATTRIBUTES)
+        hosts.wait_until(witness.address(), lambda told: told[2][2] >= 9)
+        gateway.kill()
+        (hosts.folder / 'two.spent').unlink()
+        gateway = hosts.gateway('two', '2-2', server.address(), witness.address())
+        assert gateway.status() == OTHER
+        assert 'nfsacc: the log was put back to an earlier one: number ' in gateway.said(), gateway.said()
+        assert not any(line.startswith('listening') for line in gateway.lines), gateway.lines
+        assert len(log_of(server.address(), hosts.roster()).calls) == 3
+    print('a gateway whose log was put back ends with 6, and signs nothing')
+
+
 def check_open_message(program: str):
     """A reply that was withheld is received where a witness asks for its acknowledgement, and isn't handed out."""
     with Hosts(program) as hosts:
@@ -938,7 +990,7 @@ def check_assured(program: str):
 
 CHECKS = [check_server, check_strangers, check_assured, check_server_keys, check_three, check_rows, check_lie, check_fork, check_none, check_other_calls, check_suspected,
           check_other_witness, check_lives, check_second_roster, check_keys_used_up, check_ask,
-          check_calls, check_breaks, check_garbage, check_same_call, check_open_message, check_rough,
+          check_calls, check_breaks, check_garbage, check_same_call, check_in_flight, check_put_back, check_open_message, check_rough,
           check_round_trips, check_away, check_give_up, check_next_epoch, check_challenge, check_ranges, check_status,
           check_log_file]
 

@@ -155,13 +155,17 @@ class Silent(Liar):
 
 
 class Slow(Server):
-    """It answers a message once it may."""
+    """It answers messages once it may. It counts those that came."""
 
     def __init__(self, keys: Keys, roster: Roster):
         self.may_answer = threading.Event()
+        self.came = 0
+        self.counting = threading.Lock()
         super().__init__(keys, roster)
 
     def deliver(self, arguments: bytes) -> bytes:
+        with self.counting:
+            self.came += 1
         self.may_answer.wait()
         return super().deliver(arguments)
 

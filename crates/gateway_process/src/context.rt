@@ -2,12 +2,13 @@
 
 use crate::desk::Desk;
 use crate::local_stream::LocalStream;
-use nodes::ClientNode;
+use crate::run::Ending;
 use peer_calls::Greeting;
 use peer_connections::{Output, Phase, end_serving, is_serving};
-use remote_sharing::{Courier, Flights, Remote};
+use remote_sharing::{Flights, SharedClient};
 use std::alloc::{AllocError, Global};
 use std::io::Write;
+use std::mem;
 use std::sync::{Mutex, Wait};
 use std::time::Instant;
 
@@ -18,9 +19,11 @@ pub(crate) struct Context<'a, R, T, W, E> {
     pub(crate) clock: &'a T,
     pub(crate) phase: &'a Mutex<Phase>,
     pub(crate) output: &'a Mutex<Output<W, E>>,
-    /// Whether the server was found to go by another roster.
-    pub(crate) has_other_roster: &'a Mutex<bool>,
-    /// What witnesses are to be told, and what is asked for them.
+    /// Why the serving is to end, where it isn't that the process is to stop or that keys are used up.
+    pub(crate) ending: &'a Mutex<Ending>,
+    /// Whether it was said that the server gives no answer.
+    pub(crate) is_away: &'a Mutex<bool>,
+    /// What witnesses are to be told, and what they answered.
     pub(crate) desk: &'a Mutex<Desk>,
     /// The calls that are in flight.
     pub(crate) flights: &'a Mutex<Flights<LocalStream>>,
@@ -69,9 +72,9 @@ impl<'a, R: Wait, T: std::time::Clock, W: Write, E: Write> Context<'a, R, T, W, 
 }
 
 impl<'a, R: Wait, T, W: Write, E: Write> Context<'a, R, T, W, E> {
-    /// Tells the thread that reports what it asks of the client, if it asks something.
-    pub(crate) fn tell(&self, client: &ClientNode) {
-        self.desk.lock(self.rt).tell(self.alloc, client);
+    /// Notes whether the server gives no answer. What was noted before.
+    pub(crate) fn set_away(&self, is_away: bool) -> bool {
+        mem::replace(&mut *self.is_away.lock(self.rt), is_away)
     }
 
     /// Whether witnesses are to be told at once; from now on they aren't.
@@ -94,6 +97,18 @@ impl<'a, R: Wait, T, W: Write, E: Write> Context<'a, R, T, W, E> {
         is_serving(self.rt, self.phase)
     }
 
+    /// Ends the serving by this ending, which no other one takes the place of. What it was to end by before.
+    pub(crate) fn end_by(&self, ending: Ending) -> Ending {
+        let mut kept = self.ending.lock(self.rt);
+        let before = *kept;
+        if before == Ending::Stopped {
+            *kept = ending;
+        }
+        drop(kept);
+        self.end(Phase::Stopping);
+        before
+    }
+
     /// Ends the serving for this reason, unless it has ended for another.
     pub(crate) fn end(&self, reason: Phase) {
         end_serving(self.rt, self.phase, reason);
@@ -101,16 +116,16 @@ impl<'a, R: Wait, T, W: Write, E: Write> Context<'a, R, T, W, E> {
 }
 
 /// What all threads of a gateway share that use its client.
-pub(crate) struct Shared<'a, R, T, W, E, C: Courier + Drop> {
+pub(crate) struct Shared<'a, R, T, W, E> {
     pub(crate) context: Context<'a, R, T, W, E>,
-    /// The client, with its courier.
-    pub(crate) remote: &'a Mutex<Remote<C>>,
+    /// The client, with its calls in flight.
+    pub(crate) client: &'a Mutex<SharedClient>,
 }
 
-impl<'a, R, T, W, E, C: Courier + Drop> Clone for Shared<'a, R, T, W, E, C> {
-    fn clone(&self) -> Result<Shared<'a, R, T, W, E, C>, AllocError> {
+impl<'a, R, T, W, E> Clone for Shared<'a, R, T, W, E> {
+    fn clone(&self) -> Result<Shared<'a, R, T, W, E>, AllocError> {
         Ok(*self)
     }
 }
 
-impl<'a, R, T, W, E, C: Courier + Drop> Copy for Shared<'a, R, T, W, E, C> {}
+impl<'a, R, T, W, E> Copy for Shared<'a, R, T, W, E> {}

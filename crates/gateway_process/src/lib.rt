@@ -7,6 +7,7 @@ mod desk;
 mod local_programs;
 mod local_stream;
 mod news;
+mod own_log;
 mod receipts;
 mod reporter;
 mod run;

@@ -17,9 +17,10 @@ use system_clock::SystemClock;
 /// The bytes that are read of a stream at once.
 const READ_AHEAD: usize = 65536;
 
-/// Serves a local program to the end of its connection. Where that comes before the end of its stream, says why.
+/// Serves a local program to the end of its connection, by these ways to the server. Where that comes before the end of its stream, says why.
 pub(crate) fn serve_program<R, T, W, E, C>(
-    shared: Shared<'_, R, T, W, E, C>,
+    shared: Shared<'_, R, T, W, E>,
+    ways: &[Mutex<C>],
     stream: TcpStream,
     address: SocketAddr,
 )
@@ -30,7 +31,7 @@ where
     E: Write,
     C: Courier + Drop,
 {
-    if let Err(cause) = serve_records(shared, &stream) {
+    if let Err(cause) = serve_records(shared, ways, &stream) {
         let alloc = shared.context.alloc;
         shared
             .context
@@ -40,7 +41,8 @@ where
 
 /// Answers the records of a connection to its end.
 fn serve_records<R, T, W, E, C>(
-    shared: Shared<'_, R, T, W, E, C>,
+    shared: Shared<'_, R, T, W, E>,
+    ways: &[Mutex<C>],
     stream: &TcpStream,
 ) -> Result<(), Cause>
 where
@@ -69,7 +71,8 @@ where
     let mut reader = RecordReader::new(Counting::new(input));
     let mut writer = Counting::new(PeerStream::new(rt, clock, stream, phase, &waiting));
     let mut times = SystemClock::new(clock);
-    let mut link = SharedRemote::new(rt, shared.remote, shared.context.flights, presence);
+    let flights = shared.context.flights;
+    let mut link = SharedRemote::new(rt, alloc, shared.client, ways, flights, presence);
     let mut gateway = Gateway::new();
     match serve_shared(
         &mut gateway,
@@ -110,13 +113,12 @@ fn stream_cause(fault: StreamFault, error: Option<std::io::Error>) -> Cause {
     }
 }
 
-impl<R, T, W, E, C> Shared<'_, R, T, W, E, C>
+impl<R, T, W, E> Shared<'_, R, T, W, E>
 where
     R: Wait,
     T: std::time::Clock,
     W: Write,
     E: Write,
-    C: Courier + Drop,
 {
     /// Keeps a SEND's number for witnesses, if there is one.
     fn keep_unanswered(&self, sent: Option<u64>) {
@@ -150,8 +152,8 @@ where
     /// The number in the server's log of the reply to another call, where that is why a call has failed.
     fn number_of_another(&self, fault: &CallFault) -> Option<u64> {
         let place = place_of_another(fault)?;
-        let remote = self.remote.lock(self.context.rt);
-        Some(sender_number(remote.client().client(), place))
+        let client = self.client.lock(self.context.rt);
+        Some(sender_number(client.client().client(), place))
     }
 }
 

@@ -29,8 +29,8 @@ pub(crate) struct Progress {
 /// What a server signed, as an entry of its client's log shows it.
 #[derive(Clone, Copy)]
 pub(crate) enum ShownOf {
-    /// The acknowledgement of a call.
-    Receipt,
+    /// The acknowledgement of a call by this node, which has the call with this number in its log.
+    Receipt { by: u32, number: u64 },
     /// A message of this node, with this number in its log: a reply, if it is the server that is called.
     Reply { from: u32, number: u64 },
 }
@@ -125,7 +125,10 @@ fn add_shown(
             from: *from,
             number: number_of(client, *from, *seq),
         },
-        _ => ShownOf::Receipt,
+        _ => ShownOf::Receipt {
+            by: authenticator.node,
+            number: number_of(client, authenticator.node, authenticator.word),
+        },
     };
     let mut packet = Vec::new(alloc);
     write_learn(&authenticator, &mut packet)?;
@@ -210,7 +213,7 @@ fn add_learned(
 }
 
 /// What another node signed, as an entry of a client's log shows it: of a RECV or an ACK.
-fn shown_by(
+pub(crate) fn shown_by(
     alloc: Global,
     client: &ClientNode,
     entry: &Entry,

@@ -1,10 +1,10 @@
 //! The thread that reports to witnesses.
 
 use crate::context::{Context, Shared};
+use crate::run::Ending;
 use crate::trouble::{Trouble, spelled_digest};
 use crate::witness_peer::WitnessPeer;
 use peer_connections::Phase;
-use remote_sharing::Courier;
 use std::alloc::{AllocError, Global};
 use std::io::Write;
 use std::net::{Net, TcpListener, TcpStream};
@@ -50,13 +50,12 @@ impl Reporter {
     }
 
     /// Reports until the process no longer serves.
-    pub(crate) fn run<R, T, W, E, C>(&mut self, shared: Shared<'_, R, T, W, E, C>)
+    pub(crate) fn run<R, T, W, E>(&mut self, shared: Shared<'_, R, T, W, E>)
     where
         R: Wait + Net<Listener = TcpListener, Stream = TcpStream>,
         T: std::time::Clock,
         W: Write,
         E: Write,
-        C: Courier + Drop,
     {
         for _ in 0..u64::MAX {
             self.report(shared);
@@ -68,13 +67,12 @@ impl Reporter {
 
     /// Reports to each witness. Where one can't be reached that is said once, and it is tried again at the next
     /// report; one that goes by another roster is left out from then on.
-    pub(crate) fn report<R, T, W, E, C>(&mut self, shared: Shared<'_, R, T, W, E, C>)
+    pub(crate) fn report<R, T, W, E>(&mut self, shared: Shared<'_, R, T, W, E>)
     where
         R: Wait + Net<Listener = TcpListener, Stream = TcpStream>,
         T: std::time::Clock,
         W: Write,
         E: Write,
-        C: Courier + Drop,
     {
         for witness in &mut self.witnesses {
             if !witness.is_left_out {
@@ -86,13 +84,12 @@ impl Reporter {
 
 /// Waits until the next report is due after so many seconds, or at once, or the process no longer serves, and has the
 /// serving end where the client's keys are used up. Whether it still serves.
-fn waits<R, T, W, E, C>(shared: Shared<'_, R, T, W, E, C>, seconds: u32) -> bool
+fn waits<R, T, W, E>(shared: Shared<'_, R, T, W, E>, seconds: u32) -> bool
 where
     R: Wait,
     T: std::time::Clock,
     W: Write,
     E: Write,
-    C: Courier + Drop,
 {
     let looks = u64::from(seconds.max(1)).saturating_mul(LOOKS_OF_A_SECOND);
     for _ in 0..looks {
@@ -108,25 +105,22 @@ where
     true
 }
 
-/// Ends the serving where the client has fewer keys left than a call takes. During a call it doesn't look.
-fn look_at_keys<R, T, W, E, C>(shared: Shared<'_, R, T, W, E, C>)
+/// Ends the serving where the client has fewer keys left than a call takes.
+fn look_at_keys<R, T, W, E>(shared: Shared<'_, R, T, W, E>)
 where
     R: Wait,
     W: Write,
     E: Write,
-    C: Courier + Drop,
 {
-    let Some(remote) = shared.remote.try_lock() else {
-        return;
-    };
-    if remote.client().client().node().left() < KEYS_OF_A_CALL {
+    let client = shared.client.lock(shared.context.rt);
+    if client.client().client().node().left() < KEYS_OF_A_CALL {
         shared.context.end(Phase::KeysUsedUp);
     }
 }
 
 /// Reports to a witness, and says what goes wrong.
-fn report_to<R, T, W, E, C>(
-    shared: Shared<'_, R, T, W, E, C>,
+fn report_to<R, T, W, E>(
+    shared: Shared<'_, R, T, W, E>,
     witness: &mut WitnessPeer,
     reserve: &mut u32,
 )
@@ -135,14 +129,17 @@ where
     T: std::time::Clock,
     W: Write,
     E: Write,
-    C: Courier + Drop,
 {
     let Err(trouble) = witness.report(shared, reserve) else {
         witness.has_failed = false;
         return;
     };
-    if let Trouble::OtherRoster(_) = &trouble {
-        witness.is_left_out = true;
+    match &trouble {
+        Trouble::OtherRoster(_) => witness.is_left_out = true,
+        Trouble::OwnPutBack(_) => {
+            let _before = shared.context.end_by(Ending::PutBack);
+        }
+        _ => {}
     }
     if !witness.has_failed {
         let Context { alloc, .. } = shared.context;
@@ -159,6 +156,7 @@ fn trouble_line(alloc: Global, address: &str, trouble: &Trouble) -> Result<Strin
             let digest = spelled_digest(alloc, digest)?;
             format!(in alloc; "nfsacc: witness {address} greets another roster {digest}\n")
         }
+        Trouble::OwnPutBack(_) => format!(in alloc; "nfsacc: {trouble}\n"),
         _ => format!(in alloc; "nfsacc: witness {address}: {trouble}\n"),
     }
 }

@@ -9,13 +9,16 @@ use crate::tcp_courier::TcpCourier;
 use nodes::ClientNode;
 use peer_calls::Greeting;
 use peer_connections::{Accepting, Commands, Output, Phase, attend};
-use remote_sharing::{Courier, Flights, Remote, RemoteClient};
-use std::alloc::Global;
+use remote_sharing::{Courier, Flights, RemoteClient, SharedClient};
+use std::alloc::{AllocError, Global};
 use std::io::Write;
 use std::net::{Net, OpenListener, TcpListener, TcpStream};
 use std::sync::{Mutex, Wait};
 use std::thread;
 use std::thread::{Scope, Threads};
+
+/// How many calls are carried to the server at once: as many connections a server keeps of a member.
+const WAYS: usize = 4;
 
 /// What a gateway serves.
 #[derive(Drop)]
@@ -53,6 +56,8 @@ pub enum Ending {
     KeysUsedUp,
     /// The server goes by another roster.
     OtherRoster,
+    /// The node's log was put back to an earlier one: a witness has a signature of what it lacks.
+    PutBack,
 }
 
 /// Serves local programs until the process is told to stop, keys are used up, or the server is found to go by another
@@ -73,7 +78,8 @@ where
     E: Write + Send,
 {
     let phase = Mutex::new(Phase::Serving);
-    let has_other_roster = Mutex::new(false);
+    let ending = Mutex::new(Ending::Stopped);
+    let is_away = Mutex::new(false);
     let desk = Mutex::new(Desk::new(alloc));
     let flights = Mutex::new(Flights::new(alloc));
     let greeting = Greeting {
@@ -86,7 +92,8 @@ where
         clock,
         phase: &phase,
         output,
-        has_other_roster: &has_other_roster,
+        ending: &ending,
+        is_away: &is_away,
         desk: &desk,
         flights: &flights,
         greeting,
@@ -95,17 +102,15 @@ where
         give_up: order.give_up,
     };
     serve_order(context, order);
-    end_of(rt, &phase, &has_other_roster)
+    end_of(rt, &phase, &ending)
 }
 
 /// Why the process no longer serves.
-fn end_of<R: Wait>(rt: &R, phase: &Mutex<Phase>, has_other_roster: &Mutex<bool>) -> Ending {
-    if *has_other_roster.lock(rt) {
-        return Ending::OtherRoster;
-    }
-    match *phase.lock(rt) {
-        Phase::KeysUsedUp => Ending::KeysUsedUp,
-        Phase::Serving | Phase::Stopping => Ending::Stopped,
+fn end_of<R: Wait>(rt: &R, phase: &Mutex<Phase>, ending: &Mutex<Ending>) -> Ending {
+    let ending = *ending.lock(rt);
+    match (ending, *phase.lock(rt)) {
+        (Ending::Stopped, Phase::KeysUsedUp) => Ending::KeysUsedUp,
+        (ending, _) => ending,
     }
 }
 
@@ -130,31 +135,55 @@ where
         ..
     } = order;
     let alloc = context.alloc;
-    let client = match RemoteClient::new(client, server) {
-        Ok(client) => client,
-        Err(_) => {
-            context.say(format!(in alloc;
-                "nfsacc: the roster lists no server {server} for this node\n"
-            ));
-            return;
-        }
+    let Some(client) = shared_client(client, server) else {
+        context.say(format!(in alloc;
+            "nfsacc: the roster lists no server {server} for this node\n"
+        ));
+        return;
     };
-    let Ok(reporter) = Reporter::new(alloc, witnesses, every, reserve) else {
+    let client = Mutex::new(client);
+    let (Ok(reporter), Ok(ways)) = (
+        Reporter::new(alloc, witnesses, every, reserve),
+        ways_to(context, &client, address),
+    ) else {
         context.say(format!(in alloc; "nfsacc: out of memory\n"));
         return;
     };
-    let courier = TcpCourier::new(context, address);
-    let remote = Mutex::new(Remote::new(alloc, client, courier));
     let reporter = Mutex::new(reporter);
-    serve_until_end(context, &remote, &reporter, &listener, control);
-    let (_, mut courier) = remote.into_inner().into_parts();
-    courier.finish();
+    serve_until_end(context, &client, &ways, &reporter, &listener, control);
+    for way in &ways {
+        way.lock(context.rt).finish();
+    }
 }
 
-/// Serves until the process is to end and all connections have ended, and reports for the last time.
+/// The client of the server with a number: none where its roster lists no such server, or its log isn't empty.
+fn shared_client(client: ClientNode, server: u32) -> Option<SharedClient> {
+    let client = RemoteClient::new(client, server).ok()?;
+    SharedClient::new(client).ok()
+}
+
+/// The ways to the server at an address.
+fn ways_to<'a, R, T, W, E>(
+    context: Context<'a, R, T, W, E>,
+    client: &'a Mutex<SharedClient>,
+    address: &'a str,
+) -> Result<Vec<Mutex<TcpCourier<'a, R, T, W, E>>>, AllocError> {
+    let mut ways = Vec::new(context.alloc);
+    for _ in 0..WAYS {
+        let way = Mutex::new(TcpCourier::new(context, client, address));
+        if ways.push(way).is_err() {
+            return Err(AllocError);
+        }
+    }
+    Ok(ways)
+}
+
+/// Reports, so that no call is begun with a log that was put back; serves until the process is to end and all
+/// connections have ended, and reports for the last time.
 fn serve_until_end<'s, R, T, L, W, E, C>(
     context: Context<'s, R, T, W, E>,
-    remote: &'s Mutex<Remote<C>>,
+    client: &'s Mutex<SharedClient>,
+    ways: &'s [Mutex<C>],
     reporter: &'s Mutex<Reporter>,
     listener: &'s L,
     control: Option<Commands<'s>>,
@@ -167,7 +196,11 @@ where
     E: Write + Send,
     C: Courier + Drop + Send,
 {
-    let shared = Shared { context, remote };
+    let shared = Shared { context, client };
+    reporter.lock(context.rt).report(shared);
+    if !context.is_serving() {
+        return;
+    }
     let accepting = Accepting {
         rt: context.rt,
         alloc: context.alloc,
@@ -178,14 +211,15 @@ where
         second: None,
     };
     thread::scope(thread::scope_env(), context.rt, |scope| {
-        run_threads(shared, accepting, reporter, control, scope)
+        run_threads(shared, ways, accepting, reporter, control, scope)
     });
     reporter.lock(context.rt).report(shared);
 }
 
 /// Starts the threads, and accepts local programs until the process is to end.
 fn run_threads<'s, V, R, T, L, W, E, C>(
-    shared: Shared<'s, R, T, W, E, C>,
+    shared: Shared<'s, R, T, W, E>,
+    ways: &'s [Mutex<C>],
     accepting: Accepting<'s, R, T, L, W, E>,
     reporter: &'s Mutex<Reporter>,
     control: Option<Commands<'s>>,
@@ -204,24 +238,22 @@ where
         let _ = scope.spawn(run);
     }
     start_reports(shared, reporter, scope);
-    serve_all(shared, accepting, scope)
+    serve_all(shared, ways, accepting, scope)
 }
 
 /// Takes commands at the control socket until the process no longer serves.
-fn attend_control<R, T, W, E, C>(shared: Shared<'_, R, T, W, E, C>, commands: Commands<'_>)
+fn attend_control<R, T, W, E>(shared: Shared<'_, R, T, W, E>, commands: Commands<'_>)
 where
     R: Wait,
     T: std::time::Clock,
     W: Write,
     E: Write,
-    C: Courier + Drop,
 {
     let context = shared.context;
     let (rt, alloc, clock) = (context.rt, context.alloc, context.clock);
     let teller = GatewayTeller {
         rt,
-        clock,
-        remote: shared.remote,
+        client: shared.client,
         desk: context.desk,
         node: context.greeting.node,
         epoch: context.epoch,
@@ -230,8 +262,8 @@ where
 }
 
 /// Starts the thread that reports to witnesses.
-fn start_reports<'s, V, R, T, W, E, C>(
-    shared: Shared<'s, R, T, W, E, C>,
+fn start_reports<'s, V, R, T, W, E>(
+    shared: Shared<'s, R, T, W, E>,
     reporter: &'s Mutex<Reporter>,
     scope: &Scope<'s, V>,
 )
@@ -240,27 +272,26 @@ where
     T: std::time::Clock + Sync,
     W: Write + Send,
     E: Write + Send,
-    C: Courier + Drop + Send,
 {
     let run = move || report_until_end(shared, reporter);
     let _ = scope.spawn(run);
 }
 
 /// Reports to witnesses until the process no longer serves.
-fn report_until_end<R, T, W, E, C>(shared: Shared<'_, R, T, W, E, C>, reporter: &Mutex<Reporter>)
+fn report_until_end<R, T, W, E>(shared: Shared<'_, R, T, W, E>, reporter: &Mutex<Reporter>)
 where
     R: Wait + Net<Listener = TcpListener, Stream = TcpStream>,
     T: std::time::Clock,
     W: Write,
     E: Write,
-    C: Courier + Drop,
 {
     reporter.lock(shared.context.rt).run(shared);
 }
 
 /// Accepts local programs, and starts a thread for each.
 fn serve_all<'s, V, R, T, L, W, E, C>(
-    shared: Shared<'s, R, T, W, E, C>,
+    shared: Shared<'s, R, T, W, E>,
+    ways: &'s [Mutex<C>],
     accepting: Accepting<'s, R, T, L, W, E>,
     scope: &Scope<'s, V>,
 )
@@ -277,7 +308,7 @@ where
         let Some((stream, address, _)) = accepting.next() else {
             return;
         };
-        let run = move || serve_program(shared, stream, address);
+        let run = move || serve_program(shared, ways, stream, address);
         // Where no thread can be made the connection is closed.
         let _ = scope.spawn(run);
     }

@@ -2,24 +2,17 @@
 
 use crate::desk::{Assured, Desk};
 use peer_connections::Teller;
-use remote_sharing::{Courier, Remote};
+use remote_sharing::SharedClient;
 use secure_log::log_entries::Entry;
 use std::alloc::{AllocError, Global};
 use std::sync::{Mutex, Wait};
-use std::time::{Clock, Duration};
-
-/// How often it is tried to look at the client, and how many milliseconds pass between two looks.
-const LOOKS: u32 = 25;
-
-const PAUSE: u64 = 20;
 
 /// Who knows how a gateway is.
 #[derive(Drop)]
-pub(crate) struct GatewayTeller<'a, R, T, C: Courier + Drop> {
+pub(crate) struct GatewayTeller<'a, R> {
     pub(crate) rt: &'a R,
-    pub(crate) clock: &'a T,
-    /// The client, with its courier.
-    pub(crate) remote: &'a Mutex<Remote<C>>,
+    /// The client, with its calls in flight.
+    pub(crate) client: &'a Mutex<SharedClient>,
     /// Which replies witnesses answer for, among other things.
     pub(crate) desk: &'a Mutex<Desk>,
     /// The number of its node.
@@ -28,15 +21,12 @@ pub(crate) struct GatewayTeller<'a, R, T, C: Courier + Drop> {
     pub(crate) epoch: u32,
 }
 
-impl<R: Wait, T: Clock, C: Courier + Drop> Teller for GatewayTeller<'_, R, T, C> {
-    /// How many keys are left and how many calls were answered is told where no call is in flight just then.
+impl<R: Wait> Teller for GatewayTeller<'_, R> {
     fn tell(&self, alloc: Global) -> Result<String, AllocError> {
-        let (node, epoch) = (self.node, self.epoch);
-        let mut text = format!(in alloc; "kind: gateway\nnode: {node}\nepoch: {epoch}\n")?;
-        if let Some((left, calls)) = self.counts() {
-            let lines = format!(in alloc; "keys left: {left}\ncalls: {calls}\n")?;
-            text.push_str(&lines)?;
-        }
+        let (node, epoch, (left, calls)) = (self.node, self.epoch, self.counts());
+        let mut text = format!(in alloc;
+            "kind: gateway\nnode: {node}\nepoch: {epoch}\nkeys left: {left}\ncalls: {calls}\n"
+        )?;
         for assured in self.desk.lock(self.rt).assured() {
             text.push_str(&assured_line(alloc, assured)?)?;
         }
@@ -44,17 +34,12 @@ impl<R: Wait, T: Clock, C: Courier + Drop> Teller for GatewayTeller<'_, R, T, C>
     }
 }
 
-impl<R: Wait, T: Clock, C: Courier + Drop> GatewayTeller<'_, R, T, C> {
-    /// How many keys are left, and how many calls were answered; none where a call is in flight at each look.
-    fn counts(&self) -> Option<(u32, u64)> {
-        for _ in 0..LOOKS {
-            if let Some(remote) = self.remote.try_lock() {
-                let log = remote.client().client().node();
-                return Some((log.left(), count_received(log.log().entries())));
-            }
-            self.clock.sleep(Duration::from_millis(PAUSE));
-        }
-        None
+impl<R: Wait> GatewayTeller<'_, R> {
+    /// How many keys are left, and how many replies were received.
+    fn counts(&self) -> (u32, u64) {
+        let client = self.client.lock(self.rt);
+        let node = client.client().client().node();
+        (node.left(), count_received(node.log().entries()))
     }
 }
 

@@ -1,19 +1,21 @@
-//! The way to the server over TCP.
+//! A way to the server over TCP.
 
 ghost use Rattle.std.specs.Prelude.{◌≡◌, OnOk};
 
 use crate::context::Context;
+use crate::own_log::last_of_server;
 use crate::receipts::Receipts;
+use crate::run::Ending;
 use crate::trouble::{Trouble, check_greeted, spelled_digest};
 use crate::watch::Watch;
-use nodes::ClientNode;
-use peer_calls::{Delivered, NodeRequest, read_delivered};
-use peer_connections::{NodeConnection, Phase};
-use remote_sharing::{Carried, Courier, CourierFault, RemoteClient};
+use authenticator::Authenticator;
+use peer_calls::{Delivered, NodeRequest, read_delivered, read_stands};
+use peer_connections::NodeConnection;
+use remote_sharing::{Carried, Courier, CourierFault, Pending, SharedClient};
 use std::alloc::{AllocError, Global};
 use std::io::Write;
 use std::net::{Net, TcpListener, TcpStream};
-use std::sync::Wait;
+use std::sync::{Mutex, Wait};
 use std::time::{Duration, Instant};
 
 /// How many milliseconds pass between two looks at what goes on, while nothing is tried.
@@ -38,12 +40,15 @@ const MOST_GREETED: u32 = 60;
 
 const MOST_DELIVERED: u32 = 46_340;
 
+/// The most bytes of the answer to STANDS.
+const MOST_STANDS: u32 = 28;
+
 /// The refusals of a server that has too few keys or numbers left.
 const KEYS_USED_UP: u32 = 4;
 
 const GAP_TOO_WIDE: u32 = 6;
 
-/// The way to the server over TCP, by one connection at a time. Where that breaks, or what comes is no answer, a new
+/// A way to the server over TCP, by one connection at a time. Where that breaks, or what comes is no answer, a new
 /// one is made, after pauses of 0.1 seconds to 30, and the same is sent again, until an answer comes, the call is given
 /// up or the process is to end. The acknowledgement of a reply is sent, and its answer read before that to the next
 /// call; one that wasn't answered goes first over the next connection. Of a server that goes by another roster that is
@@ -51,13 +56,13 @@ const GAP_TOO_WIDE: u32 = 6;
 #[derive(Drop)]
 pub(crate) struct TcpCourier<'a, R, T, W, E> {
     context: Context<'a, R, T, W, E>,
+    /// The client whose calls are carried.
+    client: &'a Mutex<SharedClient>,
     /// Where the server listens, as HOST:PORT.
     address: &'a str,
     connection: Option<NodeConnection>,
     receipts: Receipts,
     in_hand: InHand,
-    /// Whether it was said that the server gives no answer.
-    is_away: bool,
 }
 
 /// The call in hand.
@@ -83,10 +88,12 @@ impl<'a, R, T, W, E> TcpCourier<'a, R, T, W, E> {
     /// The way to the server at an address. Doesn't connect.
     pub(crate) fn new(
         context: Context<'a, R, T, W, E>,
+        client: &'a Mutex<SharedClient>,
         address: &'a str,
     ) -> TcpCourier<'a, R, T, W, E> {
         TcpCourier {
             context,
+            client,
             address,
             connection: None,
             receipts: Receipts::new(context.alloc),
@@ -95,7 +102,6 @@ impl<'a, R, T, W, E> TcpCourier<'a, R, T, W, E> {
                 begun: None,
                 unwanted: None,
             },
-            is_away: false,
         }
     }
 }
@@ -108,15 +114,15 @@ where
     E: Write,
 {
     /// The connection that there is, or a new one. It is kept again once it has brought an answer.
-    fn connection(&mut self, client: Option<&ClientNode>) -> Result<NodeConnection, Trouble> {
+    fn connection(&mut self) -> Result<NodeConnection, Trouble> {
         match self.connection.take() {
             Some(connection) => Ok(connection),
-            None => self.connect(client),
+            None => self.connect(),
         }
     }
 
-    /// Connects to the server, and greets it.
-    fn connect(&mut self, client: Option<&ClientNode>) -> Result<NodeConnection, Trouble> {
+    /// Connects to the server, greets it, and asks whether the last that it signed still stands in its log.
+    fn connect(&mut self) -> Result<NodeConnection, Trouble> {
         let Context {
             rt,
             alloc,
@@ -127,25 +133,43 @@ where
             Ok(connection) => connection,
             Err(error) => return Err(Trouble::Unreached(error)),
         };
-        let mut watch = Watch::new(self.context, client, self.in_hand.begun);
+        let mut watch = Watch::new(self.context, self.in_hand.begun);
         let sent = connection.send(&NodeRequest::Greet(greeting), &mut watch)?;
         let answer = connection.answer(sent, MOST_GREETED, &mut watch)?;
         check_greeted(alloc, answer.results())?;
+        if let Some(last) = self.last_of_server()? {
+            let sent = connection.send(&NodeRequest::Stands(last), &mut watch)?;
+            let answer = connection.answer(sent, MOST_STANDS, &mut watch)?;
+            if !read_stands(answer.results())? {
+                return Err(Trouble::PutBack);
+            }
+        }
         self.receipts.begin_again();
         Ok(connection)
+    }
+
+    /// The last that the server signed, as the client's log shows it, if it shows something of it.
+    fn last_of_server(&self) -> Result<Option<Authenticator>, Trouble> {
+        let Context {
+            rt,
+            alloc,
+            server,
+            ..
+        } = self.context;
+        let client = self.client.lock(rt);
+        Ok(last_of_server(alloc, client.client().client(), server)?)
     }
 
     /// Delivers an envelope once: after the acknowledgements that weren't sent, and with the answers to these.
     fn deliver(
         &mut self,
-        client: &ClientNode,
         call: &[u8],
         ack: &mut Vec<u8>,
         reply: &mut Vec<u8>,
     ) -> Result<Delivery, Trouble> {
         let alloc = self.context.alloc;
-        let mut connection = self.connection(Some(client))?;
-        let mut watch = Watch::new(self.context, Some(client), self.in_hand.begun);
+        let mut connection = self.connection()?;
+        let mut watch = Watch::new(self.context, self.in_hand.begun);
         self.receipts.send(&mut connection, &mut watch)?;
         let sent = connection.send(&NodeRequest::Deliver(call), &mut watch)?;
         self.receipts
@@ -161,7 +185,7 @@ where
         let Some(mut connection) = self.connection.take() else {
             return;
         };
-        let mut watch = Watch::new(self.context, None, None);
+        let mut watch = Watch::new(self.context, None);
         if self.receipts.send(&mut connection, &mut watch).is_ok() {
             self.connection = Some(connection);
         }
@@ -179,16 +203,15 @@ where
 
     /// Brings the acknowledgements that weren't answered, once.
     fn bring_receipts(&mut self) -> Result<(), Trouble> {
-        let mut connection = self.connection(None)?;
-        let mut watch = Watch::new(self.context, None, None);
+        let mut connection = self.connection()?;
+        let mut watch = Watch::new(self.context, None);
         self.receipts.send(&mut connection, &mut watch)?;
         self.receipts
             .take_answers(self.context.alloc, &mut connection, &mut watch)
     }
 
-    /// Takes the client's last call in hand, unless it is.
-    fn take_in_hand(&mut self, client: &ClientNode) {
-        let number = last_sent(client);
+    /// Takes the call with a number in hand, unless it is.
+    fn take_in_hand(&mut self, number: u64) {
         if self.in_hand.number != number {
             self.in_hand = InHand {
                 number,
@@ -200,22 +223,21 @@ where
 
     /// Waits for so many looks before the next try. Whether it is to be made: not once the process is to end, or the
     /// call is given up.
-    fn waits(&mut self, client: &ClientNode, looks: u64) -> bool {
+    fn waits(&mut self, bytes: &[u8], looks: u64) -> bool {
         for _ in 0..looks {
-            self.context.tell(client);
-            if !self.is_carried_on(client) {
+            if !self.is_carried_on(bytes) {
                 return false;
             }
             self.context.clock.sleep(Duration::from_millis(LOOK));
         }
-        self.is_carried_on(client)
+        self.is_carried_on(bytes)
     }
 
-    /// Whether the call in hand is to be tried again.
-    fn is_carried_on(&mut self, client: &ClientNode) -> bool {
+    /// Whether the call in hand, of these bytes, is to be tried again.
+    fn is_carried_on(&mut self, bytes: &[u8]) -> bool {
         self.context.is_serving()
             && !self.context.is_given_up(self.in_hand.begun)
-            && !self.is_unwanted(client)
+            && !self.is_unwanted(bytes)
     }
 
     /// Whether the call in hand has waited for so long that it is said.
@@ -223,12 +245,9 @@ where
         self.context.is_past(self.in_hand.begun, SECONDS_UNTIL_TOLD)
     }
 
-    /// Whether no local program has awaited the call in hand for a minute.
-    fn is_unwanted(&mut self, client: &ClientNode) -> bool {
-        let Some(envelope) = client.envelope(self.in_hand.number) else {
-            return false;
-        };
-        if !self.context.is_left(envelope.body.bytes()) {
+    /// Whether no local program has awaited the call in hand, of these bytes, for a minute.
+    fn is_unwanted(&mut self, bytes: &[u8]) -> bool {
+        if !self.context.is_left(bytes) {
             self.in_hand.unwanted = None;
             return false;
         }
@@ -239,7 +258,7 @@ where
     }
 
     /// The server has given no answer for some tries: says so, unless it was said, and has witnesses told of the call.
-    fn note_silence(&mut self, trouble: &Trouble) {
+    fn note_silence(&self, trouble: &Trouble) {
         let Context {
             rt,
             alloc,
@@ -248,21 +267,19 @@ where
             ..
         } = self.context;
         desk.lock(rt).keep_unanswered(self.in_hand.number);
-        if !self.is_away {
+        if !self.context.set_away(true) {
             self.context.say(format!(in alloc;
                 "nfsacc: server {server} gives no answer, and is tried again: {trouble}\n"
             ));
         }
-        self.is_away = true;
     }
 
     /// The server has given an answer: says so, where it was said that it gives none.
-    fn note_answer(&mut self) {
+    fn note_answer(&self) {
         let Context { alloc, server, .. } = self.context;
-        if self.is_away {
+        if self.context.set_away(false) {
             self.context.say(format!(in alloc; "nfsacc: server {server} answers again\n"));
         }
-        self.is_away = false;
     }
 
     /// Why no other try is made after this trouble, if none is.
@@ -273,25 +290,20 @@ where
                 self.end_at_other_roster(digest);
                 Some(CourierFault::Refused)
             }
-            Trouble::Unreached(_) | Trouble::Broken | Trouble::Garbage => None,
+            Trouble::Unreached(_)
+            | Trouble::Broken
+            | Trouble::Garbage
+            | Trouble::PutBack
+            | Trouble::OwnPutBack(_) => None,
         }
     }
 
     /// The server goes by another roster: says so once, and ends the process.
     fn end_at_other_roster(&self, digest: &[u8; 32]) {
-        let Context {
-            rt,
-            alloc,
-            has_other_roster,
-            server,
-            ..
-        } = self.context;
-        let mut was_said = has_other_roster.lock(rt);
-        if !*was_said {
+        let Context { alloc, server, .. } = self.context;
+        if self.context.end_by(Ending::OtherRoster) != Ending::OtherRoster {
             self.context.say(greets_another(alloc, server, digest));
         }
-        *was_said = true;
-        self.context.end(Phase::Stopping);
     }
 }
 
@@ -311,19 +323,19 @@ where
     fn carry(
         &mut self,
         _alloc: Global,
-        client: &RemoteClient,
+        pending: &Pending,
+        bytes: &[u8],
         call: &[u8],
         ack: &mut Vec<u8>,
         reply: &mut Vec<u8>,
     ) -> Result<Carried, CourierFault> {
-        let client = client.client();
         if self.connection.is_none() && !self.context.is_serving() {
             return Err(CourierFault::Lost);
         }
-        self.take_in_hand(client);
+        self.take_in_hand(pending.number.get());
         let mut pause = FIRST_PAUSE;
         for tries in 1..u64::MAX {
-            let trouble = match self.deliver(client, call, ack, reply) {
+            let trouble = match self.deliver(call, ack, reply) {
                 Ok(delivery) => {
                     self.note_answer();
                     return told(delivery);
@@ -336,7 +348,7 @@ where
             if tries >= TRIES_UNTIL_TOLD || self.is_late() {
                 self.note_silence(&trouble);
             }
-            if !self.waits(client, pause) {
+            if !self.waits(bytes, pause) {
                 break;
             }
             pause = pause.saturating_mul(2).min(LONGEST_PAUSE);
@@ -354,17 +366,6 @@ where
             Err(AllocError) => Err(CourierFault::NoMemory),
         }
     }
-}
-
-/// The number of the last SEND of a client's log, 0 where there is none.
-fn last_sent(client: &ClientNode) -> u64 {
-    let last = client.node().log().last_number().get();
-    for number in (1..=last).rev() {
-        if client.envelope(number).is_some() {
-            return number;
-        }
-    }
-    0
 }
 
 /// Takes the results of DELIVER: the texts of an acknowledgement and of a reply's envelope, if there is one, are

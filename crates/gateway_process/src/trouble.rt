@@ -19,6 +19,10 @@ pub(crate) enum Trouble {
     Garbage,
     /// It goes by the roster whose text has this digest.
     OtherRoster([u8; 32]),
+    /// Its log was put back to an earlier one: it lacks what it has signed.
+    PutBack,
+    /// The gateway's own log was: it lacks what was signed before with this number, which it has.
+    OwnPutBack(u64),
 }
 
 impl fmt::Display for Trouble {
@@ -29,6 +33,11 @@ impl fmt::Display for Trouble {
             Trouble::Broken => write!(f, "the connection broke"),
             Trouble::Garbage => write!(f, "what came is no answer"),
             Trouble::OtherRoster(_) => write!(f, "it greets another roster"),
+            Trouble::PutBack => write!(f, "its log was put back to an earlier one"),
+            Trouble::OwnPutBack(number) => write!(
+                f,
+                "the log was put back to an earlier one: number {number} was signed before"
+            ),
         }
     }
 }

@@ -1,7 +1,6 @@
-//! What is done while the server is awaited.
+//! How long the server is awaited.
 
 use crate::context::Context;
-use nodes::ClientNode;
 use peer_connections::Meanwhile;
 use std::io::Write;
 use std::sync::Wait;
@@ -13,14 +12,12 @@ const PATIENCE: u64 = 30;
 /// How many seconds an answer is still awaited once the process is to end.
 const GRACE: u64 = 2;
 
-/// What is done while the server is awaited: the thread that reports is told what it asks of the client. It goes on
+/// How long the server is awaited:
 /// for 30 seconds, as long as the call isn't given up, and for two once the process is to end.
 #[derive(Drop)]
-pub(crate) struct Watch<'w, 'a, R, T, W, E> {
+pub(crate) struct Watch<'a, R, T, W, E> {
     context: Context<'a, R, T, W, E>,
-    /// The client whose call is in hand, if one is.
-    client: Option<&'w ClientNode>,
-    /// When the call was begun.
+    /// When the call was begun that is in hand, if one is.
     begun: Option<Instant>,
     /// Since when the server is awaited.
     since: Option<Instant>,
@@ -28,22 +25,20 @@ pub(crate) struct Watch<'w, 'a, R, T, W, E> {
     stopping: Option<Instant>,
 }
 
-impl<'w, 'a, R, T, W, E> Watch<'w, 'a, R, T, W, E>
+impl<'a, R, T, W, E> Watch<'a, R, T, W, E>
 where
     R: Wait,
     T: std::time::Clock,
     W: Write,
     E: Write,
 {
-    /// From now on, for a call of a client, if one is in hand, that was begun then.
+    /// From now on, for a call that was begun then, if one is in hand.
     pub(crate) fn new(
         context: Context<'a, R, T, W, E>,
-        client: Option<&'w ClientNode>,
         begun: Option<Instant>,
-    ) -> Watch<'w, 'a, R, T, W, E> {
+    ) -> Watch<'a, R, T, W, E> {
         Watch {
             context,
-            client,
             begun,
             since: context.now(),
             stopping: None,
@@ -51,7 +46,7 @@ where
     }
 }
 
-impl<'w, 'a, R, T, W, E> Meanwhile for Watch<'w, 'a, R, T, W, E>
+impl<'a, R, T, W, E> Meanwhile for Watch<'a, R, T, W, E>
 where
     R: Wait,
     T: std::time::Clock,
@@ -59,9 +54,6 @@ where
     E: Write,
 {
     fn goes_on(&mut self) -> bool {
-        if let Some(client) = self.client {
-            self.context.tell(client);
-        }
         if self.context.is_serving() {
             return !self.context.is_past(self.since, PATIENCE)
                 && !self.context.is_given_up(self.begun);

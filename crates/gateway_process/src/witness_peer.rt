@@ -1,17 +1,22 @@
 //! A witness that a gateway reports to.
 
 use crate::context::{Context, Shared};
-use crate::desk::{Assured, Question, Told};
-use crate::news::{News, Progress, Shown, ShownOf, ack_packet};
+use crate::desk::Assured;
+use crate::news::{
+    News, Progress, Shown, ShownOf, ack_packet, news_since, receipt_packet, replies_after,
+    segment_packet,
+};
+use crate::own_log::lost_number;
 use crate::trouble::{Trouble, check_greeted};
 use assurance::Assurance;
-use envelopes::Envelope;
+use authenticator::Authenticator;
 use peer_calls::{
     NodeNumber, Numbers, ResultNumber, Told as NodeTold, Wanted, WantedMessage, WitnessRequest,
+    read_signed,
 };
 use peer_connections::PeerCaller;
-use remote_sharing::{AcceptFault, Courier, Remote};
-use std::alloc::Global;
+use remote_sharing::{AcceptFault, SharedClient};
+use std::alloc::{AllocError, Global};
 use std::io::Write;
 use std::net::{Net, TcpListener, TcpStream};
 use std::sync::{MutexGuard, Wait};
@@ -26,6 +31,9 @@ const MOST_DELIVERED: u32 = 28;
 const MOST_WANTED: u32 = 468_016;
 
 const MOST_TOLD: u32 = 48;
+
+/// The most bytes of the answer to SHOWN.
+const MOST_SHOWN: u32 = 16_980;
 
 /// How many times news is handed to a witness in one report.
 const MOST_ROUNDS: u32 = 16;
@@ -42,8 +50,7 @@ const TRUSTED: u32 = 1;
 
 const EXPOSED: u32 = 3;
 
-/// How many milliseconds pass between two looks whether the client is free, and how often it is looked for one that is
-/// to receive a message.
+/// How many milliseconds pass between two looks whether the client has no call in flight, and how many looks there are.
 const LOOK: u64 = 2;
 
 const LOOKS: u32 = 500;
@@ -60,8 +67,8 @@ pub(crate) struct WitnessPeer {
     assurance: Assurance,
     /// After how many entries of the client's log replies weren't counted yet that were handed out.
     counted: usize,
-    /// Whether it took the acknowledgement that was handed to it last.
-    has_receipt: bool,
+    /// The numbers of the calls in the server's log whose acknowledgements it took, and whose replies it didn't yet.
+    acknowledged: Vec<u64>,
     /// Whether the last report to it has failed.
     pub(crate) has_failed: bool,
     /// Whether it goes by another roster, and is left out.
@@ -81,7 +88,7 @@ impl WitnessPeer {
             },
             assurance: Assurance::new(alloc),
             counted: 0,
-            has_receipt: false,
+            acknowledged: Vec::new(alloc),
             has_failed: false,
             is_left_out: false,
         }
@@ -94,9 +101,9 @@ impl WitnessPeer {
 
     /// Reports what is new to it, and gives what it awaits of the gateway's node: a segment of the log, and
     /// acknowledgements. For these at most so many messages are received, and they become fewer.
-    pub(crate) fn report<R, T, W, E, C>(
+    pub(crate) fn report<R, T, W, E>(
         &mut self,
-        shared: Shared<'_, R, T, W, E, C>,
+        shared: Shared<'_, R, T, W, E>,
         reserve: &mut u32,
     ) -> Result<(), Trouble>
     where
@@ -104,10 +111,9 @@ impl WitnessPeer {
         T: std::time::Clock,
         W: Write,
         E: Write,
-        C: Courier + Drop,
     {
         let alloc = shared.context.alloc;
-        let mut caller = self.connection(shared.context)?;
+        let mut caller = self.connection(shared)?;
         self.hand_news(shared, &mut caller)?;
         self.ask_about_server(&mut caller, shared)?;
         let wanted = ask_wanted(alloc, &mut caller, shared.context.greeting.node)?;
@@ -126,9 +132,9 @@ impl WitnessPeer {
     }
 
     /// Hands it what is new, until it has all or has no room for more.
-    fn hand_news<R, T, W, E, C>(
+    fn hand_news<R, T, W, E>(
         &mut self,
-        shared: Shared<'_, R, T, W, E, C>,
+        shared: Shared<'_, R, T, W, E>,
         caller: &mut PeerCaller,
     ) -> Result<(), Trouble>
     where
@@ -136,7 +142,6 @@ impl WitnessPeer {
         T: std::time::Clock,
         W: Write,
         E: Write,
-        C: Courier + Drop,
     {
         let Context { alloc, server, .. } = shared.context;
         for _ in 0..MOST_ROUNDS {
@@ -170,35 +175,58 @@ impl WitnessPeer {
             if result == NO_ROOM {
                 return Ok(Some(shown.before));
             }
-            self.note_shown(server, shown.of, result == TAKEN || result == TAKEN_BEFORE);
+            if result == TAKEN || result == TAKEN_BEFORE {
+                self.note_taken(server, shown.of)?;
+            }
         }
         Ok(None)
     }
 
-    /// It was shown what the server signed, and took it or didn't. A reply counts where the acknowledgement of its
-    /// call was taken, too: that is the last one before it.
-    fn note_shown(&mut self, server: u32, of: ShownOf, is_taken: bool) {
+    /// It took what the server signed. A reply counts where the acknowledgement of its call was taken, too: that of the
+    /// message two numbers before it.
+    fn note_taken(&mut self, server: u32, of: ShownOf) -> Result<(), Trouble> {
         match of {
-            ShownOf::Receipt => self.has_receipt = is_taken,
-            ShownOf::Reply { from, number } => {
-                if from == server && is_taken && self.has_receipt {
-                    self.assurance.take(number);
+            ShownOf::Receipt { by, number } => {
+                if by == server {
+                    self.note_acknowledged(number)?;
                 }
             }
+            ShownOf::Reply { from, number } => {
+                if from == server {
+                    self.note_reply(number);
+                }
+            }
+        }
+        Ok(())
+    }
+
+    /// It took the server's signature of the acknowledgement of the call with a number.
+    fn note_acknowledged(&mut self, number: u64) -> Result<(), AllocError> {
+        if self.acknowledged.contains(&number) {
+            return Ok(());
+        }
+        match self.acknowledged.push(number) {
+            Ok(()) => Ok(()),
+            Err(_) => Err(AllocError),
+        }
+    }
+
+    /// It took the server's signature of the message with a number.
+    fn note_reply(&mut self, number: u64) {
+        let call = number.saturating_sub(2);
+        if self.acknowledged.contains(&call) {
+            self.acknowledged.retain(|other| *other != call);
+            self.assurance.take(number);
         }
     }
 
     /// Counts the replies that were handed out since they were counted last.
-    fn count_replies<R, T, W, E, C>(
-        &mut self,
-        shared: Shared<'_, R, T, W, E, C>,
-    ) -> Result<(), Trouble>
+    fn count_replies<R, T, W, E>(&mut self, shared: Shared<'_, R, T, W, E>) -> Result<(), Trouble>
     where
         R: Wait,
         T: std::time::Clock,
         W: Write,
         E: Write,
-        C: Courier + Drop,
     {
         let (numbers, entries) = shared.replies(self.counted)?;
         for number in numbers {
@@ -209,17 +237,16 @@ impl WitnessPeer {
     }
 
     /// Asks what it says of the server, and notes up to which number it answers for the replies.
-    fn ask_about_server<R, T, W, E, C>(
+    fn ask_about_server<R, T, W, E>(
         &mut self,
         caller: &mut PeerCaller,
-        shared: Shared<'_, R, T, W, E, C>,
+        shared: Shared<'_, R, T, W, E>,
     ) -> Result<(), Trouble>
     where
         R: Wait,
         T: std::time::Clock,
         W: Write,
         E: Write,
-        C: Courier + Drop,
     {
         let Context {
             rt,
@@ -245,11 +272,15 @@ impl WitnessPeer {
     /// The connection that there is, or a new one. It is kept again after a report.
     fn connection<R, T, W, E>(
         &mut self,
-        context: Context<'_, R, T, W, E>,
+        shared: Shared<'_, R, T, W, E>,
     ) -> Result<PeerCaller, Trouble>
     where
-        R: Net<Listener = TcpListener, Stream = TcpStream>,
+        R: Wait + Net<Listener = TcpListener, Stream = TcpStream>,
+        T: std::time::Clock,
+        W: Write,
+        E: Write,
     {
+        let context = shared.context;
         if let Some(caller) = self.caller.take() {
             return Ok(caller);
         }
@@ -263,6 +294,9 @@ impl WitnessPeer {
         };
         let answer = caller.ask_witness(&WitnessRequest::Greet(context.greeting), MOST_GREETED)?;
         check_greeted(context.alloc, answer.results())?;
+        if let Some(shown) = ask_shown(context.alloc, &mut caller, context.greeting.node)? {
+            shared.check_own(&shown)?;
+        }
         self.begin_again(context.alloc);
         Ok(caller)
     }
@@ -277,7 +311,7 @@ impl WitnessPeer {
         };
         self.assurance = Assurance::new(alloc);
         self.counted = 0;
-        self.has_receipt = false;
+        self.acknowledged.clear();
     }
 }
 
@@ -302,6 +336,20 @@ fn ask_told(alloc: Global, caller: &mut PeerCaller, node: u32) -> Result<NodeTol
     Ok(read_text::<NodeTold>(alloc, answer.results())?)
 }
 
+/// What a node showed a witness last, if it showed something.
+fn ask_shown(
+    alloc: Global,
+    caller: &mut PeerCaller,
+    node: u32,
+) -> Result<Option<Authenticator>, Trouble> {
+    let request = WitnessRequest::Shown(NodeNumber { node });
+    let answer = caller.ask_witness(&request, MOST_SHOWN)?;
+    match read_signed(answer.results())? {
+        Some(text) => Ok(Some(read_text::<Authenticator>(alloc, text)?)),
+        None => Ok(None),
+    }
+}
+
 /// What a witness awaits of a node.
 fn ask_wanted(alloc: Global, caller: &mut PeerCaller, node: u32) -> Result<Wanted, Trouble> {
     let request = WitnessRequest::Wanted(NodeNumber { node });
@@ -309,113 +357,104 @@ fn ask_wanted(alloc: Global, caller: &mut PeerCaller, node: u32) -> Result<Wante
     Ok(read_text::<Wanted>(alloc, answer.results())?)
 }
 
-/// What is made for a witness of the client's log, by the thread that has the client in hand, or by this one.
-impl<'a, R, T, W, E, C> Shared<'a, R, T, W, E, C>
+/// What is made for a witness of the client's log.
+impl<'a, R, T, W, E> Shared<'a, R, T, W, E>
 where
     R: Wait,
     T: std::time::Clock,
     W: Write,
     E: Write,
-    C: Courier + Drop,
 {
+    /// A witness was shown this of the client: `OwnPutBack` comes where its log lacks it.
+    fn check_own(&self, shown: &Authenticator) -> Result<(), Trouble> {
+        let client = self.client.lock(self.context.rt);
+        match lost_number(client.client().client(), shown) {
+            Some(number) => Err(Trouble::OwnPutBack(number)),
+            None => Ok(()),
+        }
+    }
+
     /// What is new since a witness was told so far.
     fn news(&self, progress: Progress) -> Result<News, Trouble> {
-        match self.ask(Question::News(progress))? {
-            Told::News(news) => Ok(news),
-            Told::Packet(_) | Told::Replies { .. } => Err(Trouble::Garbage),
-        }
+        let Context {
+            rt,
+            alloc,
+            desk,
+            ..
+        } = self.context;
+        let unanswered = desk.lock(rt).unanswered(alloc)?;
+        let client = self.client.lock(rt);
+        Ok(news_since(alloc, client.client().client(), &unanswered, progress)?)
     }
 
     /// The numbers of the server's replies that were received after so many entries, and how many entries there are.
     fn replies(&self, after: usize) -> Result<(Vec<u64>, usize), Trouble> {
-        let server = self.context.server;
-        match self.ask(Question::Replies { server, after })? {
-            Told::Replies { numbers, entries } => Ok((numbers, entries)),
-            Told::Packet(_) | Told::News(_) => Err(Trouble::Garbage),
-        }
+        let Context {
+            rt,
+            alloc,
+            server,
+            ..
+        } = self.context;
+        let client = self.client.lock(rt);
+        let node = client.client().client();
+        let numbers = replies_after(alloc, node, server, after)?;
+        Ok((numbers, node.node().log().entries().len()))
     }
 
     /// The packet with a segment of the client's log, if the log has it.
     fn segment(&self, numbers: Numbers) -> Result<Option<Vec<u8>>, Trouble> {
-        self.ask_packet(Question::Segment(numbers))
+        let Context { rt, alloc, .. } = self.context;
+        let client = self.client.lock(rt);
+        Ok(segment_packet(alloc, client.client().client(), numbers)?)
     }
 
     /// The packet with the acknowledgement of a message from the server. One that the client never received it
-    /// receives now, where the reserve isn't used up and no call is in hand.
+    /// receives now, where the reserve isn't used up and no call is in flight.
     fn acknowledgement(
         &self,
         message: WantedMessage,
         reserve: &mut u32,
     ) -> Result<Option<Vec<u8>>, Trouble> {
+        let Context { rt, alloc, .. } = self.context;
         let WantedMessage { envelope } = message;
-        let mut text = Vec::new(self.context.alloc);
+        let mut text = Vec::new(alloc);
         envelope.write(&mut text)?;
-        if let Some(packet) = self.ask_packet(Question::Acknowledgement(envelope))? {
-            return Ok(Some(packet));
-        }
-        if *reserve == 0 {
-            return Ok(None);
+        let shown = receipt_packet(alloc, self.client.lock(rt).client().client(), &envelope)?;
+        if shown.is_some() || *reserve == 0 {
+            return Ok(shown);
         }
         self.receive(&text, reserve)
     }
 
-    /// Receives a message's envelope, where the client is soon free: the packet with its acknowledgement.
+    /// Receives a message's envelope, where the client soon has no call in flight: the packet with its acknowledgement.
     fn receive(&self, text: &[u8], reserve: &mut u32) -> Result<Option<Vec<u8>>, Trouble> {
         let alloc = self.context.alloc;
-        let Some(mut remote) = self.free_client() else {
+        let Some(mut client) = self.idle_client() else {
             return Ok(None);
         };
-        match remote.receive(alloc, text) {
+        match client.receive(alloc, text) {
             Ok(received) => {
                 if received.is_new() {
                     *reserve = reserve.saturating_sub(1);
                 }
-                let client = remote.client().client();
-                Ok(ack_packet(alloc, client, received.number().get())?)
+                let number = received.number().get();
+                Ok(ack_packet(alloc, client.client().client(), number)?)
             }
             Err(AcceptFault::NoMemory) => Err(Trouble::NoMemory),
             Err(_) => Ok(None),
         }
     }
 
-    /// The client, where it is free within a second or two.
-    fn free_client(&self) -> Option<MutexGuard<'a, Remote<C>>> {
+    /// The client, where it has no call in flight within a second or two.
+    fn idle_client(&self) -> Option<MutexGuard<'a, SharedClient>> {
         for _ in 0..LOOKS {
-            if let Some(remote) = self.remote.try_lock() {
-                return Some(remote);
+            let client = self.client.lock(self.context.rt);
+            if client.is_idle() {
+                return Some(client);
             }
+            drop(client);
             self.context.clock.sleep(Duration::from_millis(LOOK));
         }
         None
-    }
-
-    /// The packet that is told to a question.
-    fn ask_packet(&self, question: Question) -> Result<Option<Vec<u8>>, Trouble> {
-        match self.ask(question)? {
-            Told::Packet(packet) => Ok(packet),
-            Told::News(_) | Told::Replies { .. } => Err(Trouble::Garbage),
-        }
-    }
-
-    /// What is told to a question: by the thread that has the client in hand, also while its call waits for the server,
-    /// or by this one where the client is free.
-    fn ask(&self, question: Question) -> Result<Told, Trouble> {
-        let Context {
-            rt,
-            desk,
-            clock,
-            ..
-        } = self.context;
-        desk.lock(rt).ask(question);
-        for _ in 0..u64::MAX {
-            if let Some(remote) = self.remote.try_lock() {
-                self.context.tell(remote.client().client());
-            }
-            if let Some(told) = desk.lock(rt).take_told() {
-                return Ok(told?);
-            }
-            clock.sleep(Duration::from_millis(LOOK));
-        }
-        Err(Trouble::Broken)
     }
 }

@@ -155,6 +155,7 @@ fn last_line(ending: Ending) -> &'static str {
         Ending::Stopped => "stopped\n",
         Ending::KeysUsedUp => "keys used up\n",
         Ending::OtherRoster => "the server goes by another roster\n",
+        Ending::PutBack => "the log was put back\n",
     }
 }
 
@@ -163,11 +164,12 @@ fn status_of(ending: Ending) -> u8
     ensures stopped { ending ≡ Ending.Stopped → result ≡ 0 }
     ensures used { ending ≡ Ending.KeysUsedUp → result ≡ 5 }
     ensures other { ending ≡ Ending.OtherRoster → result ≡ 6 }
+    ensures put_back { ending ≡ Ending.PutBack → result ≡ 6 }
 {
     match ending {
         Ending::Stopped => 0,
         Ending::KeysUsedUp => KEYS_USED_UP,
-        Ending::OtherRoster => NOT_ACCEPTED,
+        Ending::OtherRoster | Ending::PutBack => NOT_ACCEPTED,
     }
 }
 

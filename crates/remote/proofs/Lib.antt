@@ -4,6 +4,5 @@ pub mod Receiving
 pub mod Accepting
 pub mod Logging
 pub mod Xids
-pub mod Awaiting
 pub mod Piping
 pub mod Receipts

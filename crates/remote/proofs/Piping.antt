@@ -24,7 +24,6 @@ use Rattle.remote.specs.Links.{IsExchanged}
 use Rattle.remote.specs.Pipes.{Gives, IsTextIn, reply_in}
 use Rattle.remote.specs.declared.courier.Carried.{Carried}
 use Rattle.remote.specs.declared.courier.Carried.TheVariants.{Acknowledged, Answered}
-use Rattle.remote.proofs.Awaiting.{begun_awaits}
 
 -- a server received the envelope whose text this is
 received : (s s' : NodeParts) (time : Timeval) (bytes : List ℕ) (e : Envelope) (r : Receipt)
@@ -104,8 +103,9 @@ pub one_round : (r m r' : RemoteParts) (body : List ℕ) (number : ℕ) (text ac
     → IsExchanged r body reply r'
 one_round r m r' body number text ack receipt bytes reply begun accepted = record {
   number = number;
+  text = text;
   between = m;
-  awaiting = begun_awaits r body number text m begun;
+  begun = begun;
   ack = ack;
   bytes = bytes;
   receipt = receipt;

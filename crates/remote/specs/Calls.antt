@@ -16,6 +16,12 @@ pub record IsCallAt (r : RemoteParts) (number : ℕ) (call : Envelope) : Type 0 
   pub receiver : call.to ≡ r.server
   pub stands : number_in r.client.log_version call.seq ≡ number
 
+-- The SEND with a number is a call of the server with this body.
+pub record IsCallOf (r : RemoteParts) (number : ℕ) (body : List ℕ) : Type 0 where
+  pub call : Envelope
+  pub is_call : IsCallAt r number call
+  pub says : call.body ≡ body
+
 -- A call is begun, with two keys left, for it and for its reply: its SEND is logged with the next number, and
 -- this is the text of its envelope.
 pub record IsBegun (r : RemoteParts) (body : List ℕ) (number : ℕ) (text : List ℕ) (r' : RemoteParts)

@@ -6,6 +6,5 @@ pub mod Sent
 pub mod Refusals
 pub mod Laws
 pub mod Links
-pub mod Rounds
 pub mod Pipes
 pub mod Receipts

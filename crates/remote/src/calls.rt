@@ -1,6 +1,6 @@
 //! A call that a client sends.
 
-ghost use Rattle.std.specs.Prelude.{◌≡◌, ◌≤◌, IfErr, IfOk, Some, length};
+ghost use Rattle.std.specs.Prelude.{◌≡◌, ◌≤◌, ◌↔◌, IfErr, IfOk, IsTrue, Some, length};
 ghost use Rattle.secure_log.specs.declared.log_entries.entry.TheConstants.{MAX_BODY};
 ghost use Rattle.commitment.specs.Senders.LookUps.{envelope_at};
 ghost use Rattle.envelopes.specs.Envelope.{envelope_text, envelope_value};
@@ -10,7 +10,7 @@ ghost use Rattle.node_logs.specs.Nodes.{sender_of};
 ghost use Rattle.nodes.specs.Delivery.{WritesText, fault_of};
 ghost use Rattle.nodes.specs.Shareds.{HasNotStrayed};
 ghost use Rattle.remote.specs.Remotes.{IsRemote, remote_of};
-ghost use Rattle.remote.specs.Calls.{Begins, IsBegun, StopsBeginning};
+ghost use Rattle.remote.specs.Calls.{Begins, IsBegun, IsCallOf, StopsBeginning};
 
 use authenticator::Number;
 use commitment::Refusal;
@@ -106,6 +106,20 @@ pub(crate) fn write_call(
     match envelope.write(text) {
         Ok(()) => Ok(()),
         Err(_) => Err(LinkFault::NoMemory),
+    }
+}
+
+/// Whether the SEND with a number is a call of a server with these bytes. Takes no memory.
+pub(crate) fn is_call_of(client: &ClientNode, server: u32, number: Number, bytes: &[u8]) -> bool
+    ensures { IsTrue result ↔ IsCallOf (remote_of client.now server) number bytes.now }
+{
+    match client.envelope(number.get()) {
+        Some(envelope) => {
+            envelope.to == server
+                && envelope.seq.number(client.log_version()) == number
+                && envelope.body.bytes() == bytes
+        }
+        None => false,
     }
 }
 

@@ -11,12 +11,12 @@ ghost use Rattle.envelopes.specs.declared.envelope.Envelope.{Envelope};
 ghost use Rattle.nodes.specs.Delivery.{WritesText};
 ghost use Rattle.nodes.specs.Shareds.{HasNotStrayed};
 ghost use Rattle.remote.specs.Remotes.{IsRemote, remote_of};
-ghost use Rattle.remote.specs.Calls.{IsBegun, IsCallAt, StopsBeginning};
+ghost use Rattle.remote.specs.Calls.{IsBegun, IsCallAt, IsCallOf, StopsBeginning};
 ghost use Rattle.remote.specs.Answers.{Accepts, LogsNoMore, Refuses};
 ghost use Rattle.remote.specs.Receipts.{Receives};
 
 use crate::accepted::accept;
-use crate::calls::{begin, write_call};
+use crate::calls::{begin, is_call_of, write_call};
 use crate::fault::AcceptFault;
 use crate::received::receive;
 use authenticator::{Kind, Number};
@@ -123,6 +123,13 @@ impl RemoteClient {
             WritesText envelope_text (envelope_value call) result text.new.items }
     {
         write_call(&self.client, pending.number, text)
+    }
+
+    /// Whether a pending call stands in the client's log: as a SEND to the server, with these bytes.
+    pub fn has_call(&self, pending: &Pending, bytes: &[u8]) -> bool
+        ensures { IsTrue result ↔ IsCallOf self.now pending.now.number bytes.now }
+    {
+        is_call_of(&self.client, self.server, pending.number, bytes)
     }
 
     /// Takes what came back for a call: the bytes of an acknowledgement, and those of a reply, if any came.

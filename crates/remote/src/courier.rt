@@ -1,6 +1,6 @@
 //! The way to a server on another host.
 
-use crate::client::RemoteClient;
+use crate::client::Pending;
 use std::alloc::Global;
 use thiserror::Error;
 
@@ -35,12 +35,13 @@ pub enum CourierFault {
 pub trait Courier {
     /// Carries the text of a call's envelope to the server, and writes what comes back, in place of what the
     /// bytes were: what is to be an acknowledgement's text, and what is to be the text of a reply's envelope.
-    /// A call that is carried again is to be answered as it was at first. The client is the one that calls, as
-    /// it stays while the call is carried: a courier that waits may show it to others.
+    /// A call that is carried again is to be answered as it was at first. What names the call, and its bytes
+    /// without the envelope, are for a courier that waits.
     fn carry(
         &mut self,
         alloc: Global,
-        client: &RemoteClient,
+        pending: &Pending,
+        bytes: &[u8],
         call: &[u8],
         ack: &mut Vec<u8>,
         reply: &mut Vec<u8>,

@@ -8,11 +8,8 @@ mod client;
 mod courier;
 mod fault;
 pub mod laws;
-mod link;
-mod local;
 mod pipe;
 mod received;
-mod rounds;
 mod sent;
 mod taken;
 
@@ -20,6 +17,4 @@ pub use call_fault::CallFault;
 pub use client::{Pending, RemoteClient};
 pub use courier::{Carried, Courier, CourierFault};
 pub use fault::AcceptFault;
-pub use link::Remote;
-pub use local::serve_local;
 pub use pipe::call_through_pipe;

@@ -10,13 +10,12 @@ ghost use Rattle.nodes.specs.Exchanges.Exchanges.{IsServed};
 ghost use Rattle.nodes.specs.Shareds.{HasNotStrayed};
 ghost use Rattle.nodes.specs.Sides.{IsEnvelopeText, IsReplyAt};
 ghost use Rattle.remote.specs.Links.{IsExchanged};
-ghost use Rattle.remote.specs.Pipes.{Gives, IsTextIn};
+ghost use Rattle.remote.specs.Pipes.{Gives, IsTextIn, reply_in};
 
 use crate::call_fault::CallFault;
 use crate::calls::fault_of;
 use crate::client::RemoteClient;
 use crate::courier::Carried;
-use crate::rounds::reply_in;
 use authenticator::Number;
 use commitment::Received;
 use nfs_items::Time;
@@ -58,6 +57,16 @@ pub fn call_through_pipe(
     match client.accept(alloc, &pending, &ack, came, &mut text) {
         Ok(reply) => Ok(reply),
         Err(why) => Err(CallFault::Refused(why).link_fault()),
+    }
+}
+
+/// What came for the reply, if anything did.
+fn reply_in(carried: Carried, text: &[u8]) -> Option<&[u8]>
+    ensures { option_map (λ b. b.now) result ≡ reply_in carried text.now }
+{
+    match carried {
+        Carried::Acknowledged => None,
+        Carried::Answered => Some(text),
     }
 }
 

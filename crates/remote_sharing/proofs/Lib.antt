@@ -1,1 +1,2 @@
 pub mod UnderLock
+pub mod Growing

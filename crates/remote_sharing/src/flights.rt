@@ -7,7 +7,7 @@ ghost use Rattle.secure_log.specs.declared.log_entries.entry.TheConstants.{MAX_B
 ghost use Rattle.remote_sharing.specs.Shared.{IsExchangedUnderLock};
 
 use std::alloc::{AllocError, Global};
-use std::sync::Arc;
+use std::sync::{Arc, Mutex};
 
 /// The connection of a local program.
 pub trait Presence: Drop {
@@ -36,6 +36,15 @@ struct Flight<P: Presence> {
     bytes: Vec<u8>,
     /// What came of it, where another connection made it than the one that it belongs to.
     outcome: Option<Outcome>,
+    /// Held by the connection that makes it, so that others wait.
+    turns: Arc<Mutex<()>>,
+}
+
+/// A connection's part in a call, with the lock of those who have one.
+#[derive(Drop)]
+pub(crate) struct Part {
+    pub(crate) claim: Claim,
+    pub(crate) turns: Arc<Mutex<()>>,
 }
 
 /// A connection's part in a call.
@@ -128,13 +137,15 @@ impl<P: Presence> Flight<P> {
     }
 
     /// Has it belong to another connection.
-    fn pass_to(&mut self, presence: Arc<P>) -> Claim {
+    fn pass_to(&mut self, presence: Arc<P>) -> Result<Part, AllocError> {
+        let turns = Arc::try_clone(&self.turns)?;
         self.presence = presence;
         self.owners = self.owners.saturating_add(1);
-        Claim {
+        let claim = Claim {
             flight: self.number,
             owner: self.owners,
-        }
+        };
+        Ok(Part { claim, turns })
     }
 
     /// What is to be done for a connection.
@@ -182,41 +193,42 @@ impl<P: Presence> Flights<P> {
         alloc: Global,
         bytes: &[u8],
         presence: &Arc<P>,
-    ) -> Result<Claim, AllocError> {
+    ) -> Result<Part, AllocError> {
         let presence = Arc::try_clone(presence)?;
         for flight in &mut self.flights {
             if flight.is_left(bytes) {
-                return Ok(flight.pass_to(presence));
+                return flight.pass_to(presence);
             }
         }
         self.begin(alloc, bytes, presence)
     }
 
     /// A new call of a connection.
-    fn begin(
-        &mut self,
-        alloc: Global,
-        bytes: &[u8],
-        presence: Arc<P>,
-    ) -> Result<Claim, AllocError> {
+    fn begin(&mut self, alloc: Global, bytes: &[u8], presence: Arc<P>) -> Result<Part, AllocError> {
         let number = self.begun;
         let bytes = bytes.to_vec(alloc)?;
+        let Ok(turns) = Arc::new(alloc, Mutex::new(())) else {
+            return Err(AllocError);
+        };
+        let shared = Arc::try_clone(&turns)?;
         let flight = Flight {
             number,
             owners: 1,
             presence,
             bytes,
             outcome: None,
+            turns: shared,
         };
         match self.flights.push(flight) {
             Ok(()) => {}
             Err(_) => return Err(AllocError),
         }
         self.begun = self.begun.wrapping_add(1);
-        Ok(Claim {
+        let claim = Claim {
             flight: number,
             owner: 1,
-        })
+        };
+        Ok(Part { claim, turns })
     }
 
     /// What is to be done for a connection. One that was made has ended then.

@@ -7,43 +7,54 @@ ghost use Rattle.stream_spec.specs.Streams.{StopsAfterRecords, TakesNothing};
 ghost use Rattle.gateway.specs.Links.Exchanges.{Exchange};
 ghost use Rattle.gateway.specs.Serving.{IsAsked, LeavesOff, text_given};
 ghost use Rattle.remote.specs.Links.{call_fault};
-ghost use Rattle.remote_sharing.specs.Shared.{Exchanges, Fails, IsExchangedUnderLock, StopsUnderLock};
+ghost use Rattle.remote_sharing.specs.Shared.{Exchanges, Fails, IsExchangedUnderLock, StopsCall, StopsUnderLock};
 
-use crate::flights::{Claim, Flights, Outcome, Presence, Turn};
+use crate::client::SharedClient;
+use crate::flights::{Claim, Flights, Outcome, Part, Presence, Turn};
+use crate::rounds::{Caller, Texts};
 use nfs_items::Time;
-use nodes::{ClientNode, Clock, Gateway, Link, LinkFault, Served, StreamFault};
-use remote::{CallFault, Courier, Remote};
+use nodes::{Clock, Gateway, Link, LinkFault, Served, StreamFault};
+use remote::{CallFault, Courier, CourierFault, Pending};
 use rpc::records::{Counting, RecordReader};
 use std::alloc::Global;
 use std::io::{Read, Write};
-use std::sync::{Arc, Mutex, Wait};
+use std::sync::{Arc, Mutex, MutexGuard, Wait};
 
-/// A client under a lock, as a link: all the local programs are one client of the server. The lock is held
-/// for a whole call. It keeps its runtime, so that who uses it as a link has none.
+/// A client under a lock, as a link: all the local programs are one client of the server. The client's lock is held
+/// where a call is begun and where its answer is taken, and not between the two. It keeps its runtime, so that who uses
+/// it as a link has none.
 #[derive(Drop)]
 pub struct SharedRemote<'a, R: Wait, C: Courier + Drop, P: Presence> {
     rt: &'a R,
-    remote: &'a Mutex<Remote<C>>,
+    client: &'a Mutex<SharedClient>,
+    /// Each is held while a call is carried by it.
+    ways: &'a [Mutex<C>],
     flights: &'a Mutex<Flights<P>>,
     presence: Arc<P>,
+    texts: Texts,
     last_fault: Option<CallFault>,
     last_sent: Option<u64>,
 }
 
 impl<'a, R: Wait, C: Courier + Drop, P: Presence> SharedRemote<'a, R, C, P> {
     /// A link to the server of the client that lies under a lock, for the local program of a connection. All
-    /// links of the client have the same calls in flight. Takes no lock.
+    /// links of the client have the same ways to the server, each of which carries one call at a time, and the
+    /// same calls in flight. Takes no lock. Without a way each call fails.
     pub fn new(
         rt: &'a R,
-        remote: &'a Mutex<Remote<C>>,
+        alloc: Global,
+        client: &'a Mutex<SharedClient>,
+        ways: &'a [Mutex<C>],
         flights: &'a Mutex<Flights<P>>,
         presence: Arc<P>,
     ) -> SharedRemote<'a, R, C, P> {
         SharedRemote {
             rt,
-            remote,
+            client,
+            ways,
             flights,
             presence,
+            texts: Texts::new(alloc),
             last_fault: None,
             last_sent: None,
         }
@@ -60,8 +71,9 @@ impl<'a, R: Wait, C: Courier + Drop, P: Presence> SharedRemote<'a, R, C, P> {
         self.last_sent
     }
 
-    /// Calls the server, as `Remote::carry`, with the lock held. A call whose connection has ended, and that
-    /// comes again on this one while it is in flight, is that call: it isn't made again.
+    /// Calls the server, and gives the reply that the client handed out, if one is owed. The call is carried three times
+    /// at most: again where what came back isn't its acknowledgement, or its reply lacks. A call whose connection has
+    /// ended, and that comes again on this one while it is in flight, is that call: it isn't made again.
     pub fn carry(&mut self, alloc: Global, bytes: &[u8]) -> Result<Option<Vec<u8>>, LinkFault>
         requires { length bytes.now ≤ MAX_BODY }
         ensures exchanged { IfOk result (λ r.
@@ -71,37 +83,35 @@ impl<'a, R: Wait, C: Courier + Drop, P: Presence> SharedRemote<'a, R, C, P> {
     {
         self.last_fault = None;
         self.last_sent = None;
-        let claim = self.claim(alloc, bytes);
-        let shared = self.remote;
-        let mut remote = shared.lock(self.rt);
-        match self.turn(claim) {
-            Turn::Call => self.call(&mut remote, alloc, bytes, claim),
-            Turn::Made(outcome) => take_reply(&remote, outcome, bytes),
-            Turn::Passed => Err(passed(&remote)),
+        let Some(part) = self.claim(alloc, bytes) else {
+            return self.call(alloc, bytes, None);
+        };
+        let rt = self.rt;
+        let _in_turn = part.turns.lock(rt);
+        match self.turn(part.claim) {
+            Turn::Call => self.call(alloc, bytes, Some(part.claim)),
+            Turn::Made(outcome) => take_reply(outcome, bytes),
+            Turn::Passed => Err(passed()),
         }
     }
 
     /// Its part in a call. Where memory is refused it has none, and makes a call that nobody else gets.
-    fn claim(&self, alloc: Global, bytes: &[u8]) -> Option<Claim> {
+    fn claim(&self, alloc: Global, bytes: &[u8]) -> Option<Part> {
         let mut flights = self.flights.lock(self.rt);
         match flights.claim(alloc, bytes, &self.presence) {
-            Ok(claim) => Some(claim),
+            Ok(part) => Some(part),
             Err(_) => None,
         }
     }
 
     /// What is to be done for its call.
-    fn turn(&self, claim: Option<Claim>) -> Turn {
-        match claim {
-            Some(claim) => self.flights.lock(self.rt).turn(claim),
-            None => Turn::Call,
-        }
+    fn turn(&self, claim: Claim) -> Turn {
+        self.flights.lock(self.rt).turn(claim)
     }
 
-    /// Calls the server by the client that lies under the lock.
+    /// Calls the server.
     fn call(
         &mut self,
-        remote: &mut Remote<C>,
         alloc: Global,
         bytes: &[u8],
         claim: Option<Claim>,
@@ -112,26 +122,41 @@ impl<'a, R: Wait, C: Courier + Drop, P: Presence> SharedRemote<'a, R, C, P> {
         ensures stops { IfErr result (λ f. StopsUnderLock bytes.now f) }
         ensures size { IfOk result (λ r. IfSome r (λ v. length v.items ≤ MAX_BODY)) }
     {
-        let before = last_number(remote.client().client());
-        match call_once(remote, alloc, bytes) {
-            Ok(reply) => self.hand_out(remote, alloc, bytes, claim, reply),
-            Err(fault) => Err(self.failed(remote.client().client(), before, claim, fault)),
+        match self.call_once(alloc, bytes) {
+            Ok(reply) => self.hand_out(alloc, bytes, claim, reply),
+            Err(fault) => Err(self.failed(claim, fault)),
         }
     }
 
-    /// Notes that its call has failed, which was made after this number of the log.
-    fn failed(
-        &mut self,
-        client: &ClientNode,
-        before: u64,
-        claim: Option<Claim>,
-        fault: CallFault,
-    ) -> LinkFault
+    /// Calls the server by a way that is free, or by the first one that it waits for.
+    fn call_once(&mut self, alloc: Global, bytes: &[u8]) -> Result<Option<Vec<u8>>, CallFault>
+        requires { length bytes.now ≤ MAX_BODY }
+        ensures exchanged { IfOk result (λ r.
+            IsExchangedUnderLock bytes.now (option_map (λ v. v.items) r)) }
+        ensures stops { IfErr result (λ f. StopsCall bytes.now f) }
+        ensures size { IfOk result (λ r. IfSome r (λ v. length v.items ≤ MAX_BODY)) }
+    {
+        let Some(mut courier) = free_way(self.rt, self.ways) else {
+            return Err(CallFault::Uncarried(CourierFault::Lost));
+        };
+        let mut caller = Caller {
+            rt: self.rt,
+            client: self.client,
+            courier: &mut *courier,
+            texts: &mut self.texts,
+            begun: None,
+        };
+        let result = caller.call(alloc, bytes);
+        self.last_sent = number_of(&caller.begun);
+        result
+    }
+
+    /// Notes that its call has failed.
+    fn failed(&mut self, claim: Option<Claim>, fault: CallFault) -> LinkFault
         ensures { result ≡ call_fault fault }
     {
         let told = link_fault_of(&fault);
         self.last_fault = Some(fault);
-        self.last_sent = sent_after(client, before);
         self.fail(claim);
         told
     }
@@ -139,7 +164,6 @@ impl<'a, R: Wait, C: Courier + Drop, P: Presence> SharedRemote<'a, R, C, P> {
     /// The reply to its call, where that still belongs to this connection.
     fn hand_out(
         &self,
-        remote: &Remote<C>,
         alloc: Global,
         bytes: &[u8],
         claim: Option<Claim>,
@@ -154,7 +178,7 @@ impl<'a, R: Wait, C: Courier + Drop, P: Presence> SharedRemote<'a, R, C, P> {
     {
         match self.settle(alloc, bytes, claim, reply) {
             Some(reply) => Ok(reply),
-            None => Err(passed(remote)),
+            None => Err(passed()),
         }
     }
 
@@ -197,41 +221,40 @@ impl<'a, R: Wait, C: Courier + Drop, P: Presence> SharedRemote<'a, R, C, P> {
     }
 }
 
-/// Calls the server by a client, as `Remote::call`.
-fn call_once<C: Courier + Drop>(
-    remote: &mut Remote<C>,
-    alloc: Global,
-    bytes: &[u8],
-) -> Result<Option<Vec<u8>>, CallFault>
-    requires { length bytes.now ≤ MAX_BODY }
-    ensures exchanged { IfOk result (λ r. IsExchangedUnderLock bytes.now (option_map (λ v. v.items) r)) }
-    ensures stops { IfErr result (λ f. StopsUnderLock bytes.now (call_fault f)) }
-    ensures size { IfOk result (λ r. IfSome r (λ v. length v.items ≤ MAX_BODY)) }
-{
-    remote.call(alloc, bytes)
+/// A way that is free, or the first one, once it is: none where there are no ways.
+fn free_way<'w, R: Wait, C>(rt: &R, ways: &'w [Mutex<C>]) -> Option<MutexGuard<'w, C>> {
+    for way in ways {
+        if let Some(free) = way.try_lock() {
+            return Some(free);
+        }
+    }
+    Some(ways.first()?.lock(rt))
+}
+
+/// The number of a call's SEND.
+fn number_of(call: &Option<Pending>) -> Option<u64> {
+    match call {
+        Some(pending) => Some(pending.number.get()),
+        None => None,
+    }
 }
 
 /// The reply to a call that an earlier connection made.
-fn take_reply<C: Courier + Drop>(
-    remote: &Remote<C>,
-    outcome: Outcome,
-    bytes: &[u8],
-) -> Result<Option<Vec<u8>>, LinkFault>
+fn take_reply(outcome: Outcome, bytes: &[u8]) -> Result<Option<Vec<u8>>, LinkFault>
     ensures exchanged { IfOk result (λ r. IsExchangedUnderLock bytes.now (option_map (λ v. v.items) r)) }
     ensures stops { IfErr result (λ f. StopsUnderLock bytes.now f) }
     ensures size { IfOk result (λ r. IfSome r (λ v. length v.items ≤ MAX_BODY)) }
 {
     match outcome.reply_to(bytes) {
         Some(reply) => Ok(reply),
-        None => Err(passed(remote)),
+        None => Err(passed()),
     }
 }
 
-/// The fault of a call that another connection made, or is to make. The client is as it was.
-fn passed<C: Courier + Drop>(remote: &Remote<C>) -> LinkFault
+/// The fault of a call that another connection made, or is to make.
+fn passed() -> LinkFault
     ensures { (body : List ℕ) → StopsUnderLock body result }
 {
-    let _client = remote.client().client();
     LinkFault::Failed
 }
 
@@ -240,22 +263,6 @@ fn link_fault_of(fault: &CallFault) -> LinkFault
     ensures { result ≡ call_fault fault.now }
 {
     (*fault).link_fault()
-}
-
-/// The last number of a client's log.
-fn last_number(client: &ClientNode) -> u64 {
-    client.node().log().last_number().get()
-}
-
-/// The number of the first SEND of a client's log after a number, if there is one.
-fn sent_after(client: &ClientNode, before: u64) -> Option<u64> {
-    let last = last_number(client);
-    for number in before.saturating_add(1)..=last {
-        if client.envelope(number).is_some() {
-            return Some(number);
-        }
-    }
-    None
 }
 
 /// Its exchanges are what `carry` says, and so are its faults.
@@ -274,8 +281,8 @@ impl<'a, R: Wait, C: Courier + Drop, P: Presence> Link for SharedRemote<'a, R, C
     }
 }
 
-/// Answers each record of a local program's stream by the client that lies under a lock, as
-/// `remote::serve_local`. What the program gets is the records of the replies to its own calls, in the order
+/// Answers each record of a local program's stream by the client that lies under a lock, as `Gateway::serve_stream`
+/// over any link. What the program gets is the records of the replies to its own calls, in the order
 /// of its calls, and nothing else, whatever other programs call at the same time.
 pub fn serve_shared<
     'a,
