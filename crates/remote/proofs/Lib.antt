@@ -6,3 +6,4 @@ pub mod Logging
 pub mod Xids
 pub mod Piping
 pub mod Receipts
+pub mod Standing

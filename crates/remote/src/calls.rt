@@ -113,14 +113,20 @@ pub(crate) fn write_call(
 pub(crate) fn is_call_of(client: &ClientNode, server: u32, number: Number, bytes: &[u8]) -> bool
     ensures { IsTrue result ↔ IsCallOf (remote_of client.now server) number bytes.now }
 {
-    match client.envelope(number.get()) {
-        Some(envelope) => {
-            envelope.to == server
-                && envelope.seq.number(client.log_version()) == number
-                && envelope.body.bytes() == bytes
-        }
-        None => false,
+    let Some(envelope) = client.envelope(number.get()) else {
+        return false;
+    };
+    if envelope.to != server || envelope.seq.number(client.log_version()) != number {
+        return false;
     }
+    is_body(envelope.body, bytes)
+}
+
+/// Whether a message is these bytes.
+fn is_body(body: &Body, bytes: &[u8]) -> bool
+    ensures { IsTrue result ↔ (body.now ≡ bytes.now) }
+{
+    body.bytes() == bytes
 }
 
 /// A message of a copy of bytes.

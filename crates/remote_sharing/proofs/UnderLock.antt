@@ -1,8 +1,9 @@
 -- Calls of a client that lies under a lock.
--- Serves: Caller::accept, Caller::begin, passed.
+-- Serves: Locked::begin, take, passed.
 use Rattle.std.proofs.Common.{refl, ℕ, List, Result, Ok, Err, Option}
 use Rattle.std.specs.Option.{option_map}
 use Rattle.std.specs.Prelude.{IfErr, IfOk}
+use Rattle.gateway.specs.declared.links.fault.LinkFault.{LinkFault}
 use Rattle.gateway.specs.declared.links.fault.LinkFault.TheVariants as link_faults
 use Rattle.nodes.specs.Shareds.{HasNotStrayed}
 use Rattle.remote.specs.Calls.{IsCallOf}
@@ -10,8 +11,25 @@ use Rattle.remote.specs.Answers.{Accepts, Refuses}
 use Rattle.remote.specs.declared.call_fault.CallFault.TheVariants.{Uncarried}
 use Rattle.remote.specs.declared.courier.CourierFault.TheVariants as couriers
 use Rattle.remote.specs.declared.fault.AcceptFault.{AcceptFault}
-use Rattle.remote_sharing.specs.Clients.{ClientParts}
-use Rattle.remote_sharing.specs.Shared.{IsBegunUnderLock, IsExchangedUnderLock, IsUnaccepted, StopsUnderLock}
+use Rattle.remote_sharing.specs.Clients.{BeginsBeside, ClientParts, StopsBeside}
+use Rattle.remote_sharing.specs.Shared.{IsBegunUnderLock, IsExchangedUnderLock, IsUnaccepted, IsUnbegun}
+use Rattle.remote_sharing.specs.Shared.{StopsUnderLock}
+
+-- A call is begun.
+pub begun_under_lock : {X : Type 0} (number : X → ℕ) (c c' : ClientParts) (body text : List ℕ)
+    (result : Result X LinkFault)
+    → IfOk result (λ p. BeginsBeside c body (number p) text c')
+    → IfOk result (λ p. IsBegunUnderLock body (number p))
+begun_under_lock number c c' body text (Err f) begun = tt
+begun_under_lock number c c' body text (Ok p) begun =
+    record { before = c; after = c'; text = text; begun = begun }
+
+-- None is begun.
+pub unbegun : {X : Type 0} (c c' : ClientParts) (body : List ℕ) (result : Result X LinkFault)
+    → IfErr result (λ f. StopsBeside c body f c')
+    → IfErr result (λ f. IsUnbegun body f)
+unbegun c c' body (Ok p) stops = tt
+unbegun c c' body (Err f) stops = record { before = c; after = c'; stops = stops }
 
 -- It is answered.
 pub exchanged_under_lock : {X : Type 0} (items : X → List ℕ) (c c' : ClientParts) (body : List ℕ) (number : ℕ)

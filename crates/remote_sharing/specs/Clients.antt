@@ -42,7 +42,7 @@ Grew (step ∷ older) r = (before : RemoteParts) × (Grew older before × MayMak
 
 -- Its log grew by such steps alone.
 abbrev pub HasGrown : RemoteParts → Type 0
-HasGrown r = ∥ (steps : List LogStep) × Grew steps r ∥₁
+HasGrown r = ∥ ((steps : List LogStep) × Grew steps r) ∥₁
 
 -- ---- a call that is begun beside others
 

@@ -45,7 +45,7 @@ impl SharedClient {
         ensures handed_back { IfErr result (λ c. c ≡ client) }
         ensures exact { IsOk result ↔ (client.client.entries ≡ []) }
     {
-        if !client.client().node().log().entries().is_empty() {
+        if !is_empty(&client) {
             return Err(client);
         }
         Ok(SharedClient { client, waiting: 0 })
@@ -136,4 +136,11 @@ impl SharedClient {
         }
         self.client.receive(alloc, bytes)
     }
+}
+
+/// Whether a client's log is empty.
+fn is_empty(client: &RemoteClient) -> bool
+    ensures { IsTrue result ↔ (client.now.client.entries ≡ []) }
+{
+    client.client().node().log().entries().is_empty()
 }

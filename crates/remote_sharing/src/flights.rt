@@ -51,7 +51,7 @@ pub(crate) struct Part {
 #[derive(Clone, Copy)]
 pub(crate) struct Claim {
     /// The number of the call.
-    flight: u64,
+    pub(crate) flight: u64,
     /// How many connections it belonged to then.
     owner: u64,
 }

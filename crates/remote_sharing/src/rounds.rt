@@ -1,7 +1,7 @@
 //! A call of a client under a lock: it is carried to the server until its answer comes, three times at most. The lock is
 //! held where the call is begun and where what came back is taken, and not while it is carried.
 
-ghost use Rattle.std.specs.Prelude.{◌≤◌, ◌↔◌, IfErr, IfOk, IfSome, IsTrue, length};
+ghost use Rattle.std.specs.Prelude.{◌≤◌, ◌↔◌, ℕ, List, IfErr, IfOk, IfSome, IsTrue, length};
 ghost use Rattle.std.specs.Option.{option_map};
 ghost use Rattle.secure_log.specs.declared.log_entries.entry.TheConstants.{MAX_BODY};
 ghost use Rattle.remote.specs.Links.{MayBeSentAgain};
@@ -13,7 +13,7 @@ use crate::client::SharedClient;
 use authenticator::Number;
 use nodes::LinkFault;
 use remote::{AcceptFault, CallFault, Carried, Courier, CourierFault, Pending};
-use std::alloc::Global;
+use std::alloc::{AllocError, Global};
 use std::sync::{Mutex, Wait};
 
 /// How often the envelope of a call is sent.
@@ -23,7 +23,7 @@ const ROUNDS: u32 = 3;
 #[derive(Drop)]
 pub(crate) struct Texts {
     /// The call's envelope.
-    call: Vec<u8>,
+    pub(crate) call: Vec<u8>,
     /// What came for its acknowledgement.
     ack: Vec<u8>,
     /// What came for the reply's envelope.
@@ -53,136 +53,44 @@ pub(crate) enum Round {
     Again(AcceptFault),
 }
 
-/// A client under a lock, with what one call of it takes.
-#[derive(Drop)]
-pub(crate) struct Caller<'c, R: Wait, C: Courier> {
+/// A client that lies under a lock, which is held for a step of it alone.
+pub(crate) struct Locked<'c, R> {
     pub(crate) rt: &'c R,
     pub(crate) client: &'c Mutex<SharedClient>,
-    pub(crate) courier: &'c mut C,
-    pub(crate) texts: &'c mut Texts,
-    /// The call, once it is begun.
-    pub(crate) begun: Option<Pending>,
 }
 
-impl<'c, R: Wait, C: Courier> Caller<'c, R, C> {
-    /// Calls the server. The acknowledgement of a reply that was logged is handed to the courier, also where the reply
-    /// is none to this call.
-    pub(crate) fn call(&mut self, alloc: Global, bytes: &[u8]) -> Result<Option<Vec<u8>>, CallFault>
-        requires { length bytes.now ≤ MAX_BODY }
-        ensures exchanged { IfOk result (λ r. IsExchangedUnderLock bytes.now (option_map (λ v. v.items) r)) }
-        ensures stops { IfErr result (λ f. StopsCall bytes.now f) }
-        ensures size { IfOk result (λ r. IfSome r (λ v. length v.items ≤ MAX_BODY)) }
-    {
-        let pending = match self.begin(alloc, bytes) {
-            Ok(pending) => pending,
-            Err(fault) => return Err(CallFault::NotBegun(fault)),
-        };
-        self.begun = Some(pending);
-        let result = self.carry(alloc, &pending, bytes);
-        self.client.lock(self.rt).end();
-        result
+impl<'c, R> Clone for Locked<'c, R> {
+    fn clone(&self) -> Result<Locked<'c, R>, AllocError> {
+        Ok(*self)
     }
+}
 
-    /// Begins a call.
-    fn begin(&mut self, alloc: Global, bytes: &[u8]) -> Result<Pending, LinkFault>
+impl<'c, R> Copy for Locked<'c, R> {}
+
+impl<'c, R: Wait> Locked<'c, R> {
+    /// Begins a call, and writes the text of its envelope, in place of what the bytes were.
+    pub(crate) fn begin(
+        self,
+        alloc: Global,
+        bytes: &[u8],
+        text: &mut Vec<u8>,
+    ) -> Result<Pending, LinkFault>
         requires { length bytes.now ≤ MAX_BODY }
         ensures begun { IfOk result (λ p. IsBegunUnderLock bytes.now p.number) }
         ensures stops { IfErr result (λ f. IsUnbegun bytes.now f) }
     {
         let mut client = self.client.lock(self.rt);
-        client.begin(alloc, bytes, &mut self.texts.call)
-    }
-
-    /// Carries a call that was begun until its answer comes.
-    fn carry(
-        &mut self,
-        alloc: Global,
-        call: &Pending,
-        bytes: &[u8],
-    ) -> Result<Option<Vec<u8>>, CallFault>
-        requires { IsBegunUnderLock bytes.now call.now.number }
-        ensures exchanged { IfOk result (λ r. IsExchangedUnderLock bytes.now (option_map (λ v. v.items) r)) }
-        ensures stops { IfErr result (λ f. StopsCall bytes.now f) }
-        ensures size { IfOk result (λ r. IfSome r (λ v. length v.items ≤ MAX_BODY)) }
-    {
-        for _round in 1..ROUNDS {
-            match self.make_round(alloc, call, bytes) {
-                Ok(Round::Answered(reply)) => return Ok(reply),
-                Ok(Round::Again(_)) => {}
-                Err(fault) => return Err(fault),
-            }
-        }
-        match self.make_round(alloc, call, bytes) {
-            Ok(Round::Answered(reply)) => Ok(reply),
-            Ok(Round::Again(why)) => Err(CallFault::Refused(why)),
-            Err(fault) => Err(fault),
-        }
-    }
-
-    /// Carries a call to the server once, and takes what comes back.
-    fn make_round(
-        &mut self,
-        alloc: Global,
-        call: &Pending,
-        bytes: &[u8],
-    ) -> Result<Round, CallFault>
-        requires { IsBegunUnderLock bytes.now call.now.number }
-        ensures ends { IfOk result (λ r. Ends bytes.now r) }
-        ensures stops { IfErr result (λ f. StopsCall bytes.now f) }
-        ensures size { IfOk result FitsReply }
-    {
-        let Texts {
-            call: text,
-            ack,
-            reply,
-            ..
-        } = &mut *self.texts;
-        match self.courier.carry(alloc, call, bytes, text, ack, reply) {
-            Ok(carried) => self.take(alloc, call, bytes, carried),
-            Err(fault) => Err(CallFault::Uncarried(fault)),
-        }
-    }
-
-    /// Takes what came back for a call.
-    fn take(
-        &mut self,
-        alloc: Global,
-        call: &Pending,
-        bytes: &[u8],
-        carried: Carried,
-    ) -> Result<Round, CallFault>
-        requires { IsBegunUnderLock bytes.now call.now.number }
-        ensures ends { IfOk result (λ r. Ends bytes.now r) }
-        ensures stops { IfErr result (λ f. StopsCall bytes.now f) }
-        ensures size { IfOk result FitsReply }
-    {
-        let taken = self.accept(alloc, call, bytes, carried);
-        match taken {
-            Some(Ok(reply)) => {
-                if reply.is_some() {
-                    self.acknowledge(alloc);
-                }
-                Ok(Round::Answered(reply))
-            }
-            Some(Err(why)) => {
-                self.acknowledge_other(alloc, why);
-                if may_be_sent_again(&why) {
-                    Ok(Round::Again(why))
-                } else {
-                    Err(CallFault::Refused(why))
-                }
-            }
-            None => Err(CallFault::Uncarried(CourierFault::Lost)),
-        }
+        client.begin(alloc, bytes, text)
     }
 
     /// Has the client take what came back for a call: none where the call doesn't stand in its log.
     fn accept(
-        &mut self,
+        self,
         alloc: Global,
         call: &Pending,
         bytes: &[u8],
         carried: Carried,
+        texts: &mut Texts,
     ) -> Option<Result<Option<Vec<u8>>, AcceptFault>>
         requires { IsBegunUnderLock bytes.now call.now.number }
         ensures exchanged { IfSome result (λ t. IfOk t (λ r.
@@ -191,42 +99,142 @@ impl<'c, R: Wait, C: Courier> Caller<'c, R, C> {
         ensures size { IfSome result (λ t. IfOk t (λ r. IfSome r (λ v. length v.items ≤ MAX_BODY))) }
     {
         let mut client = self.client.lock(self.rt);
-        if !client.client().has_call(call, bytes) {
-            return None;
-        }
-        let Texts {
-            ack,
-            reply,
-            receipt,
-            ..
-        } = &mut *self.texts;
-        let came = reply_in(carried, reply);
-        Some(client.accept(alloc, call, ack, came, receipt))
+        take(&mut client, alloc, call, bytes, carried, texts)
     }
 
-    /// Hands the acknowledgement of a reply over. Where that fails the server gets it by witnesses, if at all.
-    fn acknowledge(&mut self, alloc: Global) {
-        let _ = self.courier.acknowledge(alloc, &self.texts.receipt);
+    /// A call is no longer in flight.
+    pub(crate) fn end(self) {
+        self.client.lock(self.rt).end();
     }
 
-    /// Hands the acknowledgement of a reply over that is another call's, if one was received.
-    fn acknowledge_other(&mut self, alloc: Global, why: AcceptFault) {
-        let AcceptFault::AnotherCall(place) = why else {
-            return;
-        };
-        if self.write_receipt(place) {
-            self.acknowledge(alloc);
-        }
-    }
-
-    /// Writes the text of the acknowledgement of what was received at a number. Whether it could.
-    fn write_receipt(&mut self, place: Number) -> bool {
+    /// Writes the text of the acknowledgement of what was received at a number, in place of what the bytes were. Whether
+    /// it could.
+    fn write_receipt(self, place: Number, text: &mut Vec<u8>) -> bool {
+        text.clear();
         let client = self.client.lock(self.rt);
-        let Some(ack) = client.client().client().ack(place.get()) else {
-            return false;
-        };
-        self.texts.receipt.clear();
-        ack.write(&mut self.texts.receipt).is_ok()
+        match client.client().client().ack(place.get()) {
+            Some(ack) => ack.write(text).is_ok(),
+            None => false,
+        }
+    }
+}
+
+/// Has a client take what came back for a call: none where the call doesn't stand in its log.
+fn take(
+    client: &mut SharedClient,
+    alloc: Global,
+    call: &Pending,
+    bytes: &[u8],
+    carried: Carried,
+    texts: &mut Texts,
+) -> Option<Result<Option<Vec<u8>>, AcceptFault>>
+    requires { IsBegunUnderLock bytes.now call.now.number }
+    ensures exchanged { IfSome result (λ t. IfOk t (λ r.
+        IsExchangedUnderLock bytes.now (option_map (λ v. v.items) r))) }
+    ensures refused { IfSome result (λ t. IfErr t (λ why. IsUnaccepted bytes.now why)) }
+    ensures size { IfSome result (λ t. IfOk t (λ r. IfSome r (λ v. length v.items ≤ MAX_BODY))) }
+{
+    if !client.client().has_call(call, bytes) {
+        return None;
+    }
+    let came = reply_in(carried, &texts.reply);
+    Some(client.accept(alloc, call, &texts.ack, came, &mut texts.receipt))
+}
+
+/// Carries a call that was begun until its answer comes. The acknowledgement of a reply that was logged is handed to the
+/// courier, also where the reply is another call's.
+pub(crate) fn carry<R: Wait, C: Courier>(
+    locked: Locked<'_, R>,
+    courier: &mut C,
+    texts: &mut Texts,
+    alloc: Global,
+    call: &Pending,
+    bytes: &[u8],
+) -> Result<Option<Vec<u8>>, CallFault>
+    requires { IsBegunUnderLock bytes.now call.now.number }
+    ensures exchanged { IfOk result (λ r. IsExchangedUnderLock bytes.now (option_map (λ v. v.items) r)) }
+    ensures stops { IfErr result (λ f. StopsCall bytes.now f) }
+    ensures size { IfOk result (λ r. IfSome r (λ v. length v.items ≤ MAX_BODY)) }
+{
+    for _round in 1..ROUNDS {
+        match make_round(locked, courier, texts, alloc, call, bytes) {
+            Ok(Round::Answered(reply)) => return Ok(reply),
+            Ok(Round::Again(_)) => {}
+            Err(fault) => return Err(fault),
+        }
+    }
+    match make_round(locked, courier, texts, alloc, call, bytes) {
+        Ok(Round::Answered(reply)) => Ok(reply),
+        Ok(Round::Again(why)) => Err(CallFault::Refused(why)),
+        Err(fault) => Err(fault),
+    }
+}
+
+/// Carries a call to the server once, and takes what comes back.
+fn make_round<R: Wait, C: Courier>(
+    locked: Locked<'_, R>,
+    courier: &mut C,
+    texts: &mut Texts,
+    alloc: Global,
+    call: &Pending,
+    bytes: &[u8],
+) -> Result<Round, CallFault>
+    requires { IsBegunUnderLock bytes.now call.now.number }
+    ensures ends { IfOk result (λ r. Ends bytes.now r) }
+    ensures stops { IfErr result (λ f. StopsCall bytes.now f) }
+    ensures size { IfOk result FitsReply }
+{
+    let carried = match courier.carry(
+        alloc,
+        call,
+        bytes,
+        &texts.call,
+        &mut texts.ack,
+        &mut texts.reply,
+    ) {
+        Ok(carried) => carried,
+        Err(fault) => return Err(CallFault::Uncarried(fault)),
+    };
+    match locked.accept(alloc, call, bytes, carried, texts) {
+        Some(Ok(reply)) => {
+            acknowledge(courier, texts, alloc, reply.is_some());
+            Ok(Round::Answered(reply))
+        }
+        Some(Err(why)) => {
+            let is_received = write_other(locked, texts, &why);
+            acknowledge(courier, texts, alloc, is_received);
+            refused(why)
+        }
+        None => Err(CallFault::Uncarried(CourierFault::Lost)),
+    }
+}
+
+/// What came back for a call was refused.
+fn refused(why: AcceptFault) -> Result<Round, CallFault>
+    ensures ends { (body : List ℕ) → IsUnaccepted body why → IfOk result (λ r. Ends body r) }
+    ensures stops { (body : List ℕ) → IsUnaccepted body why → IfErr result (λ f. StopsCall body f) }
+    ensures size { IfOk result FitsReply }
+{
+    if may_be_sent_again(&why) {
+        Ok(Round::Again(why))
+    } else {
+        Err(CallFault::Refused(why))
+    }
+}
+
+/// Hands the acknowledgement of a reply over, if one was received. Where memory is refused for that the server doesn't
+/// get it.
+fn acknowledge<C: Courier>(courier: &mut C, texts: &Texts, alloc: Global, is_received: bool) {
+    if is_received {
+        let _ = courier.acknowledge(alloc, &texts.receipt);
+    }
+}
+
+/// Writes the acknowledgement of the reply that is another call's, if one was received.
+fn write_other<R: Wait>(locked: Locked<'_, R>, texts: &mut Texts, why: &AcceptFault) -> bool {
+    match why {
+        AcceptFault::AnotherCall(place) => locked.write_receipt(*place, &mut texts.receipt),
+        _ => false,
     }
 }
 

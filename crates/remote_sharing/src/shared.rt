@@ -11,10 +11,10 @@ ghost use Rattle.remote_sharing.specs.Shared.{Exchanges, Fails, IsExchangedUnder
 
 use crate::client::SharedClient;
 use crate::flights::{Claim, Flights, Outcome, Part, Presence, Turn};
-use crate::rounds::{Caller, Texts};
+use crate::rounds::{Locked, Texts, carry};
 use nfs_items::Time;
 use nodes::{Clock, Gateway, Link, LinkFault, Served, StreamFault};
-use remote::{CallFault, Courier, CourierFault, Pending};
+use remote::{CallFault, Courier, CourierFault};
 use rpc::records::{Counting, RecordReader};
 use std::alloc::Global;
 use std::io::{Read, Write};
@@ -122,32 +122,46 @@ impl<'a, R: Wait, C: Courier + Drop, P: Presence> SharedRemote<'a, R, C, P> {
         ensures stops { IfErr result (λ f. StopsUnderLock bytes.now f) }
         ensures size { IfOk result (λ r. IfSome r (λ v. length v.items ≤ MAX_BODY)) }
     {
-        match self.call_once(alloc, bytes) {
+        match self.call_once(alloc, bytes, flight_of(claim)) {
             Ok(reply) => self.hand_out(alloc, bytes, claim, reply),
             Err(fault) => Err(self.failed(claim, fault)),
         }
     }
 
-    /// Calls the server by a way that is free, or by the first one that it waits for.
-    fn call_once(&mut self, alloc: Global, bytes: &[u8]) -> Result<Option<Vec<u8>>, CallFault>
+    /// Calls the server by a way that is free, or by one that it waits for: which one the number tells.
+    fn call_once(
+        &mut self,
+        alloc: Global,
+        bytes: &[u8],
+        number: u64,
+    ) -> Result<Option<Vec<u8>>, CallFault>
         requires { length bytes.now ≤ MAX_BODY }
         ensures exchanged { IfOk result (λ r.
             IsExchangedUnderLock bytes.now (option_map (λ v. v.items) r)) }
         ensures stops { IfErr result (λ f. StopsCall bytes.now f) }
         ensures size { IfOk result (λ r. IfSome r (λ v. length v.items ≤ MAX_BODY)) }
     {
-        let Some(mut courier) = free_way(self.rt, self.ways) else {
+        let Some(mut courier) = free_way(self.rt, self.ways, number) else {
             return Err(CallFault::Uncarried(CourierFault::Lost));
         };
-        let mut caller = Caller {
+        let locked = Locked {
             rt: self.rt,
             client: self.client,
-            courier: &mut *courier,
-            texts: &mut self.texts,
-            begun: None,
         };
-        let result = caller.call(alloc, bytes);
-        self.last_sent = number_of(&caller.begun);
+        let pending = match locked.begin(alloc, bytes, &mut self.texts.call) {
+            Ok(pending) => pending,
+            Err(fault) => return Err(CallFault::NotBegun(fault)),
+        };
+        self.last_sent = Some(pending.number.get());
+        let result = carry(
+            locked,
+            &mut *courier,
+            &mut self.texts,
+            alloc,
+            &pending,
+            bytes,
+        );
+        locked.end();
         result
     }
 
@@ -221,21 +235,26 @@ impl<'a, R: Wait, C: Courier + Drop, P: Presence> SharedRemote<'a, R, C, P> {
     }
 }
 
-/// A way that is free, or the first one, once it is: none where there are no ways.
-fn free_way<'w, R: Wait, C>(rt: &R, ways: &'w [Mutex<C>]) -> Option<MutexGuard<'w, C>> {
+/// A way that is free, or else the one that the number tells, once it is: none where there are no ways.
+fn free_way<'w, R: Wait, C>(
+    rt: &R,
+    ways: &'w [Mutex<C>],
+    number: u64,
+) -> Option<MutexGuard<'w, C>> {
     for way in ways {
         if let Some(free) = way.try_lock() {
             return Some(free);
         }
     }
-    Some(ways.first()?.lock(rt))
+    let place = number.checked_rem(ways.len() as u64)?;
+    Some(ways.get(place as usize)?.lock(rt))
 }
 
-/// The number of a call's SEND.
-fn number_of(call: &Option<Pending>) -> Option<u64> {
-    match call {
-        Some(pending) => Some(pending.number.get()),
-        None => None,
+/// The number of a flight, 0 where a call has none.
+fn flight_of(claim: Option<Claim>) -> u64 {
+    match claim {
+        Some(claim) => claim.flight,
+        None => 0,
     }
 }
 

@@ -2,4 +2,4 @@ use Rattle.remote_sharing.proofs.UnderLock.{passed_under_lock}
 use Rattle.remote_sharing.proofs.shared.passed.Goals as goal
 
 pub returns : goal.returns
-returns g c body = passed_under_lock c.client.result.now body c.client-client.ensures.honest
+returns g body = passed_under_lock body
