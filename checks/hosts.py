@@ -2,8 +2,10 @@
 """Parties on hosts of their own, from outside: `nfsacc server`, `gateway` and `witness` as processes, with each other
 and with the parties of checks/peer, which were written from docs/WIRE.md.
 
-usage: checks/hosts.py PROGRAM [--calls CALLS] [NAME..]    CALLS through a gateway, 200 if not given, and as many by a rough
-                                                           way, 60 if not given
+usage: checks/hosts.py PROGRAM [NAME..] [--calls CALLS]
+
+Tries the parts that are named, or all: the part `rough` is check_rough below. CALLS are made through a gateway, 200 if not
+given, and as many by a rough way, 60 if not given.
 """
 
 import argparse
@@ -28,7 +30,7 @@ from peer.gateway import Gateway, ask, case_of, handed, last_shown, stands  # no
 from peer.lies import (Fork, HidesLog, Liar, NoReply, OldReply, OtherAck, OtherMember, ReceivesTwice,  # noqa: E402
                        Silent, Slow, Swapped, UnsignedAck, UnsignedReply, WrongReply, WrongXid)
 from peer.server import Server  # noqa: E402
-from peer.wire import DELIVER, NODE, WITNESS, Address, Caller  # noqa: E402
+from peer.wire import DELIVER, GREET, NODE, WITNESS, Address, Caller  # noqa: E402
 from peer.witness import REFUSED, Witness  # noqa: E402
 from serve.calls import Calls  # noqa: E402
 from serve.client import ROOT, Connection, call, record  # noqa: E402
@@ -619,7 +621,7 @@ def takes_two_keys(logged: ServedLog):
 
 def check_rough(program: str, count: int = 60):
     """The way to the server drops, delays, repeats and cuts: each reply comes, no call is made twice, and each reply is
-    acknowledged in the end."""
+    acknowledged in the end. A call takes a round trip, and a further one only over a new connection."""
     with Hosts(program) as hosts:
         height = (2 * count).bit_length()
         usual(hosts, height, height)
@@ -636,7 +638,10 @@ def check_rough(program: str, count: int = 60):
         assert count - acked in (0, 1), f'{acked} of {count} replies were acknowledged'
         faults = {fault: times for fault, times in sorted(way.faults.items()) if fault}
         assert sum(faults.values()) > 3, faults
-    print(f'{count} calls over a rough way, {faults}: each reply comes, and takes two keys of each')
+        trips = way.calls[DELIVER]
+        assert way.calls[GREET] <= way.connections and count <= trips < count + way.connections, (trips, way.connections)
+    print(f'{count} calls over a rough way, {faults}, by {trips} round trips over {way.connections} connections: '
+          'each reply comes, and takes two keys of each')
 
 
 def check_round_trips(program: str, count: int = 24):
@@ -948,12 +953,14 @@ def main():
     parser.add_argument('program')
     parser.add_argument('names', nargs='*')
     parser.add_argument('--calls', type=int)
-    asked = parser.parse_args()
+    asked = parser.parse_intermixed_args()
     program = os.path.abspath(asked.program)
+    counts = {check_calls: asked.calls, check_rough: asked.calls}
     for check in CHECKS:
         if not asked.names or check.__name__.removeprefix('check_') in asked.names:
-            if asked.calls and check in (check_calls, check_rough):
-                check(program, asked.calls)
+            count = counts.get(check)
+            if count:
+                check(program, count)
             else:
                 check(program)
 
