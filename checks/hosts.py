@@ -2,10 +2,10 @@
 """Parties on hosts of their own, from outside: `nfsacc server`, `gateway` and `witness` as processes, with each other
 and with the parties of checks/peer, which were written from docs/WIRE.md.
 
-usage: checks/hosts.py PROGRAM [NAME..] [--calls CALLS]
+usage: checks/hosts.py PROGRAM [NAME..] [--calls CALLS] [--kills KILLS]
 
 Tries the parts that are named, or all: the part `rough` is check_rough below. CALLS are made through a gateway, 200 if not
-given, and as many by a rough way, 60 if not given.
+given, and as many by a rough way, 60 if not given. KILLS are those of the part `kills`, 6 if not given.
 """
 
 import argparse
@@ -22,6 +22,7 @@ from dataclasses import replace
 from pathlib import Path
 
 sys.dont_write_bytecode = True
+from hosts.kills import check_kills  # noqa: E402
 from hosts.logs import ServedLog, last_signed, log_of  # noqa: E402
 from hosts.parties import EVERY, Hosts, Party, spelled  # noqa: E402
 from hosts.proxy import Garbler, Proxy, Rough, Switch, Turns  # noqa: E402
@@ -945,7 +946,7 @@ CHECKS = [check_server, check_strangers, check_assured, check_server_keys, check
           check_other_witness, check_lives, check_second_roster, check_keys_used_up, check_ask,
           check_calls, check_breaks, check_garbage, check_same_call, check_open_message, check_rough,
           check_round_trips, check_away, check_give_up, check_next_epoch, check_challenge, check_ranges, check_status,
-          check_log_file]
+          check_log_file, check_kills]
 
 
 def main():
@@ -953,9 +954,10 @@ def main():
     parser.add_argument('program')
     parser.add_argument('names', nargs='*')
     parser.add_argument('--calls', type=int)
+    parser.add_argument('--kills', type=int)
     asked = parser.parse_intermixed_args()
     program = os.path.abspath(asked.program)
-    counts = {check_calls: asked.calls, check_rough: asked.calls}
+    counts = {check_calls: asked.calls, check_rough: asked.calls, check_kills: asked.kills}
     for check in CHECKS:
         if not asked.names or check.__name__.removeprefix('check_') in asked.names:
             count = counts.get(check)
