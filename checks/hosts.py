@@ -2,8 +2,10 @@
 """Parties on hosts of their own, from outside: `nfsacc server`, `gateway` and `witness` as processes, with each other
 and with the parties of checks/peer, which were written from docs/WIRE.md.
 
-usage: checks/hosts.py PROGRAM [--calls CALLS] [NAME..]    CALLS through a gateway, 200 if not given, and as many by a rough
-                                                           way, 60 if not given
+usage: checks/hosts.py PROGRAM [NAME..] [--calls CALLS] [--kills KILLS]
+
+Tries the parts that are named, or all: the part `rough` is check_rough below. CALLS are made through a gateway, 200 if not
+given, and as many by a rough way, 60 if not given. KILLS are those of the part `kills`, 6 if not given.
 """
 
 import argparse
@@ -20,6 +22,7 @@ from dataclasses import replace
 from pathlib import Path
 
 sys.dont_write_bytecode = True
+from hosts.kills import check_kills  # noqa: E402
 from hosts.logs import ServedLog, last_signed, log_of  # noqa: E402
 from hosts.parties import EVERY, Hosts, Party, spelled  # noqa: E402
 from hosts.proxy import Garbler, Proxy, Rough, Switch, Turns  # noqa: E402
@@ -28,7 +31,7 @@ from peer.gateway import Gateway, ask, case_of, handed, last_shown, stands  # no
 from peer.lies import (Fork, HidesLog, Liar, NoReply, OldReply, OtherAck, OtherMember, ReceivesTwice,  # noqa: E402
                        Silent, Slow, Swapped, UnsignedAck, UnsignedReply, WrongReply, WrongXid)
 from peer.server import Server  # noqa: E402
-from peer.wire import DELIVER, NODE, WITNESS, Address, Caller  # noqa: E402
+from peer.wire import DELIVER, GREET, NODE, WITNESS, Address, Caller  # noqa: E402
 from peer.witness import REFUSED, Witness  # noqa: E402
 from serve.calls import Calls  # noqa: E402
 from serve.client import ROOT, Connection, call, record  # noqa: E402
@@ -671,7 +674,7 @@ def takes_two_keys(logged: ServedLog):
 
 def check_rough(program: str, count: int = 60):
     """The way to the server drops, delays, repeats and cuts: each reply comes, no call is made twice, and each reply is
-    acknowledged in the end."""
+    acknowledged in the end. A call takes a round trip, and a further one only over a new connection."""
     with Hosts(program) as hosts:
         height = (2 * count).bit_length()
         usual(hosts, height, height)
@@ -688,7 +691,10 @@ def check_rough(program: str, count: int = 60):
         assert count - acked in (0, 1), f'{acked} of {count} replies were acknowledged'
         faults = {fault: times for fault, times in sorted(way.faults.items()) if fault}
         assert sum(faults.values()) > 3, faults
-    print(f'{count} calls over a rough way, {faults}: each reply comes, and takes two keys of each')
+        trips = way.calls[DELIVER]
+        assert way.calls[GREET] <= way.connections and count <= trips < count + way.connections, (trips, way.connections)
+    print(f'{count} calls over a rough way, {faults}, by {trips} round trips over {way.connections} connections: '
+          'each reply comes, and takes two keys of each')
 
 
 def check_round_trips(program: str, count: int = 24):
@@ -992,7 +998,7 @@ CHECKS = [check_server, check_strangers, check_assured, check_server_keys, check
           check_other_witness, check_lives, check_second_roster, check_keys_used_up, check_ask,
           check_calls, check_breaks, check_garbage, check_same_call, check_in_flight, check_put_back, check_open_message, check_rough,
           check_round_trips, check_away, check_give_up, check_next_epoch, check_challenge, check_ranges, check_status,
-          check_log_file]
+          check_log_file, check_kills]
 
 
 def main():
@@ -1000,12 +1006,15 @@ def main():
     parser.add_argument('program')
     parser.add_argument('names', nargs='*')
     parser.add_argument('--calls', type=int)
-    asked = parser.parse_args()
+    parser.add_argument('--kills', type=int)
+    asked = parser.parse_intermixed_args()
     program = os.path.abspath(asked.program)
+    counts = {check_calls: asked.calls, check_rough: asked.calls, check_kills: asked.kills}
     for check in CHECKS:
         if not asked.names or check.__name__.removeprefix('check_') in asked.names:
-            if asked.calls and check in (check_calls, check_rough):
-                check(program, asked.calls)
+            count = counts.get(check)
+            if count:
+                check(program, count)
             else:
                 check(program)
 

@@ -118,12 +118,17 @@ class Hosts:
             assert self.run('secret', str(path)) == (0, '', '')
         return path
 
-    def member(self, name: str, node: int, kind: int, height: int, epochs: str = '1-1') -> str:
-        """The lines of a member, which are those that the other program makes of the secret."""
+    def member_lines(self, name: str, node: int, kind: int, height: int, epochs: str) -> str:
+        """The lines of a member."""
         secret = self.secret(name)
         status, lines, said = self.run('member', '--secret', str(secret), '--node', str(node), '--kind', KINDS[kind],
                                        '--height', str(height), '--epochs', epochs)
         assert (status, said) == (0, ''), (status, said)
+        return lines
+
+    def member(self, name: str, node: int, kind: int, height: int, epochs: str = '1-1') -> str:
+        """The lines of a member, which are those that the other program makes of the secret."""
+        lines = self.member_lines(name, node, kind, height, epochs)
         first, _, last = epochs.partition('-')
         owed = [member_line(self.keys(name, node, kind, height, epoch).member(), epoch)
                 for epoch in range(int(first), int(last or first) + 1)]

@@ -222,7 +222,8 @@ class Turns(Way):
 
 class Rough(Way):
     """Carries records, and now and then drops one, keeps it for a while, carries it twice or after an earlier one, or cuts
-    the connection in its middle. A connection on which a record was dropped is cut some time later."""
+    the connection in its middle. A connection on which a record was dropped is cut some time later. Counts connections,
+    and the calls that come over them."""
 
     FAULTS = ('drop', 'delay', 'repeat', 'earlier', 'cut')
 
@@ -231,16 +232,24 @@ class Rough(Way):
         self.random = Random(seed)
         self.every = every
         self.faults: Counter[str] = Counter()
+        self.connections = 0
+        self.calls: Counter[int] = Counter()
         super().__init__(to)
 
     def join(self, near: socket.socket, far: socket.socket):
-        for ends in (near, far), (far, near):
+        self.connections += 1
+        for ends in (near, far, self.count), (far, near, lambda _: None):
             threading.Thread(target=self.carry, args=ends, daemon=True).start()
 
-    def carry(self, source: socket.socket, target: socket.socket):
+    def count(self, call: bytes):
+        """Counts the calls that come, by their procedures."""
+        self.calls[procedure_of(call)] += 1
+
+    def carry(self, source: socket.socket, target: socket.socket, note: Callable[[bytes], None]):
         reader, earlier = RecordReader(source), b''
         try:
             while (body := reader.next(MOST_OF_ANY)) is not None:
+                note(body)
                 fault = self.random.choice(self.FAULTS) if self.random.randrange(self.every) == 0 else ''
                 self.faults[fault] += 1
                 self.carry_record(fault, record(body), earlier, target)
