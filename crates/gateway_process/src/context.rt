@@ -129,3 +129,18 @@ impl<'a, R, T, W, E> Clone for Shared<'a, R, T, W, E> {
 }
 
 impl<'a, R, T, W, E> Copy for Shared<'a, R, T, W, E> {}
+
+/// What serves local programs.
+pub(crate) struct Serving<'a, R, T, W, E, C> {
+    pub(crate) shared: Shared<'a, R, T, W, E>,
+    /// The ways to the server.
+    pub(crate) ways: &'a [Mutex<C>],
+}
+
+impl<'a, R, T, W, E, C> Clone for Serving<'a, R, T, W, E, C> {
+    fn clone(&self) -> Result<Serving<'a, R, T, W, E, C>, AllocError> {
+        Ok(*self)
+    }
+}
+
+impl<'a, R, T, W, E, C> Copy for Serving<'a, R, T, W, E, C> {}

@@ -66,7 +66,7 @@ impl Reporter {
     }
 
     /// Reports to each witness. Where one can't be reached that is said once, and it is tried again at the next
-    /// report; one that goes by another roster is left out from then on.
+    /// report, also one that goes by another roster.
     pub(crate) fn report<R, T, W, E>(&mut self, shared: Shared<'_, R, T, W, E>)
     where
         R: Wait + Net<Listener = TcpListener, Stream = TcpStream>,
@@ -75,9 +75,7 @@ impl Reporter {
         E: Write,
     {
         for witness in &mut self.witnesses {
-            if !witness.is_left_out {
-                report_to(shared, witness, &mut self.reserve);
-            }
+            report_to(shared, witness, &mut self.reserve);
         }
     }
 }
@@ -134,12 +132,8 @@ where
         witness.has_failed = false;
         return;
     };
-    match &trouble {
-        Trouble::OtherRoster(_) => witness.is_left_out = true,
-        Trouble::OwnPutBack(_) => {
-            let _before = shared.context.end_by(Ending::PutBack);
-        }
-        _ => {}
+    if let Trouble::OwnPutBack(_) = &trouble {
+        let _before = shared.context.end_by(Ending::PutBack);
     }
     if !witness.has_failed {
         let Context { alloc, .. } = shared.context;

@@ -1,6 +1,6 @@
 //! A gateway with its node: local programs as they connect, each in a thread of its own, and reports to witnesses.
 
-use crate::context::{Context, Shared};
+use crate::context::{Context, Serving, Shared};
 use crate::desk::Desk;
 use crate::local_programs::serve_program;
 use crate::reporter::Reporter;
@@ -114,7 +114,7 @@ fn end_of<R: Wait>(rt: &R, phase: &Mutex<Phase>, ending: &Mutex<Ending>) -> Endi
     }
 }
 
-/// Serves what is ordered until the process is to end.
+/// Reports, so that no call is begun with a log that was put back, and serves what is ordered until the process is to end.
 fn serve_order<'a, R, T, L, W, E>(context: Context<'a, R, T, W, E>, order: GatewayOrder<'a, L>)
 where
     R: Threads + Wait + Sync + Net<Listener = TcpListener, Stream = TcpStream>,
@@ -150,7 +150,13 @@ where
         return;
     };
     let reporter = Mutex::new(reporter);
-    serve_until_end(context, &client, &ways, &reporter, &listener, control);
+    reporter.lock(context.rt).report(Shared {
+        context,
+        client: &client,
+    });
+    if context.is_serving() {
+        serve_until_end(context, &client, &ways, &reporter, &listener, control);
+    }
     for way in &ways {
         way.lock(context.rt).finish();
     }
@@ -178,8 +184,7 @@ fn ways_to<'a, R, T, W, E>(
     Ok(ways)
 }
 
-/// Reports, so that no call is begun with a log that was put back; serves until the process is to end and all
-/// connections have ended, and reports for the last time.
+/// Serves until the process is to end and all connections have ended, and reports for the last time.
 fn serve_until_end<'s, R, T, L, W, E, C>(
     context: Context<'s, R, T, W, E>,
     client: &'s Mutex<SharedClient>,
@@ -197,10 +202,7 @@ where
     C: Courier + Drop + Send,
 {
     let shared = Shared { context, client };
-    reporter.lock(context.rt).report(shared);
-    if !context.is_serving() {
-        return;
-    }
+    let serving = Serving { shared, ways };
     let accepting = Accepting {
         rt: context.rt,
         alloc: context.alloc,
@@ -211,15 +213,14 @@ where
         second: None,
     };
     thread::scope(thread::scope_env(), context.rt, |scope| {
-        run_threads(shared, ways, accepting, reporter, control, scope)
+        run_threads(serving, accepting, reporter, control, scope)
     });
     reporter.lock(context.rt).report(shared);
 }
 
 /// Starts the threads, and accepts local programs until the process is to end.
 fn run_threads<'s, V, R, T, L, W, E, C>(
-    shared: Shared<'s, R, T, W, E>,
-    ways: &'s [Mutex<C>],
+    serving: Serving<'s, R, T, W, E, C>,
     accepting: Accepting<'s, R, T, L, W, E>,
     reporter: &'s Mutex<Reporter>,
     control: Option<Commands<'s>>,
@@ -233,12 +234,13 @@ where
     E: Write + Send,
     C: Courier + Drop + Send,
 {
+    let shared = serving.shared;
     if let Some(control) = control {
         let run = move || attend_control(shared, control);
         let _ = scope.spawn(run);
     }
     start_reports(shared, reporter, scope);
-    serve_all(shared, ways, accepting, scope)
+    serve_all(serving, accepting, scope)
 }
 
 /// Takes commands at the control socket until the process no longer serves.
@@ -290,8 +292,7 @@ where
 
 /// Accepts local programs, and starts a thread for each.
 fn serve_all<'s, V, R, T, L, W, E, C>(
-    shared: Shared<'s, R, T, W, E>,
-    ways: &'s [Mutex<C>],
+    serving: Serving<'s, R, T, W, E, C>,
     accepting: Accepting<'s, R, T, L, W, E>,
     scope: &Scope<'s, V>,
 )
@@ -303,6 +304,7 @@ where
     E: Write + Send,
     C: Courier + Drop + Send,
 {
+    let Serving { shared, ways } = serving;
     accepting.begin();
     for _ in 0..u64::MAX {
         let Some((stream, address, _)) = accepting.next() else {

@@ -71,8 +71,6 @@ pub(crate) struct WitnessPeer {
     acknowledged: Vec<u64>,
     /// Whether the last report to it has failed.
     pub(crate) has_failed: bool,
-    /// Whether it goes by another roster, and is left out.
-    pub(crate) is_left_out: bool,
 }
 
 impl WitnessPeer {
@@ -90,7 +88,6 @@ impl WitnessPeer {
             counted: 0,
             acknowledged: Vec::new(alloc),
             has_failed: false,
-            is_left_out: false,
         }
     }
 
