@@ -11,6 +11,7 @@ import os
 import re
 import shutil
 import signal
+import socket
 import sys
 import threading
 import time
@@ -20,32 +21,35 @@ from dataclasses import replace
 from pathlib import Path
 
 sys.dont_write_bytecode = True
+from generator.texts import authenticator_text  # noqa: E402
 from hosts.logs import ServedLog, last_signed, log_of  # noqa: E402
 from hosts.parties import EVERY, Hosts, Party, spelled  # noqa: E402
 from hosts.proxy import Garbler, Proxy, Rough, Switch, Turns  # noqa: E402
 from peer import rows  # noqa: E402
 from peer.gateway import Gateway, ask, case_of, handed, last_shown, stands  # noqa: E402
+from peer.keys import Keys  # noqa: E402
 from peer.lies import (Fork, HidesLog, Liar, NoReply, OldReply, OtherAck, OtherMember, ReceivesTwice,  # noqa: E402
                        Silent, Slow, Swapped, UnsignedAck, UnsignedReply, WrongReply, WrongXid)
 from peer.server import Server  # noqa: E402
-from peer.wire import DELIVER, NODE, WITNESS, Address, Caller  # noqa: E402
+from peer.wire import DELIVER, NODE, WITNESS, Address, Caller, optional_packet  # noqa: E402
 from peer.witness import REFUSED, Witness  # noqa: E402
 from serve.calls import Calls  # noqa: E402
 from serve.client import ROOT, Connection, call, record  # noqa: E402
 from verifier.evidence import judge  # noqa: E402
-from verifier.keys import CLIENT, SERVER, digest  # noqa: E402
+from verifier.keys import CLIENT, SERVER, Roster, digest  # noqa: E402
 from verifier.log import ACK, RECV, SEND  # noqa: E402
 from verifier.mount import World  # noqa: E402
 from verifier.nfs import Files  # noqa: E402
 from verifier.packets import AUTHENTICATOR, ENVELOPE  # noqa: E402
 from verifier.replay import Fault  # noqa: E402
 from verifier.rpc import reply_to  # noqa: E402
-from verifier.xdr import opaque, word  # noqa: E402
+from verifier.xdr import Reader, opaque, word  # noqa: E402
 
 LOOKUP = call(7, 4, ROOT + opaque(b'hello'))
 ATTRIBUTES = call(8, 1, ROOT)
 SAME_XID = call(7, 1, ROOT)
 CONNECTIONS = 4
+HEIGHT = 4
 INPUT, COMMAND_LINE, DEVICE, KEYS_USED_UP, OTHER, SUSPECTED = 1, 2, 4, 5, 6, 7
 NO_ROOM = 4
 
@@ -161,20 +165,31 @@ def watched(hosts: Hosts, server: Server) -> tuple[Party, Path]:
 
 
 def exposed(hosts: Hosts, witness: Party, cases: Path) -> tuple[int, int] | None:
-    """Server 1 is exposed by a file that both verifiers take: the fault and its entry's number, if it is a replay."""
+    """Server 1 is exposed by a file that both verifiers take: the fault and its entry's number, if it is a replay. The
+    others are trusted."""
+    fault = exposed_alone(hosts, witness, cases)
+    others = {2: 'trusted', 3: 'trusted'}
+    hosts.wait_until(witness.address(), lambda told: words_of(told) == {1: 'exposed', **others})
+    return fault
+
+
+def exposed_alone(hosts: Hosts, witness: Party, cases: Path) -> tuple[int, int] | None:
+    """The same, whatever is said of others."""
     found = witness.wait_for(r'\S+Z 1 exposed \d+ to \d+: (.*)')
     evidence = cases / 'node-1.evidence'
     assert found[1] == str(evidence), found[1]
-    roster = hosts.folder / 'rosters' / 'epoch-1.roster'
-    assert hosts.run('check', '--roster', str(roster), str(evidence)) == (0, 'exposed 1\n', '')
-    verdict = judge(evidence.read_bytes())
-    assert verdict.exposed == 1
+    assert_exposes(hosts, evidence)
     caller = Caller(witness.address(), WITNESS)
     assert case_of(caller, 1) == evidence.read_bytes() and case_of(caller, 2) is None
     caller.close()
-    others = {2: 'trusted', 3: 'trusted'}
-    hosts.wait_until(witness.address(), lambda told: words_of(told) == {1: 'exposed', **others})
-    return verdict.fault
+    return judge(evidence.read_bytes()).fault
+
+
+def assert_exposes(hosts: Hosts, evidence: Path):
+    """Both verifiers take a file as evidence against node 1."""
+    roster = hosts.folder / 'rosters' / 'epoch-1.roster'
+    assert hosts.run('check', '--roster', str(roster), str(evidence)) == (0, 'exposed 1\n', '')
+    assert judge(evidence.read_bytes()).exposed == 1
 
 
 def words_of(told: dict[int, tuple]) -> dict[int, str]:
@@ -194,6 +209,133 @@ def check_fork(program: str):
                 assert connection.ask(ATTRIBUTES) == owed(ATTRIBUTES)
         assert exposed(hosts, witness, cases) is None
     print('a fork between two gateways: one witness finds it')
+
+
+def two_stories(hosts: Hosts) -> list[Server]:
+    """A server that keeps two logs by the same keys, each at an address of its own."""
+    keys, roster = hosts.keys('one', 1, SERVER, HEIGHT), hosts.roster()
+    return [hosts.keep(Server(each, roster)) for each in (keys.split(), keys)]
+
+
+def tell(hosts: Hosts, name: str, nodes: str, server: Server, witness: Address):
+    """Two calls through a gateway that reports to this witness alone."""
+    gateway = hosts.gateway(name, nodes, server.address, witness)
+    connection = Connection(gateway.address()[1])
+    for _ in range(2):
+        assert connection.ask(ATTRIBUTES) == owed(ATTRIBUTES)
+
+
+def soon(holds: Callable[[], bool], what: str, seconds: float = 60):
+    """Waits until this holds."""
+    end = time.monotonic() + seconds
+    while not holds():
+        assert time.monotonic() < end, what
+        time.sleep(0.05)
+
+
+def check_meeting(program: str):
+    """A server tells two gateways two stories, and shows each of two witnesses the log that it told the gateway which
+    reports there. Neither finds anything. Once the one reaches the other both expose the server in the next meeting, also
+    where the other is the witness of checks/peer."""
+    for make in ours_and_ours, ours_and_peers:
+        with Hosts(program) as hosts:
+            usual(hosts, HEIGHT, HEIGHT - 1)
+            stories, cases = two_stories(hosts), hosts.state('near')
+            far_address, far_is_done, far_exposes = make(hosts, stories[1])
+            way = hosts.keep(Switch(far_address))
+            way.off()
+            near = hosts.witness({1: stories[0].address}, '--evidence', str(cases), '--witness', spelled(way.address))
+            tell(hosts, 'two', '2', stories[0], near.address())
+            tell(hosts, 'three', '3', stories[1], far_address)
+            hosts.wait_until(near.address(), are_trusted(7))
+            soon(far_is_done, 'the other witness audits')
+            wait_for_words(near, f'nfsacc: witness {spelled(way.address)}: the connection broke\n')
+            assert not any('exposed' in line for line in near.lines), near.lines
+            way.on()
+            started = time.monotonic()
+            near.wait_for(r'\S+Z 1 exposed \d+ to \d+: .*', patience=20)
+            soon(far_exposes, 'the other witness exposes the server', 20)
+            took = time.monotonic() - started
+            exposed_alone(hosts, near, cases)
+            assert near.said().count('nfsacc: witness ') == 1, near.said()
+    print(f'two stories that were told to two witnesses meet within a round: {took:.1f} seconds')
+
+
+def ours_and_ours(hosts: Hosts, story: Server) -> tuple[Address, Callable[[], bool], Callable[[], bool]]:
+    """A witness of ours: where it listens, whether it has audited a story, and whether it exposes the server."""
+    cases = hosts.state('far')
+    far = hosts.witness({1: story.address}, '--evidence', str(cases))
+
+    def is_done() -> bool:
+        return are_trusted(7)(hosts.ask(far.address())[1])
+
+    def exposes() -> bool:
+        found = any(re.fullmatch(r'\S+Z 1 exposed .*', line) for line in far.lines)
+        if found:
+            exposed_alone(hosts, far, cases)
+        return found
+    return far.address(), is_done, exposes
+
+
+def ours_and_peers(hosts: Hosts, story: Server) -> tuple[Address, Callable[[], bool], Callable[[], bool]]:
+    """The same of a witness of checks/peer."""
+    far = hosts.keep(Witness(hosts.roster()))
+
+    def is_done() -> bool:
+        assert far.round({1: story.address}) == {}
+        return far.books[1].end >= 7
+
+    def exposes() -> bool:
+        file = far.evidence(1)
+        if file is not None:
+            (hosts.folder / 'far.evidence').write_bytes(file)
+            assert_exposes(hosts, hosts.folder / 'far.evidence')
+        return file is not None
+    return far.address, is_done, exposes
+
+
+def check_bad_meetings(program: str):
+    """Other witnesses that hang, that go by another roster, that aren't there, or that show what nobody signed: audits go
+    on, and it is said once."""
+    with Hosts(program) as hosts:
+        usual(hosts, HEIGHT, HEIGHT - 1)
+        hosts.rosters(hosts.member('one', 1, SERVER, 2), hosts.member('four', 4, CLIENT, 2), name='others')
+        server = hosts.server('one')
+        silent = socket.create_server(('127.0.0.1', 0))
+        nobody = socket.create_server(('127.0.0.1', 0))
+        away = nobody.getsockname()
+        nobody.close()
+        stranger = hosts.witness({1: server.address()}, rosters='others')
+        forger = hosts.keep(Forger(hosts.roster(), hosts.keys('four', 4, CLIENT, 2)))
+        others = silent.getsockname(), away, stranger.address(), forger.address
+        witness = hosts.witness({1: server.address()}, '--witness', ','.join(map(spelled, others)))
+        gateway = hosts.gateway('two', '2', server.address(), witness.address())
+        connection = Connection(gateway.address()[1])
+        for _ in range(3):
+            assert connection.ask(ATTRIBUTES) == owed(ATTRIBUTES)
+        hosts.wait_until(witness.address(), are_trusted(last_number(server.address(), hosts)))
+        wait_for_words(witness, f'{spelled(stranger.address())}: it goes by another roster, sha256:')
+        wait_for_words(witness, f'{spelled(away)}: Connection refused')
+        soon(lambda: forger.asked > 9, 'a witness that forges is asked again')
+        hosts.wait_until(witness.address(), lambda told: set(words_of(told).values()) == {'trusted'})
+        said = [witness.said().count(f'nfsacc: witness {spelled(each)}: ') for each in others]
+        assert said[0] < 2 and said[1:] == [1, 1, 0], witness.said()
+        silent.close()
+    print('other witnesses that hang, are away, are of another roster or forge: audits go on, and each is said once')
+
+
+class Forger(Witness):
+    """It shows of each node what another key signed."""
+
+    def __init__(self, roster: Roster, keys: Keys):
+        self.signed = keys.sign(9, bytes(32))
+        self.asked = 0
+        super().__init__(roster)
+
+    def last_shown(self, arguments: bytes) -> bytes:
+        self.asked += 1
+        forged = replace(self.signed, node=Reader(arguments).word())
+        return optional_packet(AUTHENTICATOR, authenticator_text(forged))
 
 
 def liar(hosts: Hosts, lie: type[Liar]) -> Server:
@@ -936,7 +1078,7 @@ def check_assured(program: str):
     print('a gateway says up to which reply each witness answers: not before it has taken what was signed, nor of a liar')
 
 
-CHECKS = [check_server, check_strangers, check_assured, check_server_keys, check_three, check_rows, check_lie, check_fork, check_none, check_other_calls, check_suspected,
+CHECKS = [check_meeting, check_bad_meetings, check_server, check_strangers, check_assured, check_server_keys, check_three, check_rows, check_lie, check_fork, check_none, check_other_calls, check_suspected,
           check_other_witness, check_lives, check_second_roster, check_keys_used_up, check_ask,
           check_calls, check_breaks, check_garbage, check_same_call, check_open_message, check_rough,
           check_round_trips, check_away, check_give_up, check_next_epoch, check_challenge, check_ranges, check_status,

@@ -92,9 +92,10 @@ gateway_asked rows = record {
 abbrev pub witness_command : App
 witness_command =
     with_rule (with_rule (with_rule (with_rule (with_rule (with_rule (with_rule (with_rule (with_rule
-    (new_app (codes "witness")) (needed_option (codes "rosters")))
+    (with_rule (new_app (codes "witness")) (needed_option (codes "rosters")))
     (needed_option (codes "at")))
     (needed_option (codes "listen")))
+    (word_option (codes "witness")))
     (word_option (codes "every")))
     (word_option (codes "patience")))
     (word_option (codes "evidence")))
@@ -107,6 +108,7 @@ pub record WitnessAsked : Type 0 where
   pub rosters : Text
   pub at : Text
   pub listen : Text
+  pub witness : Option Text
   pub every : Option Text
   pub patience : Option Text
   pub evidence : Option Text
@@ -120,6 +122,7 @@ witness_asked rows = record {
   rosters = word_in (codes "rosters") rows;
   at = word_in (codes "at") rows;
   listen = word_in (codes "listen") rows;
+  witness = first_of (codes "witness") rows;
   every = first_of (codes "every") rows;
   patience = first_of (codes "patience") rows;
   evidence = first_of (codes "evidence") rows;

@@ -6,7 +6,7 @@ ghost use Rattle.command_line.specs.HostOrders.{HasLoopback, IsNoSocket, OrdersA
 ghost use Rattle.command_line.specs.HostOrders.{OrdersServer};
 ghost use Rattle.command_line.specs.HostOrders.{OrdersWitness, SocketIf};
 ghost use Rattle.command_line.specs.MemberOrders.{WritesRangeOr};
-ghost use Rattle.command_line.specs.Lists.{ArePeers, items_of};
+ghost use Rattle.command_line.specs.Lists.{ArePeers, hosts_named, items_of};
 ghost use Rattle.command_line.specs.ServeOrders.{IsNotWithin, WritesIf, WritesOr};
 
 use crate::hosts::{AskRequest, GatewayRequest, ServerRequest, WitnessRequest};
@@ -78,7 +78,9 @@ pub struct WitnessOrder<'a> {
     pub servers: Vec<Peer<'a>>,
     /// Where others connect.
     pub listen: SocketAddr,
-    /// After how many seconds servers are asked again, from 1 to 86,400.
+    /// Where other witnesses listen.
+    pub witnesses: Vec<&'a str>,
+    /// After how many seconds servers and other witnesses are asked again, from 1 to 86,400.
     pub every: u32,
     /// After how many seconds without an answer a node is said to be suspected, up to 86,400.
     pub patience: u32,
@@ -219,8 +221,8 @@ pub fn gateway_order<'a>(
     })
 }
 
-/// The order that a request makes. It is refused for the first of the servers, the address, the two numbers
-/// of seconds and the epoch that is none.
+/// The order that a request makes. It is refused for the first of the servers, the address, the witnesses, the
+/// two numbers of seconds and the epoch that is none.
 pub fn witness_order<'a>(
     alloc: Global,
     request: &WitnessRequest<'a>,
@@ -229,6 +231,7 @@ pub fn witness_order<'a>(
 {
     let servers = servers_of(alloc, request.at)?;
     let listen = socket_of(request.listen).ok_or(HostRefusal::Listen)?;
+    let others = witnesses_of(alloc, request.witness)?;
     let every = seconds_of(request.every, 1, 10).ok_or(HostRefusal::Every)?;
     let patience = seconds_of(request.patience, 0, 60).ok_or(HostRefusal::Patience)?;
     let epoch = number_if(request.epoch, HostRefusal::Epoch)?;
@@ -236,6 +239,7 @@ pub fn witness_order<'a>(
         rosters: request.rosters,
         servers,
         listen,
+        witnesses: others,
         every,
         patience,
         evidence: request.evidence,
@@ -312,7 +316,8 @@ fn is_own(address: &SocketAddr) -> bool
 
 /// The witnesses in an option's word; none where it isn't given.
 fn witnesses_of<'a>(alloc: Global, word: Option<&'a str>) -> Result<Vec<&'a str>, HostRefusal>
-    ensures { IfOk result (λ v. IfSome word.entry (λ text. map (λ s. s.now) v.items ≡ items_of text.now)) }
+    ensures { IfOk result (λ v.
+        map (λ s. s.now) v.items ≡ hosts_named (option_map (λ s. s.now) word.entry)) }
 {
     let Some(word) = word else {
         return Ok(Vec::new(alloc));

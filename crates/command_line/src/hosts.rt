@@ -72,6 +72,8 @@ pub struct WitnessRequest<'a> {
     pub at: &'a str,
     /// Where others connect.
     pub listen: &'a str,
+    /// Where other witnesses listen, if some are named.
+    pub witness: Option<&'a str>,
     /// How often servers are asked, if that is given.
     pub every: Option<&'a str>,
     /// After how long without an answer a node is said to be suspected, if that is given.
@@ -146,7 +148,11 @@ const WITNESS_AT_HELP: &str = "Where servers give out their logs: N=HOST:PORT, w
 
 const WITNESS_LISTEN_HELP: &str = "Where gateways, other witnesses and `ask` connect";
 
-const WITNESS_EVERY_HELP: &str = "How often servers are asked, 1 to 86400; 10 where it isn't given";
+const WITNESS_OTHERS_HELP: &str =
+    "Where other witnesses listen, to tell each other what was shown: HOST:PORT, with commas between";
+
+const WITNESS_EVERY_HELP: &str =
+    "How often servers and other witnesses are asked, 1 to 86400; 10 where it isn't given";
 
 const WITNESS_PATIENCE_HELP: &str =
     "After how long without an answer a node is said to be suspected, 0 to 86400; 60 where it isn't given";
@@ -235,6 +241,7 @@ pub(crate) fn witness_command<'a>(alloc: Global) -> Result<Command<'a>, AllocErr
         .arg(needed_option(alloc, "rosters", "DIR", WITNESS_ROSTERS_HELP))?
         .arg(needed_option(alloc, "at", "LIST", WITNESS_AT_HELP))?
         .arg(needed_option(alloc, "listen", "ADDRESS:PORT", WITNESS_LISTEN_HELP))?
+        .arg(word_option(alloc, "witness", "LIST", WITNESS_OTHERS_HELP))?
         .arg(word_option(alloc, "every", "SECONDS", WITNESS_EVERY_HELP))?
         .arg(word_option(alloc, "patience", "SECONDS", WITNESS_PATIENCE_HELP))?
         .arg(word_option(alloc, "evidence", "DIR", WITNESS_EVIDENCE_HELP))?
@@ -337,6 +344,8 @@ fn witness_request<'a>(matches: &ArgMatches<'a>) -> WitnessRequest<'a>
     ensures rosters { result.rosters.now ≡ unwrap_or (first_of (codes "rosters") (rows_in matches.now)) [] }
     ensures at { result.at.now ≡ unwrap_or (first_of (codes "at") (rows_in matches.now)) [] }
     ensures listen { result.listen.now ≡ unwrap_or (first_of (codes "listen") (rows_in matches.now)) [] }
+    ensures witness { option_map (λ s. s.now) result.witness
+        ≡ first_of (codes "witness") (rows_in matches.now) }
     ensures every { option_map (λ s. s.now) result.every ≡ first_of (codes "every") (rows_in matches.now) }
     ensures patience { option_map (λ s. s.now) result.patience
         ≡ first_of (codes "patience") (rows_in matches.now) }
@@ -351,6 +360,7 @@ fn witness_request<'a>(matches: &ArgMatches<'a>) -> WitnessRequest<'a>
         rosters: text_of(matches, "rosters"),
         at: text_of(matches, "at"),
         listen: text_of(matches, "listen"),
+        witness: word_of(matches, "witness"),
         every: word_of(matches, "every"),
         patience: word_of(matches, "patience"),
         evidence: word_of(matches, "evidence"),

@@ -135,6 +135,7 @@ where
         digest: held.of.digest,
         epoch,
         servers: servers.as_slice(),
+        witnesses: order.witnesses.as_slice(),
         every: order.every,
         patience: order.patience,
         evidence: order.evidence,
