@@ -36,7 +36,7 @@ from peer.witness import REFUSED, Witness  # noqa: E402
 from serve.calls import Calls  # noqa: E402
 from serve.client import ROOT, Connection, call, record  # noqa: E402
 from verifier.evidence import judge  # noqa: E402
-from verifier.keys import CLIENT, SERVER, Roster, digest  # noqa: E402
+from verifier.keys import CLIENT, SERVER, Authenticator, Roster, digest  # noqa: E402
 from verifier.log import ACK, RECV, SEND  # noqa: E402
 from verifier.mount import World  # noqa: E402
 from verifier.nfs import Files  # noqa: E402
@@ -501,6 +501,58 @@ def check_strangers(program: str):
         gateway.finish()
         assert server.process.poll() is None and server.said() == '', server.said()
     print('forty silent connections and a repeated message hold nobody off, and end after ten seconds')
+
+
+def check_put_back(program: str):
+    """A server whose state folder was put back as it was before begins an epoch again that it had begun. It ends with 6
+    once a witness asks it with its own signature, and signs nothing more. What isn't signed by it doesn't end it."""
+    with Hosts(program) as hosts:
+        usual(hosts, HEIGHT, HEIGHT - 1, '1-2')
+        server = hosts.server('one', '--audit', '127.0.0.1:0')
+        server.wait_for(f'epoch 1, {2**HEIGHT} keys made')
+        server.kill()
+        backup = (hosts.folder / 'one.spent').read_bytes()
+        server = hosts.server('one', '--audit', '127.0.0.1:0')
+        server.wait_for(f'epoch 2, {2**HEIGHT} keys made')
+        way = hosts.keep(Switch(server.address('audits')))
+        witness = hosts.witness({1: way.address})
+        gateway = hosts.gateway('two', '2', server.address(), witness.address())
+        connection = Connection(gateway.address()[1])
+        for _ in range(3):
+            assert connection.ask(ATTRIBUTES) == owed(ATTRIBUTES)
+        hosts.wait_until(witness.address(), are_trusted(11))
+        asker = Caller(witness.address(), WITNESS)
+        of_server, of_client = last_shown(asker, 1), last_shown(asker, 2)
+        asker.close()
+        gateway.kill()
+        server.kill()
+        way.off()
+        (hosts.folder / 'one.spent').write_bytes(backup)
+        server = hosts.server('one', '--audit', '127.0.0.1:0')
+        server.wait_for(f'epoch 2, {2**HEIGHT} keys made')
+        try_no_claims(server, of_server, of_client)
+        before = len(witness.lines)
+        way.on(server.address('audits'))
+        assert server.status() == OTHER, server.said()
+        line = f'nfsacc: the log was put back to an earlier one: number {of_server.word} was signed before\n'
+        assert re.fullmatch(f'{TIME} {line}', server.said()), server.said()
+        assert server.lines[-1] == 'the log was put back to an earlier one', server.lines
+        wait_for_words(witness, 'nfsacc: 1 has a log that was put back to an earlier one\n')
+        assert not any('exposed' in line for line in witness.lines[before:]), witness.lines
+    print('a server whose log was put back ends with 6 once a witness asks it, and signs nothing more')
+
+
+def try_no_claims(server: Party, of_server: Authenticator, of_client: Authenticator):
+    """A server whose log lacks all that was signed is asked for what it didn't sign: it serves on."""
+    caller = Caller(server.address(), NODE)
+    other_hash, other_number = replace(of_server, hash=bytes(32)), replace(of_server, word=of_server.word + 4)
+    for claim in other_hash, other_number, of_client, replace(of_client, node=1), replace(of_server, node=2):
+        assert not stands(caller, claim)
+    nothing = replace(of_server, word=0, hash=bytes(32))
+    assert stands(caller, nothing)
+    caller.close()
+    time.sleep(1)
+    assert server.process.poll() is None and server.said() == '', server.said()
 
 
 def check_server_keys(program: str):
@@ -1078,7 +1130,7 @@ def check_assured(program: str):
     print('a gateway says up to which reply each witness answers: not before it has taken what was signed, nor of a liar')
 
 
-CHECKS = [check_meeting, check_bad_meetings, check_server, check_strangers, check_assured, check_server_keys, check_three, check_rows, check_lie, check_fork, check_none, check_other_calls, check_suspected,
+CHECKS = [check_meeting, check_bad_meetings, check_put_back, check_server, check_strangers, check_assured, check_server_keys, check_three, check_rows, check_lie, check_fork, check_none, check_other_calls, check_suspected,
           check_other_witness, check_lives, check_second_roster, check_keys_used_up, check_ask,
           check_calls, check_breaks, check_garbage, check_same_call, check_open_message, check_rough,
           check_round_trips, check_away, check_give_up, check_next_epoch, check_challenge, check_ranges, check_status,

@@ -31,6 +31,9 @@ pub(crate) enum Cause {
     /// What it showed isn't what it was asked for.
     #[error("what it showed isn't what it was asked for")]
     Refused,
+    /// What it signed doesn't stand in its log, by its own word.
+    #[error("its log was put back to an earlier one")]
+    PutBack,
 }
 
 impl Cause {
@@ -126,7 +129,12 @@ pub(crate) fn server_line(
     address: &str,
     cause: &Cause,
 ) -> Result<String, AllocError> {
-    format!(in alloc; "nfsacc: server {node} at {address}: {cause}\n")
+    match cause {
+        Cause::PutBack => {
+            format!(in alloc; "nfsacc: {node} has a log that was put back to an earlier one\n")
+        }
+        cause => format!(in alloc; "nfsacc: server {node} at {address}: {cause}\n"),
+    }
 }
 
 /// That another witness goes by another roster, with the digest of that.

@@ -5,7 +5,7 @@ use crate::context::Context;
 use crate::orders::WatchedServer;
 use crate::printing::say_line;
 use hex::encode;
-use peer_calls::{Greeted, Greeting, NodeRequest, read_greeted};
+use peer_calls::{Greeted, Greeting, NodeRequest, read_greeted, read_shown, read_stands};
 use peer_connections::PeerCaller;
 use std::alloc::{AllocError, Global};
 use std::io::Write;
@@ -13,8 +13,10 @@ use std::net::{Net, TcpListener, TcpStream};
 use std::sync::Wait;
 use std::time::Clock;
 
-/// The most bytes of an answer to GREET.
+/// The most bytes of the answers to GREET and STANDS.
 const MOST_GREETED: u32 = 60;
+
+const MOST_STANDS: u32 = 28;
 
 /// A server that is audited, and the connection to it.
 #[derive(Drop)]
@@ -53,8 +55,8 @@ pub(crate) fn links_to<'a>(
 }
 
 impl Link<'_> {
-    /// The connection to the server: that of the round before, or a new one, on which both have greeted. None where the
-    /// server goes by another roster, which is said.
+    /// The connection to the server: that of the round before, or a new one, on which both have greeted and what the
+    /// server signed stands in its log, by its own word. None where the server goes by another roster, which is said.
     pub(crate) fn connect<R, T, W, E, S>(
         &mut self,
         context: Context<'_, R, T, W, E, S>,
@@ -75,6 +77,7 @@ impl Link<'_> {
         match greet(context.alloc, context.digest, &mut caller)? {
             Greeted::Same => {
                 self.other = None;
+                test_standing(context, self.node, &mut caller)?;
                 Ok(Some(caller))
             }
             Greeted::Other(digest) => {
@@ -121,6 +124,24 @@ fn greet(alloc: Global, digest: [u8; 32], caller: &mut PeerCaller) -> Result<Gre
     let greeting = Greeting { digest, node: 0 };
     let answer = caller.ask_node(&NodeRequest::Greet(greeting), MOST_GREETED)?;
     Ok(read_greeted(alloc, answer.results())?)
+}
+
+/// Asks a server whether what it showed last stands in its log: `PutBack` where it says that it doesn't.
+fn test_standing<R: Wait, T: Clock, W, E, S>(
+    context: Context<'_, R, T, W, E, S>,
+    node: u32,
+    caller: &mut PeerCaller,
+) -> Result<(), Cause> {
+    let packet = context.lock().shown(context.alloc, node)?;
+    let Some(authenticator) = read_shown(context.alloc, &packet)? else {
+        return Ok(());
+    };
+    let answer = caller.ask_node(&NodeRequest::Stands(authenticator), MOST_STANDS)?;
+    if read_stands(answer.results())? {
+        Ok(())
+    } else {
+        Err(Cause::PutBack)
+    }
 }
 
 /// That a server goes by another roster.
