@@ -36,21 +36,21 @@ from peer.witness import REFUSED, Witness  # noqa: E402
 from serve.calls import Calls  # noqa: E402
 from serve.client import ROOT, Connection, call, record  # noqa: E402
 from verifier.evidence import judge  # noqa: E402
-from verifier.keys import CLIENT, SERVER, Authenticator, Roster, digest  # noqa: E402
+from verifier.keys import CLIENT, SERVER, Authenticator, Roster, digest, roster_text  # noqa: E402
 from verifier.log import ACK, RECV, SEND  # noqa: E402
 from verifier.mount import World  # noqa: E402
 from verifier.nfs import Files  # noqa: E402
 from verifier.packets import AUTHENTICATOR, ENVELOPE  # noqa: E402
 from verifier.replay import Fault  # noqa: E402
 from verifier.rpc import reply_to  # noqa: E402
-from verifier.xdr import Reader, opaque, word  # noqa: E402
+from verifier.xdr import Reader, hyper, opaque, word  # noqa: E402
 
 LOOKUP = call(7, 4, ROOT + opaque(b'hello'))
 ATTRIBUTES = call(8, 1, ROOT)
 SAME_XID = call(7, 1, ROOT)
 CONNECTIONS = 4
 HEIGHT = 4
-INPUT, COMMAND_LINE, DEVICE, KEYS_USED_UP, OTHER, SUSPECTED = 1, 2, 4, 5, 6, 7
+INPUT, COMMAND_LINE, DEVICE, KEYS_USED_UP, OTHER, SUSPECTED, EXPOSED = 1, 2, 4, 5, 6, 7, 8
 NO_ROOM = 4
 
 
@@ -662,6 +662,80 @@ def check_ask(program: str):
     print('statuses of `ask`, and a witness with another roster')
 
 
+class Says(Witness):
+    """It says this of node 1, and has this file as its evidence against it."""
+
+    def __init__(self, roster: Roster, indication: int, file: bytes | None = None):
+        self.indication = indication
+        self.file = file
+        super().__init__(roster)
+
+    def told(self, arguments: bytes) -> bytes:
+        return word(self.indication, 0) + hyper(0) + hyper(0) if arguments == word(1) else super().told(arguments)
+
+    def evidence(self, node: int) -> bytes | None:
+        return self.file if node == 1 else None
+
+
+def ask_all(hosts: Hosts, witnesses: list[Address], *more: str) -> tuple[int, list[str], str]:
+    """The status of `ask` of several witnesses, its lines, and what it says on standard error."""
+    asked = ','.join(map(spelled, witnesses))
+    status, printed, said = hosts.run('ask', '--rosters', str(hosts.folder / 'rosters'), *more, asked)
+    return status, printed.splitlines(), said
+
+
+def check_ask_many(program: str):
+    """`ask` of several witnesses: all are asked, and the status is the gravest. Evidence is judged before it is put."""
+    with Hosts(program) as hosts:
+        usual(hosts, HEIGHT, HEIGHT - 1)
+        hosts.rosters(hosts.member('one', 1, SERVER, 2), hosts.member('four', 4, CLIENT, 2), name='others')
+        trusting, suspecting = (hosts.keep(Says(hosts.roster(), indication)).address for indication in (1, 2))
+        exposing = hosts.keep(Says(hosts.roster(), 3)).address
+        stranger = hosts.keep(Witness(hosts.roster(name='others'))).address
+        nobody = socket.create_server(('127.0.0.1', 0))
+        away = nobody.getsockname()
+        nobody.close()
+        for asked, owed_status in (((trusting, trusting), 0), ((trusting, suspecting), SUSPECTED), ((away, trusting), DEVICE),
+                                   ((suspecting, away), DEVICE), ((stranger, suspecting, away), OTHER),
+                                   ((away, stranger), OTHER), ((exposing, away, stranger), EXPOSED),
+                                   ((stranger, exposing, trusting), EXPOSED)):
+            status, lines, said = ask_all(hosts, list(asked), '--nodes', '1')
+            words = {trusting: 'trusted', suspecting: 'suspected', exposing: 'exposed'}
+            there = [each for each in asked if each in words]
+            assert (status, lines) == (owed_status, [f'{spelled(each)} 1 {words[each]} 0 to 0' for each in there]), lines
+            assert said.count('nfsacc: ') == len(asked) - len(there), said
+        assert ask_all(hosts, [trusting])[1][0] == '1 trusted 0 to 0'
+        assert hosts.run('ask', '--evidence', str(hosts.folder), spelled(trusting))[0] == COMMAND_LINE
+        try_evidence(hosts)
+    print('`ask` of several witnesses, and evidence that is judged before it is put')
+
+
+def try_evidence(hosts: Hosts):
+    """Evidence against node 1 is fetched where it is good."""
+    server = hosts.keep(WrongReply(hosts.keys('one', 1, SERVER, HEIGHT), hosts.roster(), at=2))
+    witness, cases = watched(hosts, server)
+    gateway = hosts.gateway('two', '2', server.address, witness.address())
+    connection = Connection(gateway.address()[1])
+    for _ in range(2):
+        connection.ask(ATTRIBUTES)
+    assert exposed(hosts, witness, cases) is not None
+    good, folder = (cases / 'node-1.evidence').read_bytes(), hosts.state('fetched')
+    put = folder / 'node-1.evidence'
+    other = bytearray(good)
+    other[len(roster_text(hosts.roster())) + 3] = 2
+    for file, words in ((None, 'it has no evidence against 1'), (b'', 'isn\'t good'), (good + bytes(4), 'isn\'t good'),
+                        (good[:-1] + bytes([good[-1] ^ 1]), 'isn\'t good'), (bytes(other), 'isn\'t good'),
+                        (bytes(5000000), '5000000 bytes, which it doesn\'t send')):
+        liar = hosts.keep(Says(hosts.roster(), 3, file))
+        status, lines, said = ask_all(hosts, [liar.address], '--evidence', str(folder))
+        assert (status, lines[0]) == (EXPOSED, '1 exposed 0 to 0') and words in said, said
+        assert said.count('nfsacc: ') == 1 and list(folder.iterdir()) == [], said
+    status, _, said = ask_all(hosts, [liar.address, witness.address()], '--evidence', str(folder))
+    assert status == EXPOSED and said.count('nfsacc: ') == 1, said
+    assert put.read_bytes() == good and list(folder.iterdir()) == [put]
+    assert ask_all(hosts, [witness.address()], '--evidence', str(folder / 'none'))[0] == DEVICE
+
+
 # ---- many calls
 
 class Local:
@@ -1130,7 +1204,7 @@ def check_assured(program: str):
     print('a gateway says up to which reply each witness answers: not before it has taken what was signed, nor of a liar')
 
 
-CHECKS = [check_meeting, check_bad_meetings, check_put_back, check_server, check_strangers, check_assured, check_server_keys, check_three, check_rows, check_lie, check_fork, check_none, check_other_calls, check_suspected,
+CHECKS = [check_meeting, check_bad_meetings, check_put_back, check_ask_many, check_server, check_strangers, check_assured, check_server_keys, check_three, check_rows, check_lie, check_fork, check_none, check_other_calls, check_suspected,
           check_other_witness, check_lives, check_second_roster, check_keys_used_up, check_ask,
           check_calls, check_breaks, check_garbage, check_same_call, check_open_message, check_rough,
           check_round_trips, check_away, check_give_up, check_next_epoch, check_challenge, check_ranges, check_status,

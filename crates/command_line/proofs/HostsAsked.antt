@@ -117,6 +117,7 @@ witness_is words rows a none is asks =
 pub record IsAskAsked (rows : List Row) (a : AskAsked) : Type 0 where
   pub rosters : a.rosters ≡ first_of (codes "rosters") rows
   pub nodes : a.nodes ≡ first_of (codes "nodes") rows
+  pub evidence : a.evidence ≡ first_of (codes "evidence") rows
   pub witness : a.witness ≡ unwrap_or (first_of (codes "witness") rows) []
 
 -- `ask` asks for them
@@ -130,6 +131,7 @@ ask_is words rows a none is asks =
     same = rw (
       sym asks.rosters,
       sym asks.nodes,
+      sym asks.evidence,
       sym asks.witness,
     ) refl
 

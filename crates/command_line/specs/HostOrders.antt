@@ -72,6 +72,7 @@ pub record OrdersWitness (r : WitnessRequest) (o : WitnessOrder) : Type 0 where
 
 -- the order of `ask`
 pub record OrdersAsk (r : AskRequest) (o : AskOrder) : Type 0 where
-  pub witness : o.witness ≡ r.witness
+  pub witnesses : map (λ s. s.now) o.witnesses.items ≡ items_of r.witness.now
   pub rosters : o.rosters ≡ r.rosters
+  pub evidence : o.evidence ≡ r.evidence
   pub nodes : WritesRangeOr 1 64 1 64 (option_map (λ s. s.now) r.nodes) o.first o.last

@@ -134,14 +134,16 @@ witness_asked rows = record {
 -- `ask`, with its arguments
 abbrev pub ask_command : App
 ask_command =
-    with_rule (with_rule (with_rule (new_app (codes "ask")) (word_option (codes "rosters")))
+    with_rule (with_rule (with_rule (with_rule (new_app (codes "ask")) (word_option (codes "rosters")))
     (word_option (codes "nodes")))
+    (word_option (codes "evidence")))
     (word_argument (codes "witness"))
 
 -- what `ask` is asked, word by word
 pub record AskAsked : Type 0 where
   pub rosters : Option Text
   pub nodes : Option Text
+  pub evidence : Option Text
   pub witness : Text
 
 -- the same, by what was found for its arguments
@@ -149,6 +151,7 @@ abbrev pub ask_asked : List Row → AskAsked
 ask_asked rows = record {
   rosters = first_of (codes "rosters") rows;
   nodes = first_of (codes "nodes") rows;
+  evidence = first_of (codes "evidence") rows;
   witness = word_in (codes "witness") rows;
 }
 

@@ -10,7 +10,7 @@ ghost use Rattle.command_line.specs.Lists.{ArePeers, hosts_named, items_of};
 ghost use Rattle.command_line.specs.ServeOrders.{IsNotWithin, WritesIf, WritesOr};
 
 use crate::hosts::{AskRequest, GatewayRequest, ServerRequest, WitnessRequest};
-use crate::lists::{ListFault, Peer, hosts_of, is_host, peer_of, peers_of};
+use crate::lists::{ListFault, Peer, hosts_of, peer_of, peers_of};
 use crate::member_numbers::range_within;
 use crate::serve_numbers::number_within;
 use authenticator::MAX_NODE;
@@ -95,12 +95,14 @@ pub struct WitnessOrder<'a> {
 }
 
 /// What `nfsacc ask` is asked, with its numbers read.
-#[derive(Clone, Copy, Debug, PartialEq, Eq)]
+#[derive(Debug, Drop)]
 pub struct AskOrder<'a> {
-    /// Where the witness listens.
-    pub witness: &'a str,
-    /// The name of the folder with the rosters, one of which the witness must have, if one is named.
+    /// Where witnesses listen.
+    pub witnesses: Vec<&'a str>,
+    /// The name of the folder with the rosters, one of which each witness must have, if one is named.
     pub rosters: Option<&'a str>,
+    /// The name of the folder that evidence goes to, if one is named; then rosters are, too.
+    pub evidence: Option<&'a str>,
     /// The first number that is asked for, from 1 on.
     pub first: u32,
     /// The last number that is asked for, no less than the first and at most 64.
@@ -150,9 +152,12 @@ pub enum HostRefusal {
     /// The epoch is no decimal number from 1 to 4,294,967,295.
     #[error("--epoch is a number from 1 to 4294967295")]
     Epoch,
-    /// It isn't said where the witness listens.
-    #[error("HOST:PORT is a host's name or address, and a port from 1 to 65535")]
+    /// It isn't said where the witnesses listen.
+    #[error("HOST:PORT is a host's name or address, and a port from 1 to 65535, with commas between several")]
     Peer,
+    /// Evidence is asked for, and no rosters are named.
+    #[error("--evidence needs --rosters, by which it is judged")]
+    Unjudged,
     /// Memory was refused.
     #[error("out of memory")]
     NoMemory,
@@ -249,19 +254,23 @@ pub fn witness_order<'a>(
     })
 }
 
-/// The order that a request makes. It is refused where it isn't said where the witness listens, and where the
-/// numbers are none.
-pub fn ask_order<'a>(request: &AskRequest<'a>) -> Result<AskOrder<'a>, HostRefusal>
+/// The order that a request makes. It is refused where it isn't said where the witnesses listen, where the
+/// numbers are none, and where evidence is asked for without rosters.
+pub fn ask_order<'a>(alloc: Global, request: &AskRequest<'a>) -> Result<AskOrder<'a>, HostRefusal>
     ensures order { IfOk result (OrdersAsk request.now) }
     ensures nodes { IfOk result (λ o. (1 ≤ o.first) × (o.first ≤ o.last) × (o.last ≤ 64)) }
+    ensures judged { IfOk result (λ o. o.rosters ≡ None → o.evidence ≡ None) }
 {
-    if !is_host(request.witness) {
-        return Err(HostRefusal::Peer);
-    }
+    let witnesses = asked_of(alloc, request.witness)?;
     let (first, last) = numbers_of(request.nodes).ok_or(HostRefusal::Nodes)?;
+    let (rosters, evidence) = (request.rosters, request.evidence);
+    if evidence.is_some() && rosters.is_none() {
+        return Err(HostRefusal::Unjudged);
+    }
     Ok(AskOrder {
-        witness: request.witness,
-        rosters: request.rosters,
+        witnesses,
+        rosters,
+        evidence,
         first,
         last,
     })
@@ -325,6 +334,17 @@ fn witnesses_of<'a>(alloc: Global, word: Option<&'a str>) -> Result<Vec<&'a str>
     match hosts_of(alloc, word) {
         Ok(hosts) => Ok(hosts),
         Err(ListFault::Bad) => Err(HostRefusal::Witness),
+        Err(ListFault::NoMemory) => Err(HostRefusal::NoMemory),
+    }
+}
+
+/// The witnesses that are asked.
+fn asked_of<'a>(alloc: Global, word: &'a str) -> Result<Vec<&'a str>, HostRefusal>
+    ensures { IfOk result (λ v. map (λ s. s.now) v.items ≡ items_of word.now) }
+{
+    match hosts_of(alloc, word) {
+        Ok(hosts) => Ok(hosts),
+        Err(ListFault::Bad) => Err(HostRefusal::Peer),
         Err(ListFault::NoMemory) => Err(HostRefusal::NoMemory),
     }
 }
