@@ -13,6 +13,7 @@ import os
 import re
 import shutil
 import signal
+import socket
 import sys
 import threading
 import time
@@ -22,34 +23,37 @@ from dataclasses import replace
 from pathlib import Path
 
 sys.dont_write_bytecode = True
+from generator.texts import authenticator_text  # noqa: E402
 from hosts.kills import check_kills  # noqa: E402
 from hosts.logs import ServedLog, last_signed, log_of  # noqa: E402
 from hosts.parties import EVERY, Hosts, Party, spelled  # noqa: E402
 from hosts.proxy import Garbler, Proxy, Rough, Switch, Turns  # noqa: E402
 from peer import rows  # noqa: E402
 from peer.gateway import Gateway, ask, case_of, handed, last_shown, stands  # noqa: E402
+from peer.keys import Keys  # noqa: E402
 from peer.lies import (Fork, HidesLog, Liar, NoReply, OldReply, OtherAck, OtherMember, ReceivesTwice,  # noqa: E402
                        Silent, Slow, Swapped, UnsignedAck, UnsignedReply, WrongReply, WrongXid)
 from peer.server import Server  # noqa: E402
-from peer.wire import DELIVER, GREET, NODE, WITNESS, Address, Caller  # noqa: E402
+from peer.wire import DELIVER, GREET, NODE, WITNESS, Address, Caller, optional_packet  # noqa: E402
 from peer.witness import REFUSED, Witness  # noqa: E402
 from serve.calls import Calls  # noqa: E402
 from serve.client import ROOT, Connection, call, record  # noqa: E402
 from verifier.evidence import judge  # noqa: E402
-from verifier.keys import CLIENT, SERVER, digest  # noqa: E402
+from verifier.keys import CLIENT, SERVER, Authenticator, Roster, digest, roster_text  # noqa: E402
 from verifier.log import ACK, RECV, SEND  # noqa: E402
 from verifier.mount import World  # noqa: E402
 from verifier.nfs import Files  # noqa: E402
 from verifier.packets import AUTHENTICATOR, ENVELOPE  # noqa: E402
 from verifier.replay import Fault  # noqa: E402
 from verifier.rpc import reply_to  # noqa: E402
-from verifier.xdr import opaque, word  # noqa: E402
+from verifier.xdr import Reader, hyper, opaque, word  # noqa: E402
 
 LOOKUP = call(7, 4, ROOT + opaque(b'hello'))
 ATTRIBUTES = call(8, 1, ROOT)
 SAME_XID = call(7, 1, ROOT)
 CONNECTIONS = 4
-INPUT, COMMAND_LINE, DEVICE, KEYS_USED_UP, OTHER, SUSPECTED = 1, 2, 4, 5, 6, 7
+HEIGHT = 4
+INPUT, COMMAND_LINE, DEVICE, KEYS_USED_UP, OTHER, SUSPECTED, EXPOSED = 1, 2, 4, 5, 6, 7, 8
 NO_ROOM = 4
 
 
@@ -164,20 +168,31 @@ def watched(hosts: Hosts, server: Server) -> tuple[Party, Path]:
 
 
 def exposed(hosts: Hosts, witness: Party, cases: Path) -> tuple[int, int] | None:
-    """Server 1 is exposed by a file that both verifiers take: the fault and its entry's number, if it is a replay."""
+    """Server 1 is exposed by a file that both verifiers take: the fault and its entry's number, if it is a replay. The
+    others are trusted."""
+    fault = exposed_alone(hosts, witness, cases)
+    others = {2: 'trusted', 3: 'trusted'}
+    hosts.wait_until(witness.address(), lambda told: words_of(told) == {1: 'exposed', **others})
+    return fault
+
+
+def exposed_alone(hosts: Hosts, witness: Party, cases: Path) -> tuple[int, int] | None:
+    """The same, whatever is said of others."""
     found = witness.wait_for(r'\S+Z 1 exposed \d+ to \d+: (.*)')
     evidence = cases / 'node-1.evidence'
     assert found[1] == str(evidence), found[1]
-    roster = hosts.folder / 'rosters' / 'epoch-1.roster'
-    assert hosts.run('check', '--roster', str(roster), str(evidence)) == (0, 'exposed 1\n', '')
-    verdict = judge(evidence.read_bytes())
-    assert verdict.exposed == 1
+    assert_exposes(hosts, evidence)
     caller = Caller(witness.address(), WITNESS)
     assert case_of(caller, 1) == evidence.read_bytes() and case_of(caller, 2) is None
     caller.close()
-    others = {2: 'trusted', 3: 'trusted'}
-    hosts.wait_until(witness.address(), lambda told: words_of(told) == {1: 'exposed', **others})
-    return verdict.fault
+    return judge(evidence.read_bytes()).fault
+
+
+def assert_exposes(hosts: Hosts, evidence: Path):
+    """Both verifiers take a file as evidence against node 1."""
+    roster = hosts.folder / 'rosters' / 'epoch-1.roster'
+    assert hosts.run('check', '--roster', str(roster), str(evidence)) == (0, 'exposed 1\n', '')
+    assert judge(evidence.read_bytes()).exposed == 1
 
 
 def words_of(told: dict[int, tuple]) -> dict[int, str]:
@@ -197,6 +212,133 @@ def check_fork(program: str):
                 assert connection.ask(ATTRIBUTES) == owed(ATTRIBUTES)
         assert exposed(hosts, witness, cases) is None
     print('a fork between two gateways: one witness finds it')
+
+
+def two_stories(hosts: Hosts) -> list[Server]:
+    """A server that keeps two logs by the same keys, each at an address of its own."""
+    keys, roster = hosts.keys('one', 1, SERVER, HEIGHT), hosts.roster()
+    return [hosts.keep(Server(each, roster)) for each in (keys.split(), keys)]
+
+
+def tell(hosts: Hosts, name: str, nodes: str, server: Server, witness: Address):
+    """Two calls through a gateway that reports to this witness alone."""
+    gateway = hosts.gateway(name, nodes, server.address, witness)
+    connection = Connection(gateway.address()[1])
+    for _ in range(2):
+        assert connection.ask(ATTRIBUTES) == owed(ATTRIBUTES)
+
+
+def soon(holds: Callable[[], bool], what: str, seconds: float = 60):
+    """Waits until this holds."""
+    end = time.monotonic() + seconds
+    while not holds():
+        assert time.monotonic() < end, what
+        time.sleep(0.05)
+
+
+def check_meeting(program: str):
+    """A server tells two gateways two stories, and shows each of two witnesses the log that it told the gateway which
+    reports there. Neither finds anything. Once the one reaches the other both expose the server in the next meeting, also
+    where the other is the witness of checks/peer."""
+    for make in ours_and_ours, ours_and_peers:
+        with Hosts(program) as hosts:
+            usual(hosts, HEIGHT, HEIGHT - 1)
+            stories, cases = two_stories(hosts), hosts.state('near')
+            far_address, far_is_done, far_exposes = make(hosts, stories[1])
+            way = hosts.keep(Switch(far_address))
+            way.off()
+            near = hosts.witness({1: stories[0].address}, '--evidence', str(cases), '--witness', spelled(way.address))
+            tell(hosts, 'two', '2', stories[0], near.address())
+            tell(hosts, 'three', '3', stories[1], far_address)
+            hosts.wait_until(near.address(), are_trusted(7))
+            soon(far_is_done, 'the other witness audits')
+            wait_for_words(near, f'nfsacc: witness {spelled(way.address)}: the connection broke\n')
+            assert not any('exposed' in line for line in near.lines), near.lines
+            way.on()
+            started = time.monotonic()
+            near.wait_for(r'\S+Z 1 exposed \d+ to \d+: .*', patience=20)
+            soon(far_exposes, 'the other witness exposes the server', 20)
+            took = time.monotonic() - started
+            exposed_alone(hosts, near, cases)
+            assert near.said().count('nfsacc: witness ') == 1, near.said()
+    print(f'two stories that were told to two witnesses meet within a round: {took:.1f} seconds')
+
+
+def ours_and_ours(hosts: Hosts, story: Server) -> tuple[Address, Callable[[], bool], Callable[[], bool]]:
+    """A witness of ours: where it listens, whether it has audited a story, and whether it exposes the server."""
+    cases = hosts.state('far')
+    far = hosts.witness({1: story.address}, '--evidence', str(cases))
+
+    def is_done() -> bool:
+        return are_trusted(7)(hosts.ask(far.address())[1])
+
+    def exposes() -> bool:
+        found = any(re.fullmatch(r'\S+Z 1 exposed .*', line) for line in far.lines)
+        if found:
+            exposed_alone(hosts, far, cases)
+        return found
+    return far.address(), is_done, exposes
+
+
+def ours_and_peers(hosts: Hosts, story: Server) -> tuple[Address, Callable[[], bool], Callable[[], bool]]:
+    """The same of a witness of checks/peer."""
+    far = hosts.keep(Witness(hosts.roster()))
+
+    def is_done() -> bool:
+        assert far.round({1: story.address}) == {}
+        return far.books[1].end >= 7
+
+    def exposes() -> bool:
+        file = far.evidence(1)
+        if file is not None:
+            (hosts.folder / 'far.evidence').write_bytes(file)
+            assert_exposes(hosts, hosts.folder / 'far.evidence')
+        return file is not None
+    return far.address, is_done, exposes
+
+
+def check_bad_meetings(program: str):
+    """Other witnesses that hang, that go by another roster, that aren't there, or that show what nobody signed: audits go
+    on, and it is said once."""
+    with Hosts(program) as hosts:
+        usual(hosts, HEIGHT, HEIGHT - 1)
+        hosts.rosters(hosts.member('one', 1, SERVER, 2), hosts.member('four', 4, CLIENT, 2), name='others')
+        server = hosts.server('one')
+        silent = socket.create_server(('127.0.0.1', 0))
+        nobody = socket.create_server(('127.0.0.1', 0))
+        away = nobody.getsockname()
+        nobody.close()
+        stranger = hosts.witness({1: server.address()}, rosters='others')
+        forger = hosts.keep(Forger(hosts.roster(), hosts.keys('four', 4, CLIENT, 2)))
+        others = silent.getsockname(), away, stranger.address(), forger.address
+        witness = hosts.witness({1: server.address()}, '--witness', ','.join(map(spelled, others)))
+        gateway = hosts.gateway('two', '2', server.address(), witness.address())
+        connection = Connection(gateway.address()[1])
+        for _ in range(3):
+            assert connection.ask(ATTRIBUTES) == owed(ATTRIBUTES)
+        hosts.wait_until(witness.address(), are_trusted(last_number(server.address(), hosts)))
+        wait_for_words(witness, f'{spelled(stranger.address())}: it goes by another roster, sha256:')
+        wait_for_words(witness, f'{spelled(away)}: Connection refused')
+        soon(lambda: forger.asked > 9, 'a witness that forges is asked again')
+        hosts.wait_until(witness.address(), lambda told: set(words_of(told).values()) == {'trusted'})
+        said = [witness.said().count(f'nfsacc: witness {spelled(each)}: ') for each in others]
+        assert said[0] < 2 and said[1:] == [1, 1, 0], witness.said()
+        silent.close()
+    print('other witnesses that hang, are away, are of another roster or forge: audits go on, and each is said once')
+
+
+class Forger(Witness):
+    """It shows of each node what another key signed."""
+
+    def __init__(self, roster: Roster, keys: Keys):
+        self.signed = keys.sign(9, bytes(32))
+        self.asked = 0
+        super().__init__(roster)
+
+    def last_shown(self, arguments: bytes) -> bytes:
+        self.asked += 1
+        forged = replace(self.signed, node=Reader(arguments).word())
+        return optional_packet(AUTHENTICATOR, authenticator_text(forged))
 
 
 def liar(hosts: Hosts, lie: type[Liar]) -> Server:
@@ -364,6 +506,58 @@ def check_strangers(program: str):
     print('forty silent connections and a repeated message hold nobody off, and end after ten seconds')
 
 
+def check_put_back(program: str):
+    """A server whose state folder was put back as it was before begins an epoch again that it had begun. It ends with 6
+    once a witness asks it with its own signature, and signs nothing more. What isn't signed by it doesn't end it."""
+    with Hosts(program) as hosts:
+        usual(hosts, HEIGHT, HEIGHT - 1, '1-2')
+        server = hosts.server('one', '--audit', '127.0.0.1:0')
+        server.wait_for(f'epoch 1, {2**HEIGHT} keys made')
+        server.kill()
+        backup = (hosts.folder / 'one.spent').read_bytes()
+        server = hosts.server('one', '--audit', '127.0.0.1:0')
+        server.wait_for(f'epoch 2, {2**HEIGHT} keys made')
+        way = hosts.keep(Switch(server.address('audits')))
+        witness = hosts.witness({1: way.address})
+        gateway = hosts.gateway('two', '2', server.address(), witness.address())
+        connection = Connection(gateway.address()[1])
+        for _ in range(3):
+            assert connection.ask(ATTRIBUTES) == owed(ATTRIBUTES)
+        hosts.wait_until(witness.address(), are_trusted(11))
+        asker = Caller(witness.address(), WITNESS)
+        of_server, of_client = last_shown(asker, 1), last_shown(asker, 2)
+        asker.close()
+        gateway.kill()
+        server.kill()
+        way.off()
+        (hosts.folder / 'one.spent').write_bytes(backup)
+        server = hosts.server('one', '--audit', '127.0.0.1:0')
+        server.wait_for(f'epoch 2, {2**HEIGHT} keys made')
+        try_no_claims(server, of_server, of_client)
+        before = len(witness.lines)
+        way.on(server.address('audits'))
+        assert server.status() == OTHER, server.said()
+        line = f'nfsacc: the log was put back to an earlier one: number {of_server.word} was signed before\n'
+        assert re.fullmatch(f'{TIME} {line}', server.said()), server.said()
+        assert server.lines[-1] == 'the log was put back to an earlier one', server.lines
+        wait_for_words(witness, 'nfsacc: 1 has a log that was put back to an earlier one\n')
+        assert not any('exposed' in line for line in witness.lines[before:]), witness.lines
+    print('a server whose log was put back ends with 6 once a witness asks it, and signs nothing more')
+
+
+def try_no_claims(server: Party, of_server: Authenticator, of_client: Authenticator):
+    """A server whose log lacks all that was signed is asked for what it didn't sign: it serves on."""
+    caller = Caller(server.address(), NODE)
+    other_hash, other_number = replace(of_server, hash=bytes(32)), replace(of_server, word=of_server.word + 4)
+    for claim in other_hash, other_number, of_client, replace(of_client, node=1), replace(of_server, node=2):
+        assert not stands(caller, claim)
+    nothing = replace(of_server, word=0, hash=bytes(32))
+    assert stands(caller, nothing)
+    caller.close()
+    time.sleep(1)
+    assert server.process.poll() is None and server.said() == '', server.said()
+
+
 def check_server_keys(program: str):
     """Keys that are used up: the server ends with 5, and its next start takes the next epoch; so does one that was
     killed. Without another roster it doesn't start."""
@@ -469,6 +663,80 @@ def check_ask(program: str):
         witness.kill()
         assert hosts.ask(witness.address())[0] == DEVICE
     print('statuses of `ask`, and a witness with another roster')
+
+
+class Says(Witness):
+    """It says this of node 1, and has this file as its evidence against it."""
+
+    def __init__(self, roster: Roster, indication: int, file: bytes | None = None):
+        self.indication = indication
+        self.file = file
+        super().__init__(roster)
+
+    def told(self, arguments: bytes) -> bytes:
+        return word(self.indication, 0) + hyper(0) + hyper(0) if arguments == word(1) else super().told(arguments)
+
+    def evidence(self, node: int) -> bytes | None:
+        return self.file if node == 1 else None
+
+
+def ask_all(hosts: Hosts, witnesses: list[Address], *more: str) -> tuple[int, list[str], str]:
+    """The status of `ask` of several witnesses, its lines, and what it says on standard error."""
+    asked = ','.join(map(spelled, witnesses))
+    status, printed, said = hosts.run('ask', '--rosters', str(hosts.folder / 'rosters'), *more, asked)
+    return status, printed.splitlines(), said
+
+
+def check_ask_many(program: str):
+    """`ask` of several witnesses: all are asked, and the status is the gravest. Evidence is judged before it is put."""
+    with Hosts(program) as hosts:
+        usual(hosts, HEIGHT, HEIGHT - 1)
+        hosts.rosters(hosts.member('one', 1, SERVER, 2), hosts.member('four', 4, CLIENT, 2), name='others')
+        trusting, suspecting = (hosts.keep(Says(hosts.roster(), indication)).address for indication in (1, 2))
+        exposing = hosts.keep(Says(hosts.roster(), 3)).address
+        stranger = hosts.keep(Witness(hosts.roster(name='others'))).address
+        nobody = socket.create_server(('127.0.0.1', 0))
+        away = nobody.getsockname()
+        nobody.close()
+        for asked, owed_status in (((trusting, trusting), 0), ((trusting, suspecting), SUSPECTED), ((away, trusting), DEVICE),
+                                   ((suspecting, away), DEVICE), ((stranger, suspecting, away), OTHER),
+                                   ((away, stranger), OTHER), ((exposing, away, stranger), EXPOSED),
+                                   ((stranger, exposing, trusting), EXPOSED)):
+            status, lines, said = ask_all(hosts, list(asked), '--nodes', '1')
+            words = {trusting: 'trusted', suspecting: 'suspected', exposing: 'exposed'}
+            there = [each for each in asked if each in words]
+            assert (status, lines) == (owed_status, [f'{spelled(each)} 1 {words[each]} 0 to 0' for each in there]), lines
+            assert said.count('nfsacc: ') == len(asked) - len(there), said
+        assert ask_all(hosts, [trusting])[1][0] == '1 trusted 0 to 0'
+        assert hosts.run('ask', '--evidence', str(hosts.folder), spelled(trusting))[0] == COMMAND_LINE
+        try_evidence(hosts)
+    print('`ask` of several witnesses, and evidence that is judged before it is put')
+
+
+def try_evidence(hosts: Hosts):
+    """Evidence against node 1 is fetched where it is good."""
+    server = hosts.keep(WrongReply(hosts.keys('one', 1, SERVER, HEIGHT), hosts.roster(), at=2))
+    witness, cases = watched(hosts, server)
+    gateway = hosts.gateway('two', '2', server.address, witness.address())
+    connection = Connection(gateway.address()[1])
+    for _ in range(2):
+        connection.ask(ATTRIBUTES)
+    assert exposed(hosts, witness, cases) is not None
+    good, folder = (cases / 'node-1.evidence').read_bytes(), hosts.state('fetched')
+    put = folder / 'node-1.evidence'
+    other = bytearray(good)
+    other[len(roster_text(hosts.roster())) + 3] = 2
+    for file, words in ((None, 'it has no evidence against 1'), (b'', 'isn\'t good'), (good + bytes(4), 'isn\'t good'),
+                        (good[:-1] + bytes([good[-1] ^ 1]), 'isn\'t good'), (bytes(other), 'isn\'t good'),
+                        (bytes(5000000), '5000000 bytes, which it doesn\'t send')):
+        liar = hosts.keep(Says(hosts.roster(), 3, file))
+        status, lines, said = ask_all(hosts, [liar.address], '--evidence', str(folder))
+        assert (status, lines[0]) == (EXPOSED, '1 exposed 0 to 0') and words in said, said
+        assert said.count('nfsacc: ') == 1 and list(folder.iterdir()) == [], said
+    status, _, said = ask_all(hosts, [liar.address, witness.address()], '--evidence', str(folder))
+    assert status == EXPOSED and said.count('nfsacc: ') == 1, said
+    assert put.read_bytes() == good and list(folder.iterdir()) == [put]
+    assert ask_all(hosts, [witness.address()], '--evidence', str(folder / 'none'))[0] == DEVICE
 
 
 # ---- many calls
@@ -621,7 +889,7 @@ def check_in_flight(program: str, most: int = 4):
     print(f'{most} calls are in flight at once, and {len(calls)} get their own replies')
 
 
-def check_put_back(program: str):
+def check_gateway_put_back(program: str):
     """A gateway whose notes were put back, and that would sign its numbers again, ends with 6 before it signs."""
     with Hosts(program) as hosts:
         usual(hosts)
@@ -994,9 +1262,9 @@ def check_assured(program: str):
     print('a gateway says up to which reply each witness answers: not before it has taken what was signed, nor of a liar')
 
 
-CHECKS = [check_server, check_strangers, check_assured, check_server_keys, check_three, check_rows, check_lie, check_fork, check_none, check_other_calls, check_suspected,
+CHECKS = [check_meeting, check_bad_meetings, check_put_back, check_ask_many, check_server, check_strangers, check_assured, check_server_keys, check_three, check_rows, check_lie, check_fork, check_none, check_other_calls, check_suspected,
           check_other_witness, check_lives, check_second_roster, check_keys_used_up, check_ask,
-          check_calls, check_breaks, check_garbage, check_same_call, check_in_flight, check_put_back, check_open_message, check_rough,
+          check_calls, check_breaks, check_garbage, check_same_call, check_in_flight, check_gateway_put_back, check_open_message, check_rough,
           check_round_trips, check_away, check_give_up, check_next_epoch, check_challenge, check_ranges, check_status,
           check_log_file, check_kills]
 

@@ -84,6 +84,7 @@ pub record IsWitnessAsked (rows : List Row) (a : WitnessAsked) : Type 0 where
   pub rosters : a.rosters ≡ unwrap_or (first_of (codes "rosters") rows) []
   pub at : a.at ≡ unwrap_or (first_of (codes "at") rows) []
   pub listen : a.listen ≡ unwrap_or (first_of (codes "listen") rows) []
+  pub witness : a.witness ≡ first_of (codes "witness") rows
   pub every : a.every ≡ first_of (codes "every") rows
   pub patience : a.patience ≡ first_of (codes "patience") rows
   pub evidence : a.evidence ≡ first_of (codes "evidence") rows
@@ -103,6 +104,7 @@ witness_is words rows a none is asks =
       sym asks.rosters,
       sym asks.at,
       sym asks.listen,
+      sym asks.witness,
       sym asks.every,
       sym asks.patience,
       sym asks.evidence,
@@ -115,6 +117,7 @@ witness_is words rows a none is asks =
 pub record IsAskAsked (rows : List Row) (a : AskAsked) : Type 0 where
   pub rosters : a.rosters ≡ first_of (codes "rosters") rows
   pub nodes : a.nodes ≡ first_of (codes "nodes") rows
+  pub evidence : a.evidence ≡ first_of (codes "evidence") rows
   pub witness : a.witness ≡ unwrap_or (first_of (codes "witness") rows) []
 
 -- `ask` asks for them
@@ -128,6 +131,7 @@ ask_is words rows a none is asks =
     same = rw (
       sym asks.rosters,
       sym asks.nodes,
+      sym asks.evidence,
       sym asks.witness,
     ) refl
 

@@ -217,6 +217,7 @@ asked_by (requests.Witness r) = Witness (record {
   rosters = r.rosters.now;
   at = r.at.now;
   listen = r.listen.now;
+  witness = option_map (λ s. s.now) r.witness;
   every = option_map (λ s. s.now) r.every;
   patience = option_map (λ s. s.now) r.patience;
   evidence = option_map (λ s. s.now) r.evidence;
@@ -227,6 +228,7 @@ asked_by (requests.Witness r) = Witness (record {
 asked_by (requests.Ask r) = Ask (record {
   rosters = option_map (λ s. s.now) r.rosters;
   nodes = option_map (λ s. s.now) r.nodes;
+  evidence = option_map (λ s. s.now) r.evidence;
   witness = r.witness.now;
 })
 asked_by (requests.Stop name) = Stop name.now

@@ -5,7 +5,7 @@ use Rattle.std.specs.Net.Grammar.{IsSocketText}
 use Rattle.std.specs.declared.net.socket_addr.SocketAddr.{SocketAddr}
 use Rattle.std.specs.declared.net.socket_addr.SocketAddr.TheVariants as socket
 use Rattle.clap.specs.Walk.{Text}
-use Rattle.command_line.specs.Lists.{ArePeers, IsPeer, items_of}
+use Rattle.command_line.specs.Lists.{ArePeers, IsPeer, hosts_named, items_of}
 use Rattle.command_line.specs.MemberOrders.{WritesRange, WritesRangeOr}
 use Rattle.command_line.specs.ServeOrders.{Writes, WritesIf, WritesOr}
 use Rattle.command_line.specs.declared.host_numbers.AskOrder.{AskOrder}
@@ -49,7 +49,7 @@ pub record OrdersGateway (r : GatewayRequest) (o : GatewayOrder) : Type 0 where
   pub state : o.state ≡ r.state
   pub nodes : WritesRange 1 64 r.nodes.now o.first o.last
   pub server : IsPeer r.server.now o.server
-  pub witnesses : IfSome r.witness (λ text. map (λ s. s.now) o.witnesses.items ≡ items_of text.now)
+  pub witnesses : map (λ s. s.now) o.witnesses.items ≡ hosts_named (option_map (λ s. s.now) r.witness)
   pub listen : IfSome r.listen (λ text. IsSocketText text.now o.listen)
   pub own : HasLoopback o.listen
   pub every : WritesOr 1 86400 10 (option_map (λ s. s.now) r.every) o.every
@@ -62,6 +62,7 @@ pub record OrdersWitness (r : WitnessRequest) (o : WitnessOrder) : Type 0 where
   pub rosters : o.rosters ≡ r.rosters
   pub servers : ArePeers (items_of r.at.now) o.servers.items
   pub listen : IsSocketText r.listen.now o.listen
+  pub witnesses : map (λ s. s.now) o.witnesses.items ≡ hosts_named (option_map (λ s. s.now) r.witness)
   pub every : WritesOr 1 86400 10 (option_map (λ s. s.now) r.every) o.every
   pub patience : WritesOr 0 86400 60 (option_map (λ s. s.now) r.patience) o.patience
   pub evidence : o.evidence ≡ r.evidence
@@ -71,6 +72,7 @@ pub record OrdersWitness (r : WitnessRequest) (o : WitnessOrder) : Type 0 where
 
 -- the order of `ask`
 pub record OrdersAsk (r : AskRequest) (o : AskOrder) : Type 0 where
-  pub witness : o.witness ≡ r.witness
+  pub witnesses : map (λ s. s.now) o.witnesses.items ≡ items_of r.witness.now
   pub rosters : o.rosters ≡ r.rosters
+  pub evidence : o.evidence ≡ r.evidence
   pub nodes : WritesRangeOr 1 64 1 64 (option_map (λ s. s.now) r.nodes) o.first o.last

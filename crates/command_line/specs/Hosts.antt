@@ -92,9 +92,10 @@ gateway_asked rows = record {
 abbrev pub witness_command : App
 witness_command =
     with_rule (with_rule (with_rule (with_rule (with_rule (with_rule (with_rule (with_rule (with_rule
-    (new_app (codes "witness")) (needed_option (codes "rosters")))
+    (with_rule (new_app (codes "witness")) (needed_option (codes "rosters")))
     (needed_option (codes "at")))
     (needed_option (codes "listen")))
+    (word_option (codes "witness")))
     (word_option (codes "every")))
     (word_option (codes "patience")))
     (word_option (codes "evidence")))
@@ -107,6 +108,7 @@ pub record WitnessAsked : Type 0 where
   pub rosters : Text
   pub at : Text
   pub listen : Text
+  pub witness : Option Text
   pub every : Option Text
   pub patience : Option Text
   pub evidence : Option Text
@@ -120,6 +122,7 @@ witness_asked rows = record {
   rosters = word_in (codes "rosters") rows;
   at = word_in (codes "at") rows;
   listen = word_in (codes "listen") rows;
+  witness = first_of (codes "witness") rows;
   every = first_of (codes "every") rows;
   patience = first_of (codes "patience") rows;
   evidence = first_of (codes "evidence") rows;
@@ -131,14 +134,16 @@ witness_asked rows = record {
 -- `ask`, with its arguments
 abbrev pub ask_command : App
 ask_command =
-    with_rule (with_rule (with_rule (new_app (codes "ask")) (word_option (codes "rosters")))
+    with_rule (with_rule (with_rule (with_rule (new_app (codes "ask")) (word_option (codes "rosters")))
     (word_option (codes "nodes")))
+    (word_option (codes "evidence")))
     (word_argument (codes "witness"))
 
 -- what `ask` is asked, word by word
 pub record AskAsked : Type 0 where
   pub rosters : Option Text
   pub nodes : Option Text
+  pub evidence : Option Text
   pub witness : Text
 
 -- the same, by what was found for its arguments
@@ -146,6 +151,7 @@ abbrev pub ask_asked : List Row → AskAsked
 ask_asked rows = record {
   rosters = first_of (codes "rosters") rows;
   nodes = first_of (codes "nodes") rows;
+  evidence = first_of (codes "evidence") rows;
   witness = word_in (codes "witness") rows;
 }
 

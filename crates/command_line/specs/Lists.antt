@@ -18,6 +18,11 @@ items_left (Some rest) = items_of rest
 abbrev pub left_of : Items → List Text
 left_of items = items_left (option_map (λ s. s.now) items.rest)
 
+-- the hosts in an option's word; none without the option
+abbrev pub hosts_named : Option Text → List Text
+hosts_named None = []
+hosts_named (Some list) = items_of list
+
 -- A text names a party: its number, `=` (61), and where it listens.
 pub record IsPeer (text : Text) (p : Peer) : Type 0 where
   pub sign : position_or_len (λ b. b == 61) text < length text

@@ -6,11 +6,11 @@ ghost use Rattle.command_line.specs.HostOrders.{HasLoopback, IsNoSocket, OrdersA
 ghost use Rattle.command_line.specs.HostOrders.{OrdersServer};
 ghost use Rattle.command_line.specs.HostOrders.{OrdersWitness, SocketIf};
 ghost use Rattle.command_line.specs.MemberOrders.{WritesRangeOr};
-ghost use Rattle.command_line.specs.Lists.{ArePeers, items_of};
+ghost use Rattle.command_line.specs.Lists.{ArePeers, hosts_named, items_of};
 ghost use Rattle.command_line.specs.ServeOrders.{IsNotWithin, WritesIf, WritesOr};
 
 use crate::hosts::{AskRequest, GatewayRequest, ServerRequest, WitnessRequest};
-use crate::lists::{ListFault, Peer, hosts_of, is_host, peer_of, peers_of};
+use crate::lists::{ListFault, Peer, hosts_of, peer_of, peers_of};
 use crate::member_numbers::range_within;
 use crate::serve_numbers::number_within;
 use authenticator::MAX_NODE;
@@ -78,7 +78,9 @@ pub struct WitnessOrder<'a> {
     pub servers: Vec<Peer<'a>>,
     /// Where others connect.
     pub listen: SocketAddr,
-    /// After how many seconds servers are asked again, from 1 to 86,400.
+    /// Where other witnesses listen.
+    pub witnesses: Vec<&'a str>,
+    /// After how many seconds servers and other witnesses are asked again, from 1 to 86,400.
     pub every: u32,
     /// After how many seconds without an answer a node is said to be suspected, up to 86,400.
     pub patience: u32,
@@ -93,12 +95,14 @@ pub struct WitnessOrder<'a> {
 }
 
 /// What `nfsacc ask` is asked, with its numbers read.
-#[derive(Clone, Copy, Debug, PartialEq, Eq)]
+#[derive(Debug, Drop)]
 pub struct AskOrder<'a> {
-    /// Where the witness listens.
-    pub witness: &'a str,
-    /// The name of the folder with the rosters, one of which the witness must have, if one is named.
+    /// Where witnesses listen.
+    pub witnesses: Vec<&'a str>,
+    /// The name of the folder with the rosters, one of which each witness must have, if one is named.
     pub rosters: Option<&'a str>,
+    /// The name of the folder that evidence goes to, if one is named; then rosters are, too.
+    pub evidence: Option<&'a str>,
     /// The first number that is asked for, from 1 on.
     pub first: u32,
     /// The last number that is asked for, no less than the first and at most 64.
@@ -148,9 +152,12 @@ pub enum HostRefusal {
     /// The epoch is no decimal number from 1 to 4,294,967,295.
     #[error("--epoch is a number from 1 to 4294967295")]
     Epoch,
-    /// It isn't said where the witness listens.
-    #[error("HOST:PORT is a host's name or address, and a port from 1 to 65535")]
+    /// It isn't said where the witnesses listen.
+    #[error("HOST:PORT is a host's name or address, and a port from 1 to 65535, with commas between several")]
     Peer,
+    /// Evidence is asked for, and no rosters are named.
+    #[error("--evidence needs --rosters, by which it is judged")]
+    Unjudged,
     /// Memory was refused.
     #[error("out of memory")]
     NoMemory,
@@ -219,8 +226,8 @@ pub fn gateway_order<'a>(
     })
 }
 
-/// The order that a request makes. It is refused for the first of the servers, the address, the two numbers
-/// of seconds and the epoch that is none.
+/// The order that a request makes. It is refused for the first of the servers, the address, the witnesses, the
+/// two numbers of seconds and the epoch that is none.
 pub fn witness_order<'a>(
     alloc: Global,
     request: &WitnessRequest<'a>,
@@ -229,6 +236,7 @@ pub fn witness_order<'a>(
 {
     let servers = servers_of(alloc, request.at)?;
     let listen = socket_of(request.listen).ok_or(HostRefusal::Listen)?;
+    let others = witnesses_of(alloc, request.witness)?;
     let every = seconds_of(request.every, 1, 10).ok_or(HostRefusal::Every)?;
     let patience = seconds_of(request.patience, 0, 60).ok_or(HostRefusal::Patience)?;
     let epoch = number_if(request.epoch, HostRefusal::Epoch)?;
@@ -236,6 +244,7 @@ pub fn witness_order<'a>(
         rosters: request.rosters,
         servers,
         listen,
+        witnesses: others,
         every,
         patience,
         evidence: request.evidence,
@@ -245,19 +254,23 @@ pub fn witness_order<'a>(
     })
 }
 
-/// The order that a request makes. It is refused where it isn't said where the witness listens, and where the
-/// numbers are none.
-pub fn ask_order<'a>(request: &AskRequest<'a>) -> Result<AskOrder<'a>, HostRefusal>
+/// The order that a request makes. It is refused where it isn't said where the witnesses listen, where the
+/// numbers are none, and where evidence is asked for without rosters.
+pub fn ask_order<'a>(alloc: Global, request: &AskRequest<'a>) -> Result<AskOrder<'a>, HostRefusal>
     ensures order { IfOk result (OrdersAsk request.now) }
     ensures nodes { IfOk result (λ o. (1 ≤ o.first) × (o.first ≤ o.last) × (o.last ≤ 64)) }
+    ensures judged { IfOk result (λ o. o.rosters ≡ None → o.evidence ≡ None) }
 {
-    if !is_host(request.witness) {
-        return Err(HostRefusal::Peer);
-    }
+    let witnesses = asked_of(alloc, request.witness)?;
     let (first, last) = numbers_of(request.nodes).ok_or(HostRefusal::Nodes)?;
+    let (rosters, evidence) = (request.rosters, request.evidence);
+    if evidence.is_some() && rosters.is_none() {
+        return Err(HostRefusal::Unjudged);
+    }
     Ok(AskOrder {
-        witness: request.witness,
-        rosters: request.rosters,
+        witnesses,
+        rosters,
+        evidence,
         first,
         last,
     })
@@ -312,7 +325,8 @@ fn is_own(address: &SocketAddr) -> bool
 
 /// The witnesses in an option's word; none where it isn't given.
 fn witnesses_of<'a>(alloc: Global, word: Option<&'a str>) -> Result<Vec<&'a str>, HostRefusal>
-    ensures { IfOk result (λ v. IfSome word.entry (λ text. map (λ s. s.now) v.items ≡ items_of text.now)) }
+    ensures { IfOk result (λ v.
+        map (λ s. s.now) v.items ≡ hosts_named (option_map (λ s. s.now) word.entry)) }
 {
     let Some(word) = word else {
         return Ok(Vec::new(alloc));
@@ -320,6 +334,17 @@ fn witnesses_of<'a>(alloc: Global, word: Option<&'a str>) -> Result<Vec<&'a str>
     match hosts_of(alloc, word) {
         Ok(hosts) => Ok(hosts),
         Err(ListFault::Bad) => Err(HostRefusal::Witness),
+        Err(ListFault::NoMemory) => Err(HostRefusal::NoMemory),
+    }
+}
+
+/// The witnesses that are asked.
+fn asked_of<'a>(alloc: Global, word: &'a str) -> Result<Vec<&'a str>, HostRefusal>
+    ensures { IfOk result (λ v. map (λ s. s.now) v.items ≡ items_of word.now) }
+{
+    match hosts_of(alloc, word) {
+        Ok(hosts) => Ok(hosts),
+        Err(ListFault::Bad) => Err(HostRefusal::Peer),
         Err(ListFault::NoMemory) => Err(HostRefusal::NoMemory),
     }
 }

@@ -72,6 +72,8 @@ pub struct WitnessRequest<'a> {
     pub at: &'a str,
     /// Where others connect.
     pub listen: &'a str,
+    /// Where other witnesses listen, if some are named.
+    pub witness: Option<&'a str>,
     /// How often servers are asked, if that is given.
     pub every: Option<&'a str>,
     /// After how long without an answer a node is said to be suspected, if that is given.
@@ -93,7 +95,9 @@ pub struct AskRequest<'a> {
     pub rosters: Option<&'a str>,
     /// The first and the last number that is asked for, or one alone, if they are named.
     pub nodes: Option<&'a str>,
-    /// Where the witness listens.
+    /// The name of the folder that evidence goes to, if one is named.
+    pub evidence: Option<&'a str>,
+    /// Where witnesses listen.
     pub witness: &'a str,
 }
 
@@ -146,7 +150,11 @@ const WITNESS_AT_HELP: &str = "Where servers give out their logs: N=HOST:PORT, w
 
 const WITNESS_LISTEN_HELP: &str = "Where gateways, other witnesses and `ask` connect";
 
-const WITNESS_EVERY_HELP: &str = "How often servers are asked, 1 to 86400; 10 where it isn't given";
+const WITNESS_OTHERS_HELP: &str =
+    "Where other witnesses listen, to tell each other what was shown: HOST:PORT, with commas between";
+
+const WITNESS_EVERY_HELP: &str =
+    "How often servers and other witnesses are asked, 1 to 86400; 10 where it isn't given";
 
 const WITNESS_PATIENCE_HELP: &str =
     "After how long without an answer a node is said to be suspected, 0 to 86400; 60 where it isn't given";
@@ -160,12 +168,15 @@ const WITNESS_EPOCH_HELP: &str =
 const WITNESS_STATE_HELP: &str =
     "The folder of the control socket; nobody but its owner may use it";
 
-const ASK_ROSTERS_HELP: &str = "The folder with the rosters, one of which the witness must have";
+const ASK_ROSTERS_HELP: &str = "The folder with the rosters, one of which each witness must have";
 
 const ASK_NODES_HELP: &str =
     "The first and the last number that is asked for, as 1-9, or one alone; all where none are named";
 
-const ASK_WITNESS_HELP: &str = "Where the witness listens";
+const ASK_EVIDENCE_HELP: &str =
+    "Writes node-N.evidence to this folder where a witness has evidence that is good under a roster of --rosters";
+
+const ASK_WITNESS_HELP: &str = "Where witnesses listen: HOST:PORT, with commas between";
 
 const STOP_STATE_HELP: &str = "The folder of its control socket";
 
@@ -178,8 +189,11 @@ side can't be accepted";
 
 /// What the help of `ask` ends with.
 const ASK_NOTES: &str =
-    "Statuses: 0 all are trusted, 2 the command line, 3 no memory, 4 no connection, 6 another roster, 7 somebody is suspected, 8
-somebody is exposed";
+    "Each line is a node, what the witness says of it, how many challenges are open, and up to which number of its log it found
+it sound. Of several witnesses each line begins with where its witness listens.
+
+Statuses: 0 all are trusted, 2 the command line, 3 no memory, 4 no connection, or a device, 6 another roster, 7 somebody is
+suspected, 8 somebody is exposed. Of several it is the first of 8, 6, 4, 3 and 7";
 
 /// What the help of `status` ends with.
 const STATUS_NOTES: &str =
@@ -235,6 +249,7 @@ pub(crate) fn witness_command<'a>(alloc: Global) -> Result<Command<'a>, AllocErr
         .arg(needed_option(alloc, "rosters", "DIR", WITNESS_ROSTERS_HELP))?
         .arg(needed_option(alloc, "at", "LIST", WITNESS_AT_HELP))?
         .arg(needed_option(alloc, "listen", "ADDRESS:PORT", WITNESS_LISTEN_HELP))?
+        .arg(word_option(alloc, "witness", "LIST", WITNESS_OTHERS_HELP))?
         .arg(word_option(alloc, "every", "SECONDS", WITNESS_EVERY_HELP))?
         .arg(word_option(alloc, "patience", "SECONDS", WITNESS_PATIENCE_HELP))?
         .arg(word_option(alloc, "evidence", "DIR", WITNESS_EVIDENCE_HELP))?
@@ -248,11 +263,12 @@ pub(crate) fn ask_command<'a>(alloc: Global) -> Result<Command<'a>, AllocError>
     ensures { IfOk result (λ c. app_of c ≡ ask_command) }
 {
     Command::new(alloc, "ask")
-        .about("Asks a witness what it knows of nodes")
+        .about("Asks witnesses what they know of nodes")
         .after_help(ASK_NOTES)
         .arg(word_option(alloc, "rosters", "DIR", ASK_ROSTERS_HELP))?
         .arg(word_option(alloc, "nodes", "A-B", ASK_NODES_HELP))?
-        .arg(word_argument(alloc, "witness", "HOST:PORT", ASK_WITNESS_HELP))
+        .arg(word_option(alloc, "evidence", "DIR", ASK_EVIDENCE_HELP))?
+        .arg(word_argument(alloc, "witness", "LIST", ASK_WITNESS_HELP))
 }
 
 /// The subcommand `stop`.
@@ -337,6 +353,8 @@ fn witness_request<'a>(matches: &ArgMatches<'a>) -> WitnessRequest<'a>
     ensures rosters { result.rosters.now ≡ unwrap_or (first_of (codes "rosters") (rows_in matches.now)) [] }
     ensures at { result.at.now ≡ unwrap_or (first_of (codes "at") (rows_in matches.now)) [] }
     ensures listen { result.listen.now ≡ unwrap_or (first_of (codes "listen") (rows_in matches.now)) [] }
+    ensures witness { option_map (λ s. s.now) result.witness
+        ≡ first_of (codes "witness") (rows_in matches.now) }
     ensures every { option_map (λ s. s.now) result.every ≡ first_of (codes "every") (rows_in matches.now) }
     ensures patience { option_map (λ s. s.now) result.patience
         ≡ first_of (codes "patience") (rows_in matches.now) }
@@ -351,6 +369,7 @@ fn witness_request<'a>(matches: &ArgMatches<'a>) -> WitnessRequest<'a>
         rosters: text_of(matches, "rosters"),
         at: text_of(matches, "at"),
         listen: text_of(matches, "listen"),
+        witness: word_of(matches, "witness"),
         every: word_of(matches, "every"),
         patience: word_of(matches, "patience"),
         evidence: word_of(matches, "evidence"),
@@ -365,11 +384,15 @@ fn ask_request<'a>(matches: &ArgMatches<'a>) -> AskRequest<'a>
     ensures rosters { option_map (λ s. s.now) result.rosters
         ≡ first_of (codes "rosters") (rows_in matches.now) }
     ensures nodes { option_map (λ s. s.now) result.nodes ≡ first_of (codes "nodes") (rows_in matches.now) }
+    ensures evidence { option_map (λ s. s.now) result.evidence
+        ≡ first_of (codes "evidence") (rows_in matches.now) }
     ensures witness { result.witness.now ≡ unwrap_or (first_of (codes "witness") (rows_in matches.now)) [] }
 {
+    let evidence = word_of(matches, "evidence");
     AskRequest {
         rosters: word_of(matches, "rosters"),
         nodes: word_of(matches, "nodes"),
+        evidence,
         witness: text_of(matches, "witness"),
     }
 }

@@ -109,7 +109,7 @@ pub(crate) fn peer_of(word: &str) -> Option<Peer<'_>>
 }
 
 /// Whether a word says where somebody listens: some bytes, `:` after them, and a port from 1 to 65535.
-pub(crate) fn is_host(word: &str) -> bool {
+fn is_host(word: &str) -> bool {
     match word.rsplit_once(':') {
         Some((host, port)) => !host.is_empty() && number_within(port, 1, 65535).is_some(),
         None => false,

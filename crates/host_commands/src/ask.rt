@@ -1,16 +1,22 @@
 //! `nfsacc ask`.
 
-ghost use Rattle.std.specs.Prelude.{◌≡◌};
+ghost use Rattle.std.specs.Prelude.{◌≡◌, max};
+ghost use Rattle.host_commands.specs.Findings.{rank};
 
+use crate::cases::{Wanting, fetch_case};
+use crate::findings::Finding;
 use crate::greeting::{Side, common_roster, connect, report_call};
-use crate::opening::hold_rosters;
-use command_line::{AskOrder, AskRequest, ask_order};
+use crate::opening::{hold_rosters, try_evidence};
+use command_line::{AskOrder, AskRequest, HostRefusal, ask_order};
+use party_files::HeldRoster;
 use peer_calls::{NodeNumber, Told, WitnessRequest};
 use peer_connections::{CallFault, PeerCaller};
-use program_output::{COMMAND_LINE, EXPOSED, SUSPECTED, report_no_memory, report_output};
-use std::alloc::Global;
+use program_output::{COMMAND_LINE, report_no_memory, report_output};
+use shown_names::ShownName;
+use std::alloc::{AllocError, Global};
 use std::fs::File;
 use std::net::{Net, TcpListener, TcpStream};
+use std::random::RandomSource;
 use std::rt::Files;
 use witness_process::{Indication, NodeTold};
 use xdr::texts::{TextFault, read_text};
@@ -18,50 +24,142 @@ use xdr::texts::{TextFault, read_text};
 /// The most bytes of an answer to TOLD.
 const MOST_TOLD: u32 = 48;
 
-/// Asks a witness what it says of nodes, prints a line for each member by rising numbers, and gives the status
-/// for the worst of them: 0 where all are trusted, 7 where one is suspected, 8 where one is exposed.
+/// Asks witnesses what they say of nodes, prints a line for each member by rising numbers, and gives the status for the
+/// gravest finding: 0 where all are trusted, 7 where one is suspected, that of a witness that can't be asked, 8 where one
+/// is exposed. All witnesses are asked.
 pub fn ask_witness<R>(rt: &R, request: &AskRequest<'_>) -> u8
 where
-    R: Files<File = File> + Print + Eprint + AllocGlobal + Clone + Drop,
+    R: Files<File = File> + Print + Eprint + AllocGlobal + RandomSource + Clone + Drop,
     R: Net<Listener = TcpListener, Stream = TcpStream>,
 {
-    let order = match ask_order(request) {
+    let order = match ask_order(rt.alloc(), request) {
         Ok(order) => order,
+        Err(HostRefusal::NoMemory) => return report_no_memory(rt),
         Err(refusal) => {
             let _ = eprintln!(rt; "nfsacc: {refusal}");
             return COMMAND_LINE;
         }
     };
     match ask_by_order(rt, &order) {
-        Ok(worst) => status_of(worst),
+        Ok(worst) => worst.status(),
         Err(status) => status,
     }
 }
 
-/// Asks by an order, and gives the worst indication of those that were printed.
-fn ask_by_order<R>(rt: &R, order: &AskOrder<'_>) -> Result<Indication, u8>
+/// Asks by an order, and gives the gravest finding.
+fn ask_by_order<R>(rt: &R, order: &AskOrder<'_>) -> Result<Finding, u8>
 where
-    R: Files<File = File> + Print + Eprint + AllocGlobal + Clone + Drop,
+    R: Files<File = File> + Print + Eprint + AllocGlobal + RandomSource + Clone + Drop,
     R: Net<Listener = TcpListener, Stream = TcpStream>,
 {
-    let mut caller = connect(rt, order.witness)?;
-    if let Some(folder) = order.rosters {
-        let rosters = hold_rosters(rt, folder)?;
-        let side = Side::Witness;
-        common_roster(rt, &mut caller, side, order.witness, rosters.as_slice())?;
+    let rosters = match order.rosters {
+        Some(folder) => hold_rosters(rt, folder)?,
+        None => Vec::new(rt.alloc()),
+    };
+    try_evidence(rt, order.evidence)?;
+    let mut asking = Asking {
+        order,
+        rosters: rosters.as_slice(),
+        worst: Finding::Trusted,
+    };
+    for witness in order.witnesses.as_slice() {
+        asking.ask(rt, witness);
     }
-    let mut worst = Indication::Trusted;
-    for node in order.first..=order.last {
-        match told_of(rt.alloc(), &mut caller, node) {
-            Ok(Some(told)) => {
-                print_told(rt, &told)?;
-                worst = worse_of(worst, told.indication);
-            }
-            Ok(None) => {}
-            Err(fault) => return Err(report_call(rt, order.witness, fault)),
+    Ok(asking.worst)
+}
+
+/// What is asked, and what was found so far.
+#[derive(Drop)]
+struct Asking<'a> {
+    order: &'a AskOrder<'a>,
+    /// The rosters, of which each witness must have one; none where none are named.
+    rosters: &'a [HeldRoster],
+    /// The gravest finding.
+    worst: Finding,
+}
+
+impl<'a> Asking<'a> {
+    /// Asks a witness. What goes wrong is said, and noted.
+    fn ask<R>(&mut self, rt: &R, witness: &str)
+    where
+        R: Files<File = File> + Print + Eprint + AllocGlobal + RandomSource + Clone + Drop,
+        R: Net<Listener = TcpListener, Stream = TcpStream>,
+    {
+        if let Err(status) = self.try_ask(rt, witness) {
+            self.note(Finding::Failed(status));
         }
     }
-    Ok(worst)
+
+    /// Notes a finding.
+    fn note(&mut self, finding: Finding)
+        ensures { rank self.new.worst ≡ max (rank self.old.worst) (rank finding) }
+    {
+        self.worst = self.worst.or(finding);
+    }
+
+    /// Asks a witness of each node; or says what is wrong and gives the status for it.
+    fn try_ask<R>(&mut self, rt: &R, witness: &str) -> Result<(), u8>
+    where
+        R: Files<File = File> + Print + Eprint + AllocGlobal + RandomSource + Clone + Drop,
+        R: Net<Listener = TcpListener, Stream = TcpStream>,
+    {
+        let mut caller = connect(rt, witness)?;
+        let wanting = self.wanting(rt, &mut caller, witness)?;
+        for node in self.order.first..=self.order.last {
+            match told_of(rt.alloc(), &mut caller, node) {
+                Ok(Some(told)) => self.take(rt, &mut caller, witness, wanting, &told)?,
+                Ok(None) => {}
+                Err(fault) => return Err(report_call(rt, witness, fault)),
+            }
+        }
+        Ok(())
+    }
+
+    /// Greets a witness, where rosters are named: what evidence of it is wanted for, if it is.
+    fn wanting<R>(
+        &self,
+        rt: &R,
+        caller: &mut PeerCaller,
+        witness: &str,
+    ) -> Result<Option<Wanting<'a>>, u8>
+    where
+        R: Eprint + AllocGlobal,
+    {
+        if self.order.rosters.is_none() {
+            return Ok(None);
+        }
+        let held = common_roster(rt, caller, Side::Witness, witness, self.rosters)?;
+        match self.order.evidence {
+            Some(folder) => Ok(Some(Wanting {
+                folder,
+                roster: &held.roster,
+            })),
+            None => Ok(None),
+        }
+    }
+
+    /// Notes and prints what a witness says of a node, and takes its evidence where that is wanted.
+    fn take<R>(
+        &mut self,
+        rt: &R,
+        caller: &mut PeerCaller,
+        witness: &str,
+        wanting: Option<Wanting<'_>>,
+        told: &NodeTold,
+    ) -> Result<(), u8>
+    where
+        R: Files + Print + Eprint + AllocGlobal + RandomSource,
+    {
+        self.note(Finding::of(told.indication));
+        let is_alone = self.order.witnesses.len() == 1;
+        print_told(rt, witness, is_alone, told)?;
+        match wanting {
+            Some(wanting) if told.indication == Indication::Exposed => {
+                fetch_case(rt, caller, witness, told.node, wanting)
+            }
+            _ => Ok(()),
+        }
+    }
 }
 
 /// What the witness says of a node; none where it is no member.
@@ -96,9 +194,14 @@ fn as_told(node: u32, told: &Told) -> Result<Option<NodeTold>, CallFault> {
     }))
 }
 
-/// Prints the line of a node.
-fn print_told<R: Print + Eprint + AllocGlobal>(rt: &R, told: &NodeTold) -> Result<(), u8> {
-    let Ok(line) = told.line(rt.alloc()) else {
+/// Prints the line of a node, after the witness's address unless that one is asked alone.
+fn print_told<R: Print + Eprint + AllocGlobal>(
+    rt: &R,
+    witness: &str,
+    is_alone: bool,
+    told: &NodeTold,
+) -> Result<(), u8> {
+    let Ok(line) = line_of(rt.alloc(), witness, is_alone, told) else {
         return Err(report_no_memory(rt));
     };
     match rt.println(line.as_str()) {
@@ -107,30 +210,17 @@ fn print_told<R: Print + Eprint + AllocGlobal>(rt: &R, told: &NodeTold) -> Resul
     }
 }
 
-/// The worse of two indications.
-fn worse_of(one: Indication, other: Indication) -> Indication
-    ensures trusted { one ≡ Indication.Trusted → result ≡ other }
-    ensures exposed { one ≡ Indication.Exposed → result ≡ Indication.Exposed }
-    ensures found { other ≡ Indication.Exposed → result ≡ Indication.Exposed }
-    ensures still { other ≡ Indication.Trusted → result ≡ one }
-    ensures alike { other ≡ Indication.Suspected → one ≡ Indication.Suspected → result ≡ Indication.Suspected }
-{
-    match (one, other) {
-        (Indication::Exposed, _) | (_, Indication::Exposed) => Indication::Exposed,
-        (Indication::Suspected, _) | (_, Indication::Suspected) => Indication::Suspected,
-        _ => Indication::Trusted,
+/// The line of a node, after the witness's address unless that one is asked alone.
+fn line_of(
+    alloc: Global,
+    witness: &str,
+    is_alone: bool,
+    told: &NodeTold,
+) -> Result<String, AllocError> {
+    let line = told.line(alloc)?;
+    if is_alone {
+        return Ok(line);
     }
-}
-
-/// The status for the worst indication.
-fn status_of(worst: Indication) -> u8
-    ensures trusted { worst ≡ Indication.Trusted → result ≡ 0 }
-    ensures suspected { worst ≡ Indication.Suspected → result ≡ 7 }
-    ensures exposed { worst ≡ Indication.Exposed → result ≡ 8 }
-{
-    match worst {
-        Indication::Trusted => 0,
-        Indication::Suspected => SUSPECTED,
-        Indication::Exposed => EXPOSED,
-    }
+    let witness = ShownName::new(witness);
+    format!(in alloc; "{witness} {line}")
 }

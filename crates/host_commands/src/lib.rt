@@ -2,7 +2,9 @@
 #![tactic(auto)]
 
 mod ask;
+mod cases;
 mod control;
+mod findings;
 mod gateways;
 mod greeting;
 mod keys;

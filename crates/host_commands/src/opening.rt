@@ -3,7 +3,8 @@
 use authenticator::Member;
 use node_keys::{KeyedNode, Masters};
 use party_files::{
-    Control, HeldRoster, HeldSecret, read_rosters, report_control, report_rosters, report_secret,
+    Control, FileShelf, HeldRoster, HeldSecret, read_rosters, report_control, report_rosters,
+    report_secret,
 };
 use peer_connections::{Commands, Output, OwnMemory};
 use program_output::{
@@ -14,6 +15,7 @@ use std::fs::File;
 use std::io;
 use std::io::Printer;
 use std::net::{Net, SocketAddr, TcpListener, TcpStream};
+use std::random::RandomSource;
 use std::rt::{Clock, Files};
 use std::thread::Threads;
 
@@ -100,6 +102,20 @@ where
     };
     match LogFile::open(rt, rt.alloc(), rt, name) {
         Ok(file) => Ok(Some(file)),
+        Err(error) => Err(report_file(rt, name, &error)),
+    }
+}
+
+/// That the folder for evidence takes files, if one is named, or the status for it.
+pub(crate) fn try_evidence<R>(rt: &R, folder: Option<&str>) -> Result<(), u8>
+where
+    R: Files + Eprint + AllocGlobal + RandomSource,
+{
+    let Some(name) = folder else {
+        return Ok(());
+    };
+    match FileShelf::new(rt, rt.alloc()).try_folder(name) {
+        Ok(()) => Ok(()),
         Err(error) => Err(report_file(rt, name, &error)),
     }
 }

@@ -13,7 +13,7 @@ use nodes::HonestServer;
 use party_files::{HeldRoster, HeldSecret, report_secret, stand_ins};
 use peer_connections::{Commands, OwnMemory};
 use program_output::{
-    COMMAND_LINE, DEVICE, INPUT_FAULT, KEYS_USED_UP, report_no_memory, report_words,
+    COMMAND_LINE, DEVICE, INPUT_FAULT, KEYS_USED_UP, NOT_ACCEPTED, report_no_memory, report_words,
 };
 use server_process::{Ending, host_server};
 use std::alloc::{AllocError, Global};
@@ -150,6 +150,9 @@ fn last_line(alloc: Global, ending: Ending) -> Result<String, AllocError> {
     match ending {
         Ending::Stopped => String::from_str(alloc, "stopped\n"),
         Ending::KeysUsedUp { calls } => { format!(in alloc; "keys used up after {calls} calls\n") }
+        Ending::PutBack { number: _ } => {
+            String::from_str(alloc, "the log was put back to an earlier one\n")
+        }
     }
 }
 
@@ -157,10 +160,12 @@ fn last_line(alloc: Global, ending: Ending) -> Result<String, AllocError> {
 fn status_of(ending: Ending) -> u8
     ensures stopped { ending ≡ Ending.Stopped → result ≡ 0 }
     ensures used { (calls : ℕ) → ending ≡ Ending.KeysUsedUp calls → result ≡ 5 }
+    ensures put_back { (number : ℕ) → ending ≡ Ending.PutBack number → result ≡ 6 }
 {
     match ending {
         Ending::Stopped => 0,
         Ending::KeysUsedUp { calls: _ } => KEYS_USED_UP,
+        Ending::PutBack { number: _ } => NOT_ACCEPTED,
     }
 }
 

@@ -2,12 +2,14 @@
 
 ghost use Rattle.std.specs.Prelude.{◌≡◌};
 
-use crate::opening::{commands_at, hold_rosters, listen, open_control, open_output, place_of};
+use crate::opening::{
+    commands_at, hold_rosters, listen, open_control, open_output, place_of, try_evidence,
+};
 use command_line::{HostRefusal, Peer, WitnessOrder, WitnessRequest, witness_order};
-use party_files::{Control, FileShelf, HeldRoster, stand_ins};
+use party_files::{Control, HeldRoster, stand_ins};
 use peer_connections::OwnMemory;
 use program_output::{
-    COMMAND_LINE, DEVICE, INPUT_FAULT, NO_MEMORY, report_file, report_no_memory, report_words,
+    COMMAND_LINE, DEVICE, INPUT_FAULT, NO_MEMORY, report_no_memory, report_words,
 };
 use std::alloc::{AllocError, Global};
 use std::fs::File;
@@ -68,20 +70,6 @@ where
     ended
 }
 
-/// That the folder for evidence takes files, if one is named, or the status for it.
-fn try_evidence<R>(rt: &R, folder: Option<&str>) -> Result<(), u8>
-where
-    R: Files + Eprint + AllocGlobal + RandomSource,
-{
-    let Some(name) = folder else {
-        return Ok(());
-    };
-    match FileShelf::new(rt, rt.alloc()).try_folder(name) {
-        Ok(()) => Ok(()),
-        Err(error) => Err(report_file(rt, name, &error)),
-    }
-}
-
 /// The roster of an epoch, or the one of the greatest epoch where none is named.
 fn chosen(rosters: &[HeldRoster], epoch: Option<u32>) -> Option<&HeldRoster> {
     let mut found: Option<&HeldRoster> = None;
@@ -135,6 +123,7 @@ where
         digest: held.of.digest,
         epoch,
         servers: servers.as_slice(),
+        witnesses: order.witnesses.as_slice(),
         every: order.every,
         patience: order.patience,
         evidence: order.evidence,

@@ -2,6 +2,7 @@
 #![tactic(auto)]
 
 mod locked;
+mod put_back;
 mod server;
 mod status;
 

@@ -1,11 +1,16 @@
 //! A server under a lock, which answers the requests of a connection.
 
+ghost use Rattle.std.specs.Prelude.{◌≡◌, IfSome, IsSome};
 ghost use Rattle.hosting.specs.Hosting.{IsAnsweredUnderLock};
+ghost use Rattle.request_streams.specs.Serving.{IsAnswerIf};
+ghost use Rattle.server_process.specs.PutBack.{IsPutBack};
 
+use crate::put_back::{SignedBefore, signed_before};
 use crate::server::AddressKind;
 use crate::status::{Tally, audited_to};
 use frames::Bound;
 use hosting::{Host, answer_request};
+use nfs_items::Time;
 use nodes::{Clock, HonestServer};
 use peer_connections::{Phase, Seats, Standing, end_serving};
 use request_streams::{Answerer, Outcome};
@@ -16,6 +21,75 @@ use std::sync::{Mutex, Wait};
 
 /// The keys that a call may take of a server.
 const KEYS_OF_A_CALL: u32 = 2;
+
+/// A server, and what shows that its log was put back to an earlier one, once somebody has shown it. It lies under a
+/// lock.
+#[derive(Drop)]
+pub(crate) struct Held {
+    server: HonestServer,
+    put_back: Option<SignedBefore>,
+}
+
+impl Held {
+    /// A server of which nothing was shown.
+    pub(crate) fn new(server: HonestServer) -> Held {
+        Held {
+            server,
+            put_back: None,
+        }
+    }
+
+    /// The server.
+    pub(crate) fn server(&self) -> &HonestServer {
+        &self.server
+    }
+
+    /// The entries of its log.
+    pub(crate) fn entries(&self) -> &[Entry] {
+        self.server.server().node().log().entries()
+    }
+
+    /// Why the serving is to end, if it is.
+    fn end(&self) -> Option<Phase> {
+        let is_used_up = self.server.server().node().left() < KEYS_OF_A_CALL;
+        match self.put_back {
+            Some(_) => Some(Phase::Stopping),
+            None if is_used_up => Some(Phase::KeysUsedUp),
+            None => None,
+        }
+    }
+
+    /// The number of something that the server signed and its log lacks, if it was shown that.
+    pub(crate) fn put_back(&self) -> Option<u64>
+        ensures { IfSome result IsPutBack }
+    {
+        match &self.put_back {
+            Some(signed) => Some(signed.number()),
+            None => None,
+        }
+    }
+
+    /// Answers a record. Once it was shown that the log was put back nothing is done, and no answer is given: a key that
+    /// signed before the log was put back isn't to sign again.
+    fn answer(
+        &mut self,
+        alloc: Global,
+        time: Time,
+        host: &Host,
+        bytes: &[u8],
+        out: &mut Vec<u8>,
+    ) -> Outcome
+        ensures answered { IsAnswerIf (IsAnsweredUnderLock host.now) bytes.now out.new.items result }
+        ensures ended { IsSome self.old.put_back → (self.new ≡ self.old) × (result ≡ Outcome.NoCall) }
+    {
+        if self.put_back.is_some() {
+            return Outcome::NoCall;
+        }
+        let outcome = answer_request(&mut self.server, alloc, time, host, bytes, out);
+        self.put_back = signed_before(&self.server, alloc, bytes);
+        outcome
+    }
+}
 
 /// The place that a connection holds, and the clock by which it holds it.
 #[derive(Drop)]
@@ -30,7 +104,7 @@ pub(crate) struct Seat<'a, T> {
 #[derive(Drop)]
 pub(crate) struct LockedServer<'a, R, C, T> {
     rt: &'a R,
-    server: &'a Mutex<HonestServer>,
+    held: &'a Mutex<Held>,
     clock: C,
     host: Host,
     phase: &'a Mutex<Phase>,
@@ -50,7 +124,7 @@ impl<'a, R: Wait, C: Clock, T: std::time::Clock> LockedServer<'a, R, C, T> {
     /// The server that lies under a lock, as it answers at an address.
     pub(crate) fn new(
         rt: &'a R,
-        server: &'a Mutex<HonestServer>,
+        held: &'a Mutex<Held>,
         clock: C,
         host: Host,
         phase: &'a Mutex<Phase>,
@@ -59,7 +133,7 @@ impl<'a, R: Wait, C: Clock, T: std::time::Clock> LockedServer<'a, R, C, T> {
     ) -> LockedServer<'a, R, C, T> {
         LockedServer {
             rt,
-            server,
+            held,
             clock,
             host,
             phase,
@@ -78,26 +152,21 @@ impl<'a, R, C, T> Bound for LockedServer<'a, R, C, T> {
     }
 }
 
-/// Each answer is that of a server that lay under the lock. Where it has fewer keys left than a call takes, the
-/// serving ends.
+/// Each answer is that of a server that lay under the lock. Where it has fewer keys left than a call takes, or was shown
+/// that its log was put back, the serving ends.
 impl<'a, R: Wait, C: Clock, T: std::time::Clock> Answerer for LockedServer<'a, R, C, T> {
     ghost answers = { λ l bytes text. IsAnsweredUnderLock l bytes text };
 
     fn answer(&mut self, alloc: Global, bytes: &[u8], out: &mut Vec<u8>) -> Outcome {
         let time = self.clock.now();
-        let mut server = self.server.lock(self.rt);
-        let before = server.server().node().log().entries().len();
-        let outcome = answer_request(&mut server, alloc, time, &self.host, bytes, out);
-        let standing = shown(
-            server.server().node().log().entries(),
-            before,
-            bytes,
-            self.seat.kind,
-        );
-        if server.server().node().left() < KEYS_OF_A_CALL {
-            end_serving(self.rt, self.phase, Phase::KeysUsedUp);
+        let mut held = self.held.lock(self.rt);
+        let before = held.entries().len();
+        let outcome = held.answer(alloc, time, &self.host, bytes, out);
+        let standing = shown(held.entries(), before, bytes, self.seat.kind);
+        if let Some(reason) = held.end() {
+            end_serving(self.rt, self.phase, reason);
         }
-        drop(server);
+        drop(held);
         if let Some(standing) = standing {
             self.seat.show(self.rt, standing);
         }

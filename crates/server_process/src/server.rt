@@ -1,6 +1,8 @@
 //! A server with its node: connections as they come, each in a thread of its own.
 
-use crate::locked::{LockedServer, Seat};
+ghost use Rattle.server_process.specs.PutBack.{IsEnding};
+
+use crate::locked::{Held, LockedServer, Seat};
 use crate::status::{ServerTeller, Tally, count_received};
 use frames::FrameReader;
 use hosting::Host;
@@ -46,6 +48,8 @@ pub enum Ending {
     Stopped,
     /// Its keys are used up, after it received so many messages.
     KeysUsedUp { calls: u64 },
+    /// It was shown that it signed something at this number which its log lacks: the log was put back to an earlier one.
+    PutBack { number: u64 },
 }
 
 /// What all connections of a server share.
@@ -53,7 +57,7 @@ struct Context<'a, R, T, W, E> {
     rt: &'a R,
     alloc: Global,
     clock: &'a T,
-    server: &'a Mutex<HonestServer>,
+    held: &'a Mutex<Held>,
     phase: &'a Mutex<Phase>,
     output: &'a Mutex<Output<W, E>>,
     seats: &'a Seats,
@@ -70,7 +74,8 @@ impl<'a, R, T, W, E> Clone for Context<'a, R, T, W, E> {
 impl<'a, R, T, W, E> Copy for Context<'a, R, T, W, E> {}
 
 /// Serves until the process is told to stop, or the server's keys are used up: then the calls in hand are answered
-/// first. Lines go to the output. Gives why it ended.
+/// first. It ends, too, once somebody has shown by the server's own signature that its log was put back to an earlier one:
+/// then nothing more is signed, and that is said. Lines go to the output. Gives why it ended.
 pub fn host_server<'a, R, T, L, W, E>(
     rt: &'a R,
     alloc: Global,
@@ -84,6 +89,7 @@ where
     L: OpenListener<Stream = TcpStream> + Drop + Sync,
     W: Write + Send,
     E: Write + Send,
+    ensures { IsEnding result }
 {
     let ServerOrder {
         server,
@@ -93,7 +99,7 @@ where
         audits,
         control,
     } = order;
-    let server = Mutex::new(server);
+    let held = Mutex::new(Held::new(server));
     let phase = Mutex::new(Phase::Serving);
     let tally = Mutex::new(Tally::new(epoch));
     serve_until_end(
@@ -102,14 +108,31 @@ where
         clock,
         &phase,
         output,
-        &server,
+        &held,
         &tally,
         digest,
         &listener,
         audits.as_ref(),
         control,
     );
-    end_of(rt, &phase, &server)
+    let ending = end_of(rt, &phase, &held);
+    if let Ending::PutBack { number } = ending {
+        say_put_back(rt, alloc, output, number);
+    }
+    ending
+}
+
+/// Says that the log was put back.
+fn say_put_back<R: Wait, W: Write, E: Write>(
+    rt: &R,
+    alloc: Global,
+    output: &Mutex<Output<W, E>>,
+    number: u64,
+) {
+    let line = format!(in alloc;
+        "nfsacc: the log was put back to an earlier one: number {number} was signed before\n"
+    );
+    output.lock(rt).say(line);
 }
 
 /// Serves until the process is to end, and all connections have ended.
@@ -119,7 +142,7 @@ fn serve_until_end<'a, R, T, L, W, E>(
     clock: &'a T,
     phase: &'a Mutex<Phase>,
     output: &'a Mutex<Output<W, E>>,
-    server: &'a Mutex<HonestServer>,
+    held: &'a Mutex<Held>,
     tally: &'a Mutex<Tally>,
     digest: [u8; 32],
     first: &'a L,
@@ -147,7 +170,7 @@ where
         rt,
         alloc,
         clock,
-        server,
+        held,
         phase,
         output,
         seats: &seats,
@@ -173,20 +196,26 @@ where
         rt,
         alloc,
         clock,
-        server,
+        held,
         phase,
         tally,
         ..
     } = context;
-    let teller = ServerTeller::new(rt, server, tally);
+    let teller = ServerTeller::new(rt, held, tally);
     attend(rt, alloc, clock, phase, commands, &teller);
 }
 
 /// Why the process no longer serves.
-fn end_of<R: Wait>(rt: &R, phase: &Mutex<Phase>, server: &Mutex<HonestServer>) -> Ending {
+fn end_of<R: Wait>(rt: &R, phase: &Mutex<Phase>, held: &Mutex<Held>) -> Ending
+    ensures { IsEnding result }
+{
+    let held = held.lock(rt);
+    if let Some(number) = held.put_back() {
+        return Ending::PutBack { number };
+    }
     match *phase.lock(rt) {
         Phase::KeysUsedUp => Ending::KeysUsedUp {
-            calls: count_received(server.lock(rt).server().node().log().entries()),
+            calls: count_received(held.entries()),
         },
         Phase::Serving | Phase::Stopping => Ending::Stopped,
     }
@@ -303,7 +332,7 @@ where
         clock,
         kind,
     };
-    let (server, times) = (context.server, SystemClock::new(clock));
-    let mut locked = LockedServer::new(rt, server, times, host, phase, seat, context.tally);
+    let (held, times) = (context.held, SystemClock::new(clock));
+    let mut locked = LockedServer::new(rt, held, times, host, phase, seat, context.tally);
     serve_requests(alloc, &mut locked, &mut reader, &mut writer)
 }

@@ -2,6 +2,7 @@
 
 ghost use Rattle.std.specs.Prelude.{◌≡◌, None, Some};
 
+use crate::locked::Held;
 use nodes::HonestServer;
 use peer_calls::{
     NODE_PROGRAM, NodeRequest, Segment, judge_call, read_node_request, read_results, read_segment,
@@ -91,7 +92,7 @@ pub(crate) fn count_received(entries: &[Entry]) -> u64 {
 #[derive(Drop)]
 pub(crate) struct ServerTeller<'a, R> {
     rt: &'a R,
-    server: &'a Mutex<HonestServer>,
+    held: &'a Mutex<Held>,
     tally: &'a Mutex<Tally>,
 }
 
@@ -99,10 +100,10 @@ impl<'a, R: Wait> ServerTeller<'a, R> {
     /// Who knows how this server is.
     pub(crate) fn new(
         rt: &'a R,
-        server: &'a Mutex<HonestServer>,
+        held: &'a Mutex<Held>,
         tally: &'a Mutex<Tally>,
     ) -> ServerTeller<'a, R> {
-        ServerTeller { rt, server, tally }
+        ServerTeller { rt, held, tally }
     }
 }
 
@@ -113,7 +114,7 @@ impl<R: Wait> Teller for ServerTeller<'_, R> {
             connections,
             audited,
         } = *self.tally.lock(self.rt);
-        let (node, left, calls) = numbers_of(&self.server.lock(self.rt));
+        let (node, left, calls) = numbers_of(self.held.lock(self.rt).server());
         let mut text = format!(in alloc; "kind: server\nnode: {node}\nepoch: {epoch}\n")?;
         let counts = format!(in alloc;
             "keys left: {left}\ncalls: {calls}\nconnections: {connections}\n"

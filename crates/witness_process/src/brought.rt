@@ -1,10 +1,14 @@
 //! Whose node's book a packet is for.
 
 use peer_calls::{WITNESS_PROGRAM, judge_call};
-use xdr::Reader;
+use std::alloc::{AllocError, Global};
+use xdr::{Reader, Writer};
 
 /// DELIVER.
 const DELIVER: u32 = 2;
+
+/// The number of a packet with an authenticator.
+pub(crate) const AUTHENTICATOR: u32 = 1;
 
 /// The number of a packet with an envelope: it is for the book of the receiver, which is its second word.
 const ENVELOPE: u32 = 2;
@@ -46,4 +50,17 @@ pub(crate) fn brought_by(packet: &[u8]) -> Option<Brought> {
         node,
         is_segment: number == SEGMENT || number == SEGMENT_2,
     })
+}
+
+/// Whether a packet is of this node, and a segment of its log or not.
+pub(crate) fn is_of(node: u32, is_segment: bool, packet: &[u8]) -> bool {
+    brought_by(packet) == Some(Brought { node, is_segment })
+}
+
+/// A packet: its number, and a text.
+pub(crate) fn packet_of(alloc: Global, number: u32, text: &[u8]) -> Result<Vec<u8>, AllocError> {
+    let mut packet = Vec::new(alloc);
+    packet.put_u32(number)?;
+    packet.extend_from_slice(text)?;
+    Ok(packet)
 }

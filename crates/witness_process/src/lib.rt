@@ -4,11 +4,13 @@
 mod account;
 mod answering;
 mod brought;
+mod causes;
 mod context;
 mod due;
 mod evidence;
 mod filing;
 mod links;
+mod meetings;
 mod opened;
 mod orders;
 mod printing;

@@ -1,20 +1,22 @@
 //! The connections of a witness to the servers that it audits.
 
+use crate::causes::{Cause, LastSaid, server_line};
 use crate::context::Context;
 use crate::orders::WatchedServer;
 use crate::printing::say_line;
 use hex::encode;
-use peer_calls::{Greeted, Greeting, NodeRequest, ResultsFault, read_greeted};
-use peer_connections::{CallFault, PeerCaller};
+use peer_calls::{Greeted, Greeting, NodeRequest, read_greeted, read_shown, read_stands};
+use peer_connections::PeerCaller;
 use std::alloc::{AllocError, Global};
-use std::io::{self, Write};
+use std::io::Write;
 use std::net::{Net, TcpListener, TcpStream};
 use std::sync::Wait;
 use std::time::Clock;
-use thiserror::Error;
 
-/// The most bytes of an answer to GREET.
+/// The most bytes of the answers to GREET and STANDS.
 const MOST_GREETED: u32 = 60;
+
+const MOST_STANDS: u32 = 28;
 
 /// A server that is audited, and the connection to it.
 #[derive(Drop)]
@@ -27,63 +29,8 @@ pub(crate) struct Link<'a> {
     pub(crate) caller: Option<PeerCaller>,
     /// The digest of its roster, where it greeted with another one.
     pub(crate) other: Option<[u8; 32]>,
-    /// What was said of the connection last.
-    pub(crate) said: Option<String>,
-}
-
-/// Why a server can't be audited now.
-#[derive(Clone, Copy, Debug, Error)]
-pub(crate) enum Cause {
-    /// A growth was refused.
-    #[error("out of memory")]
-    NoMemory,
-    /// There is no connection.
-    #[error("{0}")]
-    NoConnection(io::Error),
-    /// The connection ended, or brought nothing in time.
-    #[error("the connection broke")]
-    Broken,
-    /// What came is no answer.
-    #[error("an answer that is none to the call")]
-    NoAnswer,
-    /// Its log hasn't the part that is asked for.
-    #[error("its log isn't shown from {first} to {last}")]
-    NotShown { first: u64, last: u64 },
-    /// What it showed isn't what it was asked for.
-    #[error("what it showed isn't what it was asked for")]
-    Refused,
-}
-
-impl Cause {
-    /// Whether it is that a log wasn't shown as it was asked for: the connection still stands.
-    pub(crate) fn is_of_log(&self) -> bool {
-        matches!(self, Cause::NotShown { .. } | Cause::Refused)
-    }
-}
-
-impl From<AllocError> for Cause {
-    fn from(_error: AllocError) -> Cause {
-        Cause::NoMemory
-    }
-}
-
-impl From<CallFault> for Cause {
-    fn from(fault: CallFault) -> Cause {
-        match fault {
-            CallFault::NoMemory => Cause::NoMemory,
-            CallFault::Broken => Cause::Broken,
-            CallFault::NoSuccess => Cause::NoAnswer,
-        }
-    }
-}
-
-impl From<ResultsFault> for Cause {
-    fn from(fault: ResultsFault) -> Cause {
-        match fault {
-            ResultsFault::NoMemory => Cause::NoMemory,
-            ResultsFault::Garbage => Cause::NoAnswer,
-        }
-    }
+    /// What was said of it last.
+    pub(crate) said: LastSaid,
 }
 
 /// A link to each server, without a connection.
@@ -98,7 +45,7 @@ pub(crate) fn links_to<'a>(
             address: server.address,
             caller: None,
             other: None,
-            said: None,
+            said: LastSaid::nothing(),
         };
         if links.push(link).is_err() {
             return Err(AllocError);
@@ -108,8 +55,8 @@ pub(crate) fn links_to<'a>(
 }
 
 impl Link<'_> {
-    /// The connection to the server: that of the round before, or a new one, on which both have greeted. None where the
-    /// server goes by another roster, which is said.
+    /// The connection to the server: that of the round before, or a new one, on which both have greeted and what the
+    /// server signed stands in its log, by its own word. None where the server goes by another roster, which is said.
     pub(crate) fn connect<R, T, W, E, S>(
         &mut self,
         context: Context<'_, R, T, W, E, S>,
@@ -130,6 +77,7 @@ impl Link<'_> {
         match greet(context.alloc, context.digest, &mut caller)? {
             Greeted::Same => {
                 self.other = None;
+                test_standing(context, self.node, &mut caller)?;
                 Ok(Some(caller))
             }
             Greeted::Other(digest) => {
@@ -162,22 +110,12 @@ impl Link<'_> {
     )
     where
         R: Wait,
+        T: Clock,
         W: Write,
         E: Write,
     {
-        let Ok(line) = cause_line(context.alloc, self.node, self.address, cause) else {
-            return;
-        };
-        if let Some(said) = &self.said {
-            if said.as_str() == line.as_str() {
-                return;
-            }
-        }
-        context
-            .output
-            .lock(context.rt)
-            .say(String::from_str(context.alloc, &line));
-        self.said = Some(line);
+        let line = server_line(context.alloc, self.node, self.address, cause);
+        self.said.say(context, line);
     }
 }
 
@@ -188,18 +126,26 @@ fn greet(alloc: Global, digest: [u8; 32], caller: &mut PeerCaller) -> Result<Gre
     Ok(read_greeted(alloc, answer.results())?)
 }
 
+/// Asks a server whether what it showed last stands in its log: `PutBack` where it says that it doesn't.
+fn test_standing<R: Wait, T: Clock, W, E, S>(
+    context: Context<'_, R, T, W, E, S>,
+    node: u32,
+    caller: &mut PeerCaller,
+) -> Result<(), Cause> {
+    let packet = context.lock().shown(context.alloc, node)?;
+    let Some(authenticator) = read_shown(context.alloc, &packet)? else {
+        return Ok(());
+    };
+    let answer = caller.ask_node(&NodeRequest::Stands(authenticator), MOST_STANDS)?;
+    if read_stands(answer.results())? {
+        Ok(())
+    } else {
+        Err(Cause::PutBack)
+    }
+}
+
 /// That a server goes by another roster.
 fn other_line(alloc: Global, node: u32, digest: &[u8; 32]) -> Result<String, AllocError> {
     let digest = encode(alloc, digest.as_slice())?;
     format!(in alloc; "{node} greets another roster sha256:{digest}")
-}
-
-/// Why a server can't be audited.
-fn cause_line(
-    alloc: Global,
-    node: u32,
-    address: &str,
-    cause: &Cause,
-) -> Result<String, AllocError> {
-    format!(in alloc; "nfsacc: server {node} at {address}: {cause}\n")
 }

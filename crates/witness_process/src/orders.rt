@@ -23,7 +23,9 @@ pub struct WitnessOrder<'a, L, S> {
     pub epoch: u32,
     /// The servers that are audited.
     pub servers: &'a [WatchedServer<'a>],
-    /// The seconds between two rounds, at least 1.
+    /// Where other witnesses listen, as HOST:PORT.
+    pub witnesses: &'a [&'a str],
+    /// The seconds between two rounds, and between two meetings with another witness, at least 1.
     pub every: u32,
     /// A node is called suspected once a challenge to it has been open for more than so many seconds.
     pub patience: u32,

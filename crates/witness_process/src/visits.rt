@@ -1,23 +1,22 @@
 //! One visit at a server: its log is audited, and it is handed what it is to acknowledge.
 
-use crate::brought::{Brought, brought_by};
+use crate::brought::{AUTHENTICATOR, is_of, packet_of};
+use crate::causes::Cause;
 use crate::context::Context;
 use crate::filing::replay;
-use crate::links::{Cause, Link};
+use crate::links::Link;
 use challenge::Challenge;
 use envelopes::Envelope;
 use peer_calls::{
     After, Delivered, NodeRequest, Numbers, Segment, read_delivered, read_segment, read_signed,
 };
 use peer_connections::PeerCaller;
-use std::alloc::{AllocError, Global};
 use std::io::Write;
 use std::net::{Net, TcpListener, TcpStream};
 use std::sync::Wait;
 use std::thread::Threads;
 use std::time::Clock;
 use watching::Delivered as Became;
-use xdr::Writer;
 
 /// The most segments that are asked for in one visit.
 const MAX_SEGMENTS: u32 = 64;
@@ -29,9 +28,7 @@ const MOST_SEGMENT: u32 = 119_833_220;
 
 const MOST_DELIVERED: u32 = 46_340;
 
-/// The number of a packet with an authenticator, and of one with an acknowledgement.
-const AUTHENTICATOR: u32 = 1;
-
+/// The number of a packet with an acknowledgement.
 const ACK: u32 = 4;
 
 /// Visits a server. Why that failed is said, once until it changes. A connection that stood since the round before and
@@ -49,7 +46,7 @@ where
         visited = try_visit(context, link);
     }
     match visited {
-        Ok(()) => link.said = None,
+        Ok(()) => link.said.clear(),
         Err(cause) => link.note_cause(context, &cause),
     }
 }
@@ -184,17 +181,4 @@ fn ask_message<R: Wait, T: Clock, W, E, S>(
         context.lock().deliver(context.alloc, &packet)?;
     }
     Ok(())
-}
-
-/// Whether a packet is of this node, and a segment of its log or not.
-fn is_of(node: u32, is_segment: bool, packet: &[u8]) -> bool {
-    brought_by(packet) == Some(Brought { node, is_segment })
-}
-
-/// A packet: its number, and a text.
-fn packet_of(alloc: Global, number: u32, text: &[u8]) -> Result<Vec<u8>, AllocError> {
-    let mut packet = Vec::new(alloc);
-    packet.put_u32(number)?;
-    packet.extend_from_slice(text)?;
-    Ok(packet)
 }

@@ -174,6 +174,15 @@ impl Watch {
         self.standing.end(node).unwrap_or(0)
     }
 
+    /// The packet of the authenticator that a node showed last: that with the greatest number of those that were handed
+    /// in and not refused. No bytes where it showed none.
+    pub(crate) fn shown(&self, alloc: Global, node: u32) -> Result<Vec<u8>, AllocError> {
+        match self.standing.shown(node) {
+            Some(authenticator) => learn_packet(alloc, authenticator),
+            None => Ok(Vec::new(alloc)),
+        }
+    }
+
     /// Opens an audit of a node where there is something to audit: the part of its log that is asked for, also by an
     /// audit that was open before.
     pub(crate) fn audit(

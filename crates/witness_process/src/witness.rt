@@ -2,6 +2,7 @@
 
 use crate::answering::LockedWatch;
 use crate::context::Context;
+use crate::meetings::keep_meeting;
 use crate::orders::{Ending, WatchedServer, WitnessOrder};
 use crate::rounds::{catch_up, go_round, keep_up};
 use crate::status::WitnessTeller;
@@ -25,11 +26,20 @@ use watching::Shelf;
 /// The bytes that are read of a stream at once.
 const READ_AHEAD: usize = 65536;
 
-/// Audits the servers round by round and answers others, until the process is told to stop or the listener fails. What
-/// the books say of each member is said by a line whenever it has changed; other lines, as of a server that can't be
-/// reached, go to the errors. Gives why it ended. `NoMemory` comes where a growth was refused for the books or the
-/// rounds, before anything was done, where a replay couldn't be put back into the books, or for the last lines. It may take half a minute to stop, or as long as
-/// the system takes to give a connection up.
+/// Those whom a witness calls.
+#[derive(Clone, Copy)]
+struct Peers<'a> {
+    /// The servers that it audits.
+    servers: &'a [WatchedServer<'a>],
+    /// Where other witnesses listen.
+    witnesses: &'a [&'a str],
+}
+
+/// Audits the servers round by round, meets other witnesses, and answers whoever connects, until the process is told to
+/// stop or the listener fails. What the books say of each member is said by a line whenever it has changed; other lines,
+/// as of a server that can't be reached, go to the errors. Gives why it ended. `NoMemory` comes where a growth was
+/// refused for the books or the rounds, before anything was done, where a replay couldn't be put back into the books, or
+/// for the last lines. It may take half a minute to stop, or as long as the system takes to give a connection up.
 pub fn run_witness<'a, R, T, L, S, W, E>(
     rt: &'a R,
     alloc: Global,
@@ -50,6 +60,7 @@ where
         digest,
         epoch,
         servers,
+        witnesses,
         every,
         patience,
         evidence,
@@ -80,7 +91,8 @@ where
         patience,
         workers,
     };
-    run_until_end(context, servers, &listener, control);
+    let peers = Peers { servers, witnesses };
+    run_until_end(context, peers, &listener, control);
     end_of(context)
 }
 
@@ -98,7 +110,7 @@ fn open_watch<T: std::time::Clock>(
 /// Runs until the process is to end, and all threads have ended.
 fn run_until_end<'a, R, T, L, S, W, E>(
     context: Context<'a, R, T, W, E, S>,
-    servers: &'a [WatchedServer<'a>],
+    peers: Peers<'a>,
     listener: &'a L,
     control: Option<Commands<'a>>,
 )
@@ -120,7 +132,7 @@ where
         second: None,
     };
     thread::scope(thread::scope_env(), context.rt, |scope| {
-        run_threads(context, accepting, servers, control, scope)
+        run_threads(context, accepting, peers, control, scope)
     });
 }
 
@@ -128,7 +140,7 @@ where
 fn run_threads<'s, V, R, T, L, W, E, S>(
     context: Context<'s, R, T, W, E, S>,
     accepting: Accepting<'s, R, T, L, W, E>,
-    servers: &'s [WatchedServer<'s>],
+    peers: Peers<'s>,
     control: Option<Commands<'s>>,
     scope: &Scope<'s, V>,
 )
@@ -141,7 +153,8 @@ where
     E: Write + Send,
 {
     attend_control(context, control, scope);
-    start_rounds(context, servers, scope);
+    start_rounds(context, peers.servers, scope);
+    start_meetings(context, peers.witnesses, scope);
     serve_all(context, accepting, scope)
 }
 
@@ -208,6 +221,28 @@ where
     let keep = move || keep_up(context);
     if scope.spawn(keep).is_err() {
         end_without_threads(context);
+    }
+}
+
+/// Starts a thread for each other witness that is met, so that none of them holds up anything else.
+fn start_meetings<'s, V, R, T, W, E, S>(
+    context: Context<'s, R, T, W, E, S>,
+    witnesses: &'s [&'s str],
+    scope: &Scope<'s, V>,
+)
+where
+    R: Threads + Wait + Sync + Net<Listener = TcpListener, Stream = TcpStream>,
+    T: std::time::Clock + Sync,
+    S: Send,
+    W: Write + Send,
+    E: Write + Send,
+{
+    for address in witnesses {
+        let address = *address;
+        let meet = move || keep_meeting(context, address);
+        if scope.spawn(meet).is_err() {
+            return end_without_threads(context);
+        }
     }
 }
 

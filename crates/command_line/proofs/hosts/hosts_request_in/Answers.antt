@@ -69,6 +69,7 @@ returns-in-Some-subcommand_matches-2-clause-some c words none found =
       rosters = _;
       at = _;
       listen = _;
+      witness = _;
       every = _;
       patience = _;
       evidence = _;
@@ -79,6 +80,7 @@ returns-in-Some-subcommand_matches-2-clause-some c words none found =
       rosters = asked.rosters;
       at = asked.at;
       listen = asked.listen;
+      witness = asked.witness;
       every = asked.every;
       patience = asked.patience;
       evidence = asked.evidence;
@@ -92,9 +94,10 @@ returns-in-Some-subcommand_matches-3-clause-some c words none found =
     let is = found_is c.args.matches.now _ _ _ found (c.in-Some-subcommand_matches-3.ensures.found.0 refl)
     c.in-Some-subcommand_matches-3.ensures.rows in
     let asked = c.ask_request.ensures in
-    ask_is words _ (record { rosters = _; nodes = _; witness = _ }) none is (record {
+    ask_is words _ (record { rosters = _; nodes = _; evidence = _; witness = _ }) none is (record {
       rosters = asked.rosters;
       nodes = asked.nodes;
+      evidence = asked.evidence;
       witness = asked.witness;
     })
 

@@ -16,16 +16,18 @@ returns c =
     c.in_ok-arg-2.ensures.shape (search rules) ∙ ap₂ with_rule with_rosters c.needed_option-2.ensures.rule in
     let with_listen =
     c.in_ok-arg-3.ensures.shape (search rules) ∙ ap₂ with_rule with_at c.needed_option-3.ensures.rule in
-    let with_every =
+    let with_witness =
     c.in_ok-arg-4.ensures.shape (search rules) ∙ ap₂ with_rule with_listen c.word_option.ensures.rule in
+    let with_every =
+    c.in_ok-arg-5.ensures.shape (search rules) ∙ ap₂ with_rule with_witness c.word_option-2.ensures.rule in
     let with_patience =
-    c.in_ok-arg-5.ensures.shape (search rules) ∙ ap₂ with_rule with_every c.word_option-2.ensures.rule in
+    c.in_ok-arg-6.ensures.shape (search rules) ∙ ap₂ with_rule with_every c.word_option-3.ensures.rule in
     let with_evidence =
-    c.in_ok-arg-6.ensures.shape (search rules) ∙ ap₂ with_rule with_patience c.word_option-3.ensures.rule in
+    c.in_ok-arg-7.ensures.shape (search rules) ∙ ap₂ with_rule with_patience c.word_option-4.ensures.rule in
     let with_epoch =
-    c.in_ok-arg-7.ensures.shape (search rules) ∙ ap₂ with_rule with_evidence c.word_option-4.ensures.rule in
+    c.in_ok-arg-8.ensures.shape (search rules) ∙ ap₂ with_rule with_evidence c.word_option-5.ensures.rule in
     let with_state =
-    c.in_ok-arg-8.ensures.shape (search rules) ∙ ap₂ with_rule with_epoch c.word_option-5.ensures.rule in
-    IfOk-weaker c.arg-9.result _ _
+    c.in_ok-arg-9.ensures.shape (search rules) ∙ ap₂ with_rule with_epoch c.word_option-6.ensures.rule in
+    IfOk-weaker c.arg-10.result _ _
     (λ r added. added.shape (search rules)
-    ∙ ap₂ with_rule with_state c.word_option-6.ensures.rule) c.arg-9.ensures
+    ∙ ap₂ with_rule with_state c.word_option-7.ensures.rule) c.arg-10.ensures
