@@ -83,25 +83,6 @@ impl<'c, R: Wait> Locked<'c, R> {
         client.begin(alloc, bytes, text)
     }
 
-    /// Has the client take what came back for a call: none where the call doesn't stand in its log.
-    fn accept(
-        self,
-        alloc: Global,
-        call: &Pending,
-        bytes: &[u8],
-        carried: Carried,
-        texts: &mut Texts,
-    ) -> Option<Result<Option<Vec<u8>>, AcceptFault>>
-        requires { IsBegunUnderLock bytes.now call.now.number }
-        ensures exchanged { IfSome result (λ t. IfOk t (λ r.
-            IsExchangedUnderLock bytes.now (option_map (λ v. v.items) r))) }
-        ensures refused { IfSome result (λ t. IfErr t (λ why. IsUnaccepted bytes.now why)) }
-        ensures size { IfSome result (λ t. IfOk t (λ r. IfSome r (λ v. length v.items ≤ MAX_BODY))) }
-    {
-        let mut client = self.client.lock(self.rt);
-        take(&mut client, alloc, call, bytes, carried, texts)
-    }
-
     /// A call is no longer in flight.
     pub(crate) fn end(self) {
         self.client.lock(self.rt).end();
@@ -195,7 +176,10 @@ fn make_round<R: Wait, C: Courier>(
         Ok(carried) => carried,
         Err(fault) => return Err(CallFault::Uncarried(fault)),
     };
-    match locked.accept(alloc, call, bytes, carried, texts) {
+    let mut client = locked.client.lock(locked.rt);
+    let taken = take(&mut client, alloc, call, bytes, carried, texts);
+    drop(client);
+    match taken {
         Some(Ok(reply)) => {
             acknowledge(courier, texts, alloc, reply.is_some());
             Ok(Round::Answered(reply))
