@@ -17,7 +17,8 @@ use system_clock::SystemClock;
 /// The bytes that are read of a stream at once.
 const READ_AHEAD: usize = 65536;
 
-/// Serves a local program to the end of its connection, by these ways to the server. Where that comes before the end of its stream, says why.
+/// Serves a local program to the end of its connection, by these ways to the server. Where that comes before the end
+/// of its stream, says why.
 pub(crate) fn serve_program<R, T, W, E, C>(
     shared: Shared<'_, R, T, W, E>,
     ways: &[Mutex<C>],

@@ -114,7 +114,8 @@ fn end_of<R: Wait>(rt: &R, phase: &Mutex<Phase>, ending: &Mutex<Ending>) -> Endi
     }
 }
 
-/// Reports, so that no call is begun with a log that was put back, and serves what is ordered until the process is to end.
+/// Reports, so that no call is begun with a log that was put back, and serves what is ordered until the process is to
+/// end.
 fn serve_order<'a, R, T, L, W, E>(context: Context<'a, R, T, W, E>, order: GatewayOrder<'a, L>)
 where
     R: Threads + Wait + Sync + Net<Listener = TcpListener, Stream = TcpStream>,

@@ -12,8 +12,8 @@ const PATIENCE: u64 = 30;
 /// How many seconds an answer is still awaited once the process is to end.
 const GRACE: u64 = 2;
 
-/// How long the server is awaited:
-/// for 30 seconds, as long as the call isn't given up, and for two once the process is to end.
+/// How long the server is awaited: for 30 seconds, as long as the call isn't given up, and for two once the process is
+/// to end.
 #[derive(Drop)]
 pub(crate) struct Watch<'a, R, T, W, E> {
     context: Context<'a, R, T, W, E>,
