@@ -5,7 +5,7 @@ ghost use Rattle.std.specs.Prelude.{◌≡◌, ℕ};
 use crate::opening::{
     Held, commands_at, hold, keys_of, listen, open_control, open_output, place_of, roster_of,
 };
-use authenticator::{Kind, MAX_NODE, Member};
+use authenticator::{Kind, MAX_NODE, Member, Roster};
 use command_line::{ServerOrder, ServerRequest, server_order};
 use host_keys::EpochRoster;
 use node_keys::{KeyedNode, Masters};
@@ -28,6 +28,7 @@ use std::thread::Threads;
 #[derive(Drop)]
 struct BegunServer {
     server: HonestServer,
+    roster: Roster,
     of: EpochRoster,
 }
 
@@ -104,13 +105,14 @@ where
     R: Threads + Wait + Sync,
 {
     let output = Mutex::new(open_output(rt, order.log_file)?);
-    let BegunServer { server, of } = begin_server(rt, order, held)?;
+    let BegunServer { server, roster, of } = begin_server(rt, order, held)?;
     let alloc = rt.alloc();
     let line = first_lines(alloc, order, &of, server.server().node().left(), &listeners);
     output.lock(rt).line(line);
     let Listeners { first, audits } = listeners;
     let asked = server_process::ServerOrder {
         server,
+        roster,
         digest: of.digest,
         epoch: of.epoch,
         listener: first,
@@ -191,10 +193,7 @@ where
     };
     let keyed = keys_of(rt, masters, &member)?;
     match make_server(rt.alloc(), roster, keyed) {
-        Ok(server) => Ok(BegunServer {
-            server,
-            of: roster.of,
-        }),
+        Ok(begun) => Ok(begun),
         Err(AllocError) => Err(report_no_memory(rt)),
     }
 }
@@ -247,9 +246,15 @@ fn make_server(
     alloc: Global,
     held: &HeldRoster,
     keyed: KeyedNode,
-) -> Result<HonestServer, AllocError> {
+) -> Result<BegunServer, AllocError> {
+    let own = held.roster.try_clone(alloc)?;
     let roster = held.roster.try_clone(alloc)?;
-    or_refused(HonestServer::new(keyed.make_node(alloc, roster)?))
+    let server = or_refused(HonestServer::new(keyed.make_node(alloc, own)?))?;
+    Ok(BegunServer {
+        server,
+        roster,
+        of: held.of,
+    })
 }
 
 /// What was made. The types are parameters, so that the proof knows nothing of what they own.

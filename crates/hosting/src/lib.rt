@@ -2,7 +2,9 @@
 #![tactic(auto)]
 
 mod host;
+mod ready;
 mod results;
 
 pub use host::{Host, answer_request};
+pub use ready::Ready;
 pub use request_streams::Outcome;

@@ -8,8 +8,9 @@ ghost use Rattle.server_process.specs.PutBack.{IsPutBack};
 use crate::put_back::{SignedBefore, signed_before};
 use crate::server::AddressKind;
 use crate::status::{Tally, audited_to};
+use authenticator::Roster;
 use frames::Bound;
-use hosting::{Host, answer_request};
+use hosting::{Host, Ready, answer_request};
 use nfs_items::Time;
 use nodes::{Clock, HonestServer};
 use peer_connections::{Phase, Seats, Standing, end_serving};
@@ -71,12 +72,13 @@ impl Held {
 
     /// Answers a record. Once it was shown that the log was put back nothing is done, and no answer is given: a key that
     /// signed before the log was put back isn't to sign again.
-    fn answer(
+    fn answer<'r>(
         &mut self,
         alloc: Global,
         time: Time,
         host: &Host,
-        bytes: &[u8],
+        ready: Ready<'r>,
+        bytes: &'r [u8],
         out: &mut Vec<u8>,
     ) -> Outcome
         ensures answered { IsAnswerIf (IsAnsweredUnderLock host.now) bytes.now out.new.items result }
@@ -85,7 +87,7 @@ impl Held {
         if self.put_back.is_some() {
             return Outcome::NoCall;
         }
-        let outcome = answer_request(&mut self.server, alloc, time, host, bytes, out);
+        let outcome = answer_request(&mut self.server, alloc, time, host, ready, bytes, out);
         self.put_back = signed_before(&self.server, alloc, bytes);
         outcome
     }
@@ -100,13 +102,16 @@ pub(crate) struct Seat<'a, T> {
     pub(crate) kind: AddressKind,
 }
 
-/// A server under a lock, which others use too. The lock is held while one request is answered.
+/// A server under a lock, which others use too. The lock is held while one request is answered; its signature is checked
+/// before that.
 #[derive(Drop)]
 pub(crate) struct LockedServer<'a, R, C, T> {
     rt: &'a R,
     held: &'a Mutex<Held>,
     clock: C,
     host: Host,
+    /// The server's roster, by which messages are checked before the lock is taken.
+    roster: &'a Roster,
     phase: &'a Mutex<Phase>,
     seat: Seat<'a, T>,
     tally: &'a Mutex<Tally>,
@@ -127,6 +132,7 @@ impl<'a, R: Wait, C: Clock, T: std::time::Clock> LockedServer<'a, R, C, T> {
         held: &'a Mutex<Held>,
         clock: C,
         host: Host,
+        roster: &'a Roster,
         phase: &'a Mutex<Phase>,
         seat: Seat<'a, T>,
         tally: &'a Mutex<Tally>,
@@ -136,6 +142,7 @@ impl<'a, R: Wait, C: Clock, T: std::time::Clock> LockedServer<'a, R, C, T> {
             held,
             clock,
             host,
+            roster,
             phase,
             seat,
             tally,
@@ -158,10 +165,11 @@ impl<'a, R: Wait, C: Clock, T: std::time::Clock> Answerer for LockedServer<'a, R
     ghost answers = { λ l bytes text. IsAnsweredUnderLock l bytes text };
 
     fn answer(&mut self, alloc: Global, bytes: &[u8], out: &mut Vec<u8>) -> Outcome {
+        let ready = Ready::of(alloc, self.roster, bytes);
         let time = self.clock.now();
         let mut held = self.held.lock(self.rt);
         let before = held.entries().len();
-        let outcome = held.answer(alloc, time, &self.host, bytes, out);
+        let outcome = held.answer(alloc, time, &self.host, ready, bytes, out);
         let standing = shown(held.entries(), before, bytes, self.seat.kind);
         if let Some(reason) = held.end() {
             end_serving(self.rt, self.phase, reason);

@@ -4,6 +4,7 @@ ghost use Rattle.server_process.specs.PutBack.{IsEnding};
 
 use crate::locked::{Held, LockedServer, Seat};
 use crate::status::{ServerTeller, Tally, count_received};
+use authenticator::Roster;
 use frames::FrameReader;
 use hosting::Host;
 use nodes::HonestServer;
@@ -29,6 +30,8 @@ const READ_AHEAD: usize = 65536;
 pub struct ServerOrder<'a, L> {
     /// The server, with its keys.
     pub server: HonestServer,
+    /// Its roster, by which signatures are checked before the server is at hand.
+    pub roster: Roster,
     /// The digest of its roster's text.
     pub digest: [u8; 32],
     /// The epoch of that roster.
@@ -58,6 +61,7 @@ struct Context<'a, R, T, W, E> {
     alloc: Global,
     clock: &'a T,
     held: &'a Mutex<Held>,
+    roster: &'a Roster,
     phase: &'a Mutex<Phase>,
     output: &'a Mutex<Output<W, E>>,
     seats: &'a Seats,
@@ -93,6 +97,7 @@ where
 {
     let ServerOrder {
         server,
+        roster,
         digest,
         epoch,
         listener,
@@ -109,6 +114,7 @@ where
         &phase,
         output,
         &held,
+        &roster,
         &tally,
         digest,
         &listener,
@@ -143,6 +149,7 @@ fn serve_until_end<'a, R, T, L, W, E>(
     phase: &'a Mutex<Phase>,
     output: &'a Mutex<Output<W, E>>,
     held: &'a Mutex<Held>,
+    roster: &'a Roster,
     tally: &'a Mutex<Tally>,
     digest: [u8; 32],
     first: &'a L,
@@ -171,6 +178,7 @@ where
         alloc,
         clock,
         held,
+        roster,
         phase,
         output,
         seats: &seats,
@@ -333,6 +341,15 @@ where
         kind,
     };
     let (held, times) = (context.held, SystemClock::new(clock));
-    let mut locked = LockedServer::new(rt, held, times, host, phase, seat, context.tally);
+    let mut locked = LockedServer::new(
+        rt,
+        held,
+        times,
+        host,
+        context.roster,
+        phase,
+        seat,
+        context.tally,
+    );
     serve_requests(alloc, &mut locked, &mut reader, &mut writer)
 }
