@@ -1,31 +1,63 @@
 //! Bytes that are handed to a node, with what was read and checked of them before the node is at hand.
 
 ghost use Rattle.std.specs.Prelude.{◌≡◌, ◌↔◌, IsTrue};
-ghost use Rattle.xdr.specs.Texts.Text.{GivesText};
+ghost use Rattle.xdr.specs.Item.{Value};
+ghost use Rattle.xdr.specs.Texts.Text.{GivesText, Text};
 ghost use Rattle.xdr.specs.Texts.TextFault.{is_no_text};
 ghost use Rattle.authenticator.specs.Signed.{IsSignedBy, IsSignedIn};
+ghost use Rattle.envelopes.specs.Acknowledgement.{ack_text, ack_value};
+ghost use Rattle.envelopes.specs.Envelope.{envelope_text, envelope_value};
 
 use authenticator::{Member, Roster, Signs};
 use envelopes::{Ack, Envelope, acknowledged_by, sent_by};
 use secure_log::log_entries::SignatureText;
 use std::alloc::Global;
 use std::marker::Model;
-use xdr::texts::{FromText, TextFault, read_text};
+use xdr::texts::{TextFault, read_text};
 
-/// A value of which it can be checked whether a member signed what it shows.
+/// A value that is read as a whole text, and of which it can be checked whether a member signed what it shows.
 pub trait Verify: Signs {
+    /// How its values are spelled, and which of them have a text.
+    ghost text: { Text };
+
+    /// What a value says.
+    ghost value: { Self → Value text.item };
+
+    /// The value whose text the bytes are. `NotAText` comes exactly where they are the text of none, `NoMemory`
+    /// only where a growth was refused.
+    fn read(alloc: Global, bytes: &[u8]) -> Result<Self, TextFault>
+    where
+        Self: Sized,
+        ensures { GivesText is_no_text text value bytes.now result };
+
     /// Whether the member signed it. Takes no memory.
     fn is_signed_by(&self, member: &Member) -> bool
         ensures { IsTrue result ↔ IsSignedBy member.now (Self.shows self.now) };
 }
 
 impl Verify for Envelope {
+    ghost text = { envelope_text };
+
+    ghost value = { envelope_value };
+
+    fn read(alloc: Global, bytes: &[u8]) -> Result<Envelope, TextFault> {
+        read_text(alloc, bytes)
+    }
+
     fn is_signed_by(&self, member: &Member) -> bool {
         sent_by(member, self)
     }
 }
 
 impl Verify for Ack {
+    ghost text = { ack_text };
+
+    ghost value = { ack_value };
+
+    fn read(alloc: Global, bytes: &[u8]) -> Result<Ack, TextFault> {
+        read_text(alloc, bytes)
+    }
+
     fn is_signed_by(&self, member: &Member) -> bool {
         acknowledged_by(member, self)
     }
@@ -132,12 +164,12 @@ fn is_same_member(own: &Member, other: &Member) -> bool
 /// them depends on the bytes alone. Whoever has a node under a lock reads and checks them before it takes the
 /// lock.
 #[derive(Drop)]
-pub struct Incoming<'a, T: Verify + FromText<'a>> {
+pub struct Incoming<'a, T: Verify> {
     bytes: &'a [u8],
     read: Option<ReadValue<T>>,
 }
 
-impl<'a, T: Verify + FromText<'a>> Model for Incoming<'a, T> {
+impl<'a, T: Verify> Model for Incoming<'a, T> {
     ghost use Rattle.std.specs.Prelude.{◌≡◌, IfSome, List, ℕ, Some};
     ghost use Rattle.xdr.specs.Texts.Text.{text_at};
 
@@ -148,7 +180,7 @@ impl<'a, T: Verify + FromText<'a>> Model for Incoming<'a, T> {
     ghost invariant = { λ i. IfSome i.read (λ r. text_at T.text i.bytes.now ≡ Some (T.value r)) };
 }
 
-impl<'a, T: Verify + FromText<'a>> Incoming<'a, T> {
+impl<'a, T: Verify> Incoming<'a, T> {
     /// Bytes that aren't read yet.
     pub fn new(bytes: &'a [u8]) -> Incoming<'a, T>
         ensures { result ≡ bytes.now }
@@ -166,7 +198,7 @@ impl<'a, T: Verify + FromText<'a>> Incoming<'a, T> {
     /// The value whose text they are: `NotAText` comes exactly where they are the text of none, `NoMemory` only
     /// where a growth was refused. Nothing is read again.
     pub fn read(self, alloc: Global) -> Result<ReadValue<T>, TextFault>
-        ensures { GivesText is_no_text T.text T.value self result }
+        ensures { GivesText is_no_text T.text T.value self.entry result }
     {
         match self.read {
             Some(read) => Ok(read),
@@ -176,13 +208,10 @@ impl<'a, T: Verify + FromText<'a>> Incoming<'a, T> {
 }
 
 /// The value whose text the bytes are.
-fn read_value<'a, T: Verify + FromText<'a>>(
-    alloc: Global,
-    bytes: &'a [u8],
-) -> Result<ReadValue<T>, TextFault>
+fn read_value<T: Verify>(alloc: Global, bytes: &[u8]) -> Result<ReadValue<T>, TextFault>
     ensures { GivesText is_no_text T.text T.value bytes.now result }
 {
-    match read_text::<T>(alloc, bytes) {
+    match T::read(alloc, bytes) {
         Ok(value) => Ok(ReadValue::new(value)),
         Err(fault) => Err(fault),
     }
@@ -201,8 +230,7 @@ impl<'a> Incoming<'a, Envelope> {
     ) -> Incoming<'a, Envelope>
         ensures { result ≡ bytes.now }
     {
-        let read: Result<Envelope, TextFault> = read_text(alloc, bytes);
-        let Ok(mut envelope) = read else {
+        let Ok(mut envelope) = Envelope::read(alloc, bytes) else {
             return Incoming::new(bytes);
         };
         envelope.signature.keep_digest(shown);
@@ -217,8 +245,7 @@ impl<'a> Incoming<'a, Ack> {
     pub fn ack(alloc: Global, roster: &Roster, bytes: &'a [u8]) -> Incoming<'a, Ack>
         ensures { result ≡ bytes.now }
     {
-        let read: Result<Ack, TextFault> = read_text(alloc, bytes);
-        let Ok(ack) = read else {
+        let Ok(ack) = Ack::read(alloc, bytes) else {
             return Incoming::new(bytes);
         };
         let read = Some(ReadValue::judged(ack, roster));

@@ -142,11 +142,11 @@ pub(crate) fn receive(
     time: Time,
     text: Incoming<'_, Envelope>,
 ) -> Result<Receipt, LinkFault>
-    ensures receives { (e : Envelope) → Finds (receiver_of server.old) text e None →
+    ensures receives { (e : Envelope) → Finds (receiver_of server.old) text.entry e None →
         ReceivesNew server.old time e result server.new }
-    ensures told { (e : Envelope) → IsText envelope_text (envelope_value e) text →
-        MayReceive server.old time text e result server.new }
-    ensures addressed { (e : Envelope) → IsText envelope_text (envelope_value e) text →
+    ensures told { (e : Envelope) → IsText envelope_text (envelope_value e) text.entry →
+        MayReceive server.old time text.entry e result server.new }
+    ensures addressed { (e : Envelope) → IsText envelope_text (envelope_value e) text.entry →
         OnOk result (e.to ≡ server.old.node) }
     ensures strayed { server.new.strayed ≡ server.old.strayed }
     ensures sender { IsSender (sender_of server.new) }
@@ -167,10 +167,10 @@ pub(crate) fn take_reply(
     alloc: Global,
     text: Incoming<'_, Envelope>,
 ) -> Result<(), LinkFault>
-    ensures takes { (e : Envelope) → Finds (receiver_of client.old) text e None →
+    ensures takes { (e : Envelope) → Finds (receiver_of client.old) text.entry e None →
         TakesNew client.old e result client.new }
-    ensures told { (e : Envelope) → IsText envelope_text (envelope_value e) text →
-        MayTake client.old text e result client.new }
+    ensures told { (e : Envelope) → IsText envelope_text (envelope_value e) text.entry →
+        MayTake client.old text.entry e result client.new }
     ensures sender { IsSender (sender_of client.new) }
 {
     let taken = client.take_incoming(alloc, text);
@@ -202,9 +202,9 @@ pub(crate) fn take_ack<R: Role>(
     alloc: Global,
     text: Incoming<'_, Ack>,
 ) -> Result<(), LinkFault>
-    ensures takes { (a : Ack) → IsText ack_text (ack_value a) text → IsAccepted node.old a →
+    ensures takes { (a : Ack) → IsText ack_text (ack_value a) text.entry → IsAccepted node.old a →
         TakesAwaited node.old a result node.new }
-    ensures told { (a : Ack) → IsText ack_text (ack_value a) text → MayTakeAck node.old a result node.new }
+    ensures told { (a : Ack) → IsText ack_text (ack_value a) text.entry → MayTakeAck node.old a result node.new }
     ensures strayed { node.new.strayed ≡ node.old.strayed }
 {
     ack_taken(node.take_incoming_ack(alloc, text))

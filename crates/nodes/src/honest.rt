@@ -93,13 +93,13 @@ impl HonestServer {
     ) -> Result<Option<Vec<u8>>, LinkFault>
         ensures straight { HasNotStrayed self.old }
         ensures stays { HasNotStrayed self.new }
-        ensures answered { (e : Envelope) → IsEnvelopeText e call
+        ensures answered { (e : Envelope) → IsEnvelopeText e call.entry
             → IfOk result (λ r. IsAnswered self.old time e
             (option_map (λ v. v.items) r) ack.new.items reply.new.items self.new) }
-        ensures served { (e : Envelope) → IsEnvelopeText e call → IfOk result (λ r.
+        ensures served { (e : Envelope) → IsEnvelopeText e call.entry → IfOk result (λ r.
             IsServed self.old time e.body (option_map (λ v. v.items) r) self.new) }
-        ensures stops { (e : Envelope) → IsEnvelopeText e call → IfErr result (λ f.
-            StopsAnswering self.old time e call f self.new) }
+        ensures stops { (e : Envelope) → IsEnvelopeText e call.entry → IfErr result (λ f.
+            StopsAnswering self.old time e call.entry f self.new) }
         ensures size { IfOk result (λ r. IfSome r (λ v. length v.items ≤ MAX_BODY)) }
     {
         self.server.node().is_honest();
@@ -118,9 +118,9 @@ impl HonestServer {
     ) -> Result<(), LinkFault>
         ensures straight { HasNotStrayed self.old }
         ensures stays { HasNotStrayed self.new }
-        ensures takes { (a : Ack) → IsTextOfAck a text → IsAccepted self.old a →
+        ensures takes { (a : Ack) → IsTextOfAck a text.entry → IsAccepted self.old a →
             TakesAwaited self.old a result self.new }
-        ensures told { (a : Ack) → IsTextOfAck a text → MayTakeAck self.old a result self.new }
+        ensures told { (a : Ack) → IsTextOfAck a text.entry → MayTakeAck self.old a result self.new }
     {
         self.server.node().is_honest();
         let result = take_ack(&mut self.server, alloc, text);
@@ -155,7 +155,7 @@ impl HonestServer {
     ) -> Result<Received<Receipt>, Refusal>
         ensures straight { HasNotStrayed self.old }
         ensures stays { HasNotStrayed self.new }
-        ensures receives { Receives self.old time incoming result self.new }
+        ensures receives { Receives self.old time incoming.entry result self.new }
     {
         self.server.node().is_honest();
         let result = self.server.receive_incoming(alloc, time, incoming);
@@ -184,7 +184,7 @@ impl HonestServer {
     ) -> Result<AckTaken, Refusal>
         ensures straight { HasNotStrayed self.old }
         ensures stays { HasNotStrayed self.new }
-        ensures takes { TakesAck self.old incoming result self.new }
+        ensures takes { TakesAck self.old incoming.entry result self.new }
     {
         self.server.node().is_honest();
         let result = self.server.take_incoming_ack(alloc, incoming);

@@ -83,13 +83,13 @@ pub(crate) fn answer(
     reply: &mut Vec<u8>,
 ) -> Result<Option<Vec<u8>>, LinkFault>
     ensures strayed { server.new.strayed ≡ server.old.strayed }
-    ensures answered { (e : Envelope) → IsEnvelopeText e call
+    ensures answered { (e : Envelope) → IsEnvelopeText e call.entry
         → IfOk result (λ r. IsAnswered server.old time e
         (option_map (λ v. v.items) r) ack.new.items reply.new.items server.new) }
-    ensures served { server.old.lies ≡ false → (e : Envelope) → IsEnvelopeText e call → IfOk result (λ r.
+    ensures served { server.old.lies ≡ false → (e : Envelope) → IsEnvelopeText e call.entry → IfOk result (λ r.
         IsServed server.old time e.body (option_map (λ v. v.items) r) server.new) }
-    ensures stops { (e : Envelope) → IsEnvelopeText e call → IfErr result (λ f.
-        StopsAnswering server.old time e call f server.new) }
+    ensures stops { (e : Envelope) → IsEnvelopeText e call.entry → IfErr result (λ f.
+        StopsAnswering server.old time e call.entry f server.new) }
     ensures size { IfOk result (λ r. IfSome r (λ v. length v.items ≤ MAX_BODY)) }
 {
     let receipt = receive(server, alloc, time, call)?;

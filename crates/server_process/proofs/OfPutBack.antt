@@ -1,10 +1,11 @@
 -- What a server was asked with shows that its log was put back.
--- Serves: signed_before.
-use Rattle.std.proofs.Common.{ℕ, List}
+-- Serves: lost.
+use Rattle.std.proofs.Common.{ℕ, List, ◌≡◌, Ok, sym, ◌∙◌, subst}
 use Rattle.authenticator.specs.declared.authenticator.Authenticator.{Authenticator}
 use Rattle.node_logs.specs.Nodes.{NodeParts}
+use Rattle.nodes.specs.Lost.{IsLost}
 use Rattle.nodes.specs.Shareds.{HasNotStrayed}
-use Rattle.server_process.specs.PutBack.{Claims, IsLost, IsPutBack, WasSignedBefore}
+use Rattle.server_process.specs.PutBack.{Claims, IsPutBack, WasSignedBefore}
 
 pub signed_before : (n : NodeParts) (bytes : List ℕ) (a : Authenticator) (number : ℕ) → Claims bytes a
     → IsLost n a number → WasSignedBefore n bytes number

@@ -1,9 +1,9 @@
 //! A server under a lock, which answers the requests of a connection.
 
-ghost use Rattle.std.specs.Prelude.{◌≡◌, IfSome, IsSome};
+ghost use Rattle.std.specs.Prelude.{◌≡◌, ◌⊎◌, IfSome, IsSome, ℕ};
 ghost use Rattle.hosting.specs.Hosting.{IsAnsweredUnderLock};
 ghost use Rattle.request_streams.specs.Serving.{IsAnswerIf};
-ghost use Rattle.server_process.specs.PutBack.{IsPutBack};
+ghost use Rattle.server_process.specs.PutBack.{IsPutBack, WasSignedBefore};
 
 use crate::put_back::{SignedBefore, signed_before};
 use crate::server::AddressKind;
@@ -70,8 +70,9 @@ impl Held {
         }
     }
 
-    /// Answers a record. Once it was shown that the log was put back nothing is done, and no answer is given: a key that
-    /// signed before the log was put back isn't to sign again.
+    /// Answers a record. One that shows that the log was put back is answered, too; once it was shown that, nothing is
+    /// done, and no answer is given: a key that signed before the log was put back isn't to sign again. Where memory is
+    /// refused for looking at what a record shows, nothing is done, and there is no answer.
     fn answer<'r>(
         &mut self,
         alloc: Global,
@@ -83,12 +84,17 @@ impl Held {
     ) -> Outcome
         ensures answered { IsAnswerIf (IsAnsweredUnderLock host.now) bytes.now out.new.items result }
         ensures ended { IsSome self.old.put_back → (self.new ≡ self.old) × (result ≡ Outcome.NoCall) }
+        ensures shown { (number : ℕ) → WasSignedBefore self.old.server bytes.now number →
+            IsSome self.new.put_back ⊎ ((self.new ≡ self.old) × (result ≡ Outcome.NoMemory)) }
     {
         if self.put_back.is_some() {
             return Outcome::NoCall;
         }
+        let Ok(put_back) = signed_before(&self.server, alloc, bytes) else {
+            return Outcome::NoMemory;
+        };
         let outcome = answer_request(&mut self.server, alloc, time, host, ready, bytes, out);
-        self.put_back = signed_before(&self.server, alloc, bytes);
+        self.put_back = put_back;
         outcome
     }
 }
