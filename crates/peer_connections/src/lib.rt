@@ -11,6 +11,7 @@ mod output;
 mod phase;
 mod seats;
 mod stream;
+mod turns;
 
 pub use accept::{Accepting, Place};
 pub use caller::{Answer, CallFault, PeerCaller};
@@ -22,3 +23,4 @@ pub use phase::{Phase, end_serving, is_serving};
 pub use places::Standing;
 pub use seats::Seats;
 pub use stream::{PeerStream, Waiting, set_timeouts};
+pub use turns::SegmentTurns;

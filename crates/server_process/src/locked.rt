@@ -13,15 +13,31 @@ use frames::Bound;
 use hosting::{Host, Ready, answer_request};
 use nfs_items::Time;
 use nodes::{Clock, HonestServer};
-use peer_connections::{Phase, Seats, Standing, end_serving};
+use peer_connections::{
+    Phase, Seats, SegmentTurns, Standing, Waiting, end_serving, is_serving,
+};
 use request_streams::{Answerer, Outcome};
 use secure_log::log_entries::Entry;
 use std::alloc::Global;
 use std::marker::Model;
+use std::net::IpAddr;
 use std::sync::{Mutex, Wait};
+use std::time::Duration;
 
 /// The keys that a call may take of a server.
 const KEYS_OF_A_CALL: u32 = 2;
+
+/// SIGNED.
+const SIGNED: u32 = 4;
+
+/// SEGMENT.
+const SEGMENT: u32 = 5;
+
+/// How many milliseconds pass until it is looked again whether there is a turn.
+const PAUSE: u64 = 50;
+
+/// How often it is looked whether there is a turn: for 30 seconds.
+const LOOKS: u64 = 600;
 
 /// A server, and what shows that its log was put back to an earlier one, once somebody has shown it. It lies under a
 /// lock.
@@ -99,13 +115,16 @@ impl Held {
     }
 }
 
-/// The place that a connection holds, and the clock by which it holds it.
+/// The place that a connection holds, with its peer's address, and the clock by which it holds it.
 #[derive(Drop)]
 pub(crate) struct Seat<'a, T> {
     pub(crate) seats: &'a Seats,
+    pub(crate) turns: &'a SegmentTurns,
     pub(crate) id: u64,
+    pub(crate) address: IpAddr,
     pub(crate) clock: &'a T,
     pub(crate) kind: AddressKind,
+    pub(crate) waiting: &'a Mutex<Waiting>,
 }
 
 /// A server under a lock, which others use too. The lock is held while one request is answered; its signature is checked
@@ -166,11 +185,16 @@ impl<'a, R, C, T> Bound for LockedServer<'a, R, C, T> {
 }
 
 /// Each answer is that of a server that lay under the lock. Where it has fewer keys left than a call takes, or was shown
-/// that its log was put back, the serving ends.
+/// that its log was put back, the serving ends. Segments are made for two connections at a time, and for one of an
+/// address, until they are written: who has no turn within 30 seconds gets no answer.
 impl<'a, R: Wait, C: Clock, T: std::time::Clock> Answerer for LockedServer<'a, R, C, T> {
     ghost answers = { λ l bytes text. IsAnsweredUnderLock l bytes text };
 
     fn answer(&mut self, alloc: Global, bytes: &[u8], out: &mut Vec<u8>) -> Outcome {
+        self.seat.waiting.lock(self.rt).begin_answer();
+        if procedure_of(bytes) == Some(SEGMENT) && !self.seat.await_turn(self.rt, self.phase) {
+            return Outcome::NoCall;
+        }
         let ready = Ready::of(alloc, self.roster, bytes);
         let time = self.clock.now();
         let mut held = self.held.lock(self.rt);
@@ -192,6 +216,20 @@ impl<'a, R: Wait, C: Clock, T: std::time::Clock> Answerer for LockedServer<'a, R
 }
 
 impl<'a, T: std::time::Clock> Seat<'a, T> {
+    /// Waits for a turn at having a segment made and written: whether it has one.
+    fn await_turn<R: Wait>(&self, rt: &R, phase: &Mutex<Phase>) -> bool {
+        for _ in 0..LOOKS {
+            if self.turns.take(rt, self.id, self.address) {
+                return true;
+            }
+            if !is_serving(rt, phase) {
+                return false;
+            }
+            self.clock.sleep(Duration::from_millis(PAUSE));
+        }
+        false
+    }
+
     /// The connection takes another place.
     fn show<R: Wait>(&self, rt: &R, standing: Standing) {
         self.seats.show(rt, self.clock, self.id, standing);
@@ -209,10 +247,16 @@ fn shown(entries: &[Entry], before: usize, bytes: &[u8], kind: AddressKind) -> O
     }
 }
 
-/// Whether the bytes of a call are of SIGNED or of SEGMENT: their sixth word is the procedure's number.
+/// Whether the bytes of a call ask for what witnesses ask for.
 fn is_audit(bytes: &[u8]) -> bool {
-    match bytes.get(20..24) {
-        Some(word) => word == [0, 0, 0, 4].as_slice() || word == [0, 0, 0, 5].as_slice(),
+    match procedure_of(bytes) {
+        Some(procedure) => procedure == SIGNED || procedure == SEGMENT,
         None => false,
     }
+}
+
+/// The procedure of a call, by its bytes: their sixth word (RFC 5531, section 9).
+fn procedure_of(bytes: &[u8]) -> Option<u32> {
+    let word = bytes.get(20..24)?.first_chunk::<4>()?;
+    Some(u32::from_be_bytes(*word))
 }

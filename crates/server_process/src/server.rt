@@ -9,8 +9,8 @@ use frames::FrameReader;
 use hosting::Host;
 use nodes::HonestServer;
 use peer_connections::{
-    Accepting, Commands, Output, PeerStream, Phase, Place, Seats, Standing, Waiting, attend,
-    set_timeouts,
+    Accepting, Commands, Output, PeerStream, Phase, Place, Seats, SegmentTurns, Standing, Waiting,
+    attend, set_timeouts,
 };
 use request_streams::{ServeEnd, ServeFault, serve_requests};
 use rpc::records::Counting;
@@ -65,6 +65,7 @@ struct Context<'a, R, T, W, E> {
     phase: &'a Mutex<Phase>,
     output: &'a Mutex<Output<W, E>>,
     seats: &'a Seats,
+    turns: &'a SegmentTurns,
     tally: &'a Mutex<Tally>,
     digest: [u8; 32],
 }
@@ -173,6 +174,7 @@ where
         second,
     };
     let seats = Seats::new(alloc, clock);
+    let turns = SegmentTurns::new(alloc);
     let context = Context {
         rt,
         alloc,
@@ -182,6 +184,7 @@ where
         phase,
         output,
         seats: &seats,
+        turns: &turns,
         tally,
         digest,
     };
@@ -290,8 +293,9 @@ where
         return;
     };
     context.tally.lock(context.rt).opened();
-    let served = serve_records(context, &stream, kind, id);
+    let served = serve_records(context, &stream, address, kind, id);
     context.tally.lock(context.rt).closed();
+    context.turns.give_back(context.rt, id);
     context.seats.leave(context.rt, id);
     if let Err(fault) = served {
         let line = format!(in context.alloc; "nfsacc: {address}: {fault}\n");
@@ -303,6 +307,7 @@ where
 fn serve_records<R, T, W, E>(
     context: Context<'_, R, T, W, E>,
     stream: &TcpStream,
+    address: SocketAddr,
     kind: AddressKind,
     id: u64,
 ) -> Result<ServeEnd, ServeFault>
@@ -318,13 +323,14 @@ where
         clock,
         phase,
         seats,
+        turns,
         ..
     } = context;
     // Where it can't be set, replies come later, and nothing else changes.
     let _ = stream.set_nodelay(true);
     set_timeouts(stream);
     let waiting = Mutex::new(Waiting::new());
-    let input = PeerStream::new(rt, clock, stream, phase, &waiting).among(seats, id);
+    let input = PeerStream::new(rt, clock, stream, phase, &waiting).among(seats, turns, id);
     let Ok(input) = BufReader::with_capacity(alloc, READ_AHEAD, input) else {
         return Err(ServeFault::NoMemory);
     };
@@ -336,9 +342,12 @@ where
     };
     let seat = Seat {
         seats,
+        turns,
         id,
+        address: address.ip(),
         clock,
         kind,
+        waiting: &waiting,
     };
     let (held, times) = (context.held, SystemClock::new(clock));
     let mut locked = LockedServer::new(
