@@ -11,6 +11,7 @@ given, and as many by a rough way, 60 if not given. KILLS are those of the part 
 import argparse
 import os
 import re
+import select
 import shutil
 import signal
 import socket
@@ -34,7 +35,8 @@ from peer.keys import Keys  # noqa: E402
 from peer.lies import (Fork, HidesLog, Liar, NoReply, OldReply, OtherAck, OtherMember, ReceivesTwice,  # noqa: E402
                        Silent, Slow, Swapped, UnsignedAck, UnsignedReply, WrongReply, WrongXid)
 from peer.server import Server  # noqa: E402
-from peer.wire import DELIVER, GREET, NODE, WITNESS, Address, Caller, optional_packet  # noqa: E402
+from peer.wire import (DELIVER, GREET, NODE, SEGMENT, WITNESS, Address, Caller, call_text,  # noqa: E402
+                       optional_packet)
 from peer.witness import REFUSED, Witness  # noqa: E402
 from serve.calls import Calls  # noqa: E402
 from serve.client import ROOT, Connection, call, record  # noqa: E402
@@ -53,6 +55,9 @@ ATTRIBUTES = call(8, 1, ROOT)
 SAME_XID = call(7, 1, ROOT)
 CONNECTIONS = 4
 HEIGHT = 4
+LONG_LOG = 480
+SHORTEST = 10_000_000
+PATIENCE_OF_READERS = 90
 INPUT, COMMAND_LINE, DEVICE, KEYS_USED_UP, OTHER, SUSPECTED, EXPOSED = 1, 2, 4, 5, 6, 7, 8
 NO_ROOM = 4
 
@@ -504,6 +509,57 @@ def check_strangers(program: str):
         gateway.finish()
         assert server.process.poll() is None and server.said() == '', server.said()
     print('forty silent connections and a repeated message hold nobody off, and end after ten seconds')
+
+
+class SlowReader:
+    """Asks for a segment from an address of this machine, and takes next to nothing of the answer."""
+
+    def __init__(self, server: Address, own: str, last: int):
+        self.socket = socket.socket()
+        self.socket.setsockopt(socket.SOL_SOCKET, socket.SO_RCVBUF, 4096)
+        self.socket.settimeout(PATIENCE_OF_READERS)
+        self.socket.bind((own, 0))
+        self.socket.connect(server)
+        self.socket.sendall(record(call_text(1, NODE, SEGMENT, hyper(1) + hyper(last))))
+
+    def has_bytes(self, seconds: float) -> bool:
+        """Whether its answer begins so soon."""
+        return bool(select.select([self.socket], [], [], seconds)[0])
+
+    def is_cut_off(self) -> bool:
+        """Whether the connection ends before the whole answer came, once it is read."""
+        taken = 0
+        try:
+            while more := self.socket.recv(65536):
+                taken += len(more)
+        except ConnectionResetError:
+            return True
+        return taken < SHORTEST
+
+    def close(self):
+        self.socket.close()
+
+
+def check_slow_readers(program: str):
+    """Who reads a segment slowly holds up neither calls nor, but for a time, other audits: two segments are written at
+    once, one of an address, each within 30 seconds."""
+    with Hosts(program) as hosts:
+        usual(hosts, 11, 10)
+        server = hosts.server('one')
+        gateway = hosts.gateway('two', '2-2', server.address())
+        made = make_calls(gateway.address(), LONG_LOG)
+        last = last_number(server.address(), hosts)
+        slow = [hosts.keep(SlowReader(server.address(), own, last)) for own in ('127.0.0.2', '127.0.0.3')]
+        assert all(reader.has_bytes(10) for reader in slow)
+        again, third = (hosts.keep(SlowReader(server.address(), own, last)) for own in ('127.0.0.2', '127.0.0.4'))
+        assert not again.has_bytes(2) and not third.has_bytes(2)
+        began = time.monotonic()
+        made += make_calls(gateway.address(), CONNECTIONS)
+        assert time.monotonic() - began < 10
+        assert third.has_bytes(60)
+        assert all(reader.is_cut_off() for reader in slow)
+        assert len(log_of(server.address(), hosts.roster()).calls) == LONG_LOG + CONNECTIONS
+    print('two slow readers of a segment are cut off after 30 seconds; a third waits, and calls go on')
 
 
 def check_put_back(program: str):
@@ -1262,7 +1318,7 @@ def check_assured(program: str):
     print('a gateway says up to which reply each witness answers: not before it has taken what was signed, nor of a liar')
 
 
-CHECKS = [check_meeting, check_bad_meetings, check_put_back, check_ask_many, check_server, check_strangers, check_assured, check_server_keys, check_three, check_rows, check_lie, check_fork, check_none, check_other_calls, check_suspected,
+CHECKS = [check_meeting, check_bad_meetings, check_put_back, check_slow_readers, check_ask_many, check_server, check_strangers, check_assured, check_server_keys, check_three, check_rows, check_lie, check_fork, check_none, check_other_calls, check_suspected,
           check_other_witness, check_lives, check_second_roster, check_keys_used_up, check_ask,
           check_calls, check_breaks, check_garbage, check_same_call, check_in_flight, check_gateway_put_back, check_open_message, check_rough,
           check_round_trips, check_away, check_give_up, check_next_epoch, check_challenge, check_ranges, check_status,

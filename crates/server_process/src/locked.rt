@@ -36,8 +36,8 @@ const SEGMENT: u32 = 5;
 /// How many milliseconds pass until it is looked again whether there is a turn.
 const PAUSE: u64 = 50;
 
-/// How often it is looked whether there is a turn: for 30 seconds.
-const LOOKS: u64 = 600;
+/// How often it is looked whether there is a turn: for a minute.
+const LOOKS: u64 = 1200;
 
 /// A server, and what shows that its log was put back to an earlier one, once somebody has shown it. It lies under a
 /// lock.
@@ -186,7 +186,7 @@ impl<'a, R, C, T> Bound for LockedServer<'a, R, C, T> {
 
 /// Each answer is that of a server that lay under the lock. Where it has fewer keys left than a call takes, or was shown
 /// that its log was put back, the serving ends. Segments are made for two connections at a time, and for one of an
-/// address, until they are written: who has no turn within 30 seconds gets no answer.
+/// address, until they are written: who has no turn within a minute gets no answer.
 impl<'a, R: Wait, C: Clock, T: std::time::Clock> Answerer for LockedServer<'a, R, C, T> {
     ghost answers = { λ l bytes text. IsAnsweredUnderLock l bytes text };
 
