@@ -77,10 +77,9 @@ fn ask<R: Wait>(
     send_text(client, to, alloc, bytes, &mut texts.call)?;
     let shown = signature_of(client.node(), last_number(client.node()));
     let incoming = Incoming::envelope(alloc, client.node().roster(), &texts.call, shown);
-    let answered =
-        server
-            .lock(rt)
-            .answer(alloc, time, incoming, &mut texts.ack, &mut texts.reply);
+    let answered = server
+        .lock(rt)
+        .answer(alloc, time, incoming, &mut texts.ack, &mut texts.reply);
     let reply = match answered {
         Ok(reply) => reply,
         Err(fault) => return Err(fault),
