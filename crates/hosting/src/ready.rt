@@ -3,7 +3,7 @@
 ghost use Rattle.std.specs.Prelude.{◌≡◌};
 
 use authenticator::Roster;
-use commitment::Incoming;
+use commitment::{Incoming, Verify};
 use envelopes::{Ack, Envelope};
 use peer_calls::{NODE_PROGRAM, NodeRequest, judge_call, read_node_request};
 use std::alloc::Global;
@@ -52,8 +52,8 @@ impl<'a> Ready<'a> {
         ensures { result ≡ text.now }
     {
         match self {
-            Ready::Message(incoming) if incoming.is_of(text) => incoming,
-            _ => Incoming::new(text),
+            Ready::Message(incoming) => same_bytes(incoming, text),
+            Ready::Acknowledgement(_) | Ready::Nothing => Incoming::new(text),
         }
     }
 
@@ -62,8 +62,19 @@ impl<'a> Ready<'a> {
         ensures { result ≡ text.now }
     {
         match self {
-            Ready::Acknowledgement(incoming) if incoming.is_of(text) => incoming,
-            _ => Incoming::new(text),
+            Ready::Acknowledgement(incoming) => same_bytes(incoming, text),
+            Ready::Message(_) | Ready::Nothing => Incoming::new(text),
         }
+    }
+}
+
+/// A text: as it was made ready, where these are its bytes.
+fn same_bytes<'a, T: Verify>(incoming: Incoming<'a, T>, text: &'a [u8]) -> Incoming<'a, T>
+    ensures { result ≡ text.now }
+{
+    if incoming.is_of(text) {
+        incoming
+    } else {
+        Incoming::new(text)
     }
 }
