@@ -13,9 +13,7 @@ use frames::Bound;
 use hosting::{Host, Ready, answer_request};
 use nfs_items::Time;
 use nodes::{Clock, HonestServer};
-use peer_connections::{
-    Phase, Seats, SegmentTurns, Standing, Waiting, end_serving, is_serving,
-};
+use peer_connections::{Phase, Seats, SegmentTurns, Standing, Waiting, end_serving, is_serving};
 use request_streams::{Answerer, Outcome};
 use secure_log::log_entries::Entry;
 use std::alloc::Global;
