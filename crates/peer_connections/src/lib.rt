@@ -5,6 +5,7 @@
 mod accept;
 mod caller;
 mod control;
+mod failure;
 mod memory;
 mod node_connection;
 mod output;
@@ -15,6 +16,7 @@ mod stream;
 pub use accept::{Accepting, Place};
 pub use caller::{Answer, CallFault, PeerCaller};
 pub use control::{Commands, Teller, attend};
+pub use failure::ServeFailure;
 pub use memory::OwnMemory;
 pub use node_connection::{Meanwhile, NodeConnection, Sent};
 pub use output::Output;

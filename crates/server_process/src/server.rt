@@ -8,8 +8,8 @@ use frames::FrameReader;
 use hosting::Host;
 use nodes::HonestServer;
 use peer_connections::{
-    Accepting, Commands, Output, PeerStream, Phase, Place, Seats, Standing, Waiting, attend,
-    set_timeouts,
+    Accepting, Commands, Output, PeerStream, Phase, Place, Seats, ServeFailure, Standing, Waiting,
+    attend, set_timeouts,
 };
 use request_streams::{ServeEnd, ServeFault, serve_requests};
 use rpc::records::Counting;
@@ -285,8 +285,8 @@ where
     let served = serve_records(context, &stream, kind, id);
     context.tally.lock(context.rt).closed();
     context.seats.leave(context.rt, id);
-    if let Err(fault) = served {
-        let line = format!(in context.alloc; "nfsacc: {address}: {fault}\n");
+    if let Err(failure) = served {
+        let line = format!(in context.alloc; "nfsacc: {address}: {failure}\n");
         context.output.lock(context.rt).say(line);
     }
 }
@@ -297,7 +297,7 @@ fn serve_records<R, T, W, E>(
     stream: &TcpStream,
     kind: AddressKind,
     id: u64,
-) -> Result<ServeEnd, ServeFault>
+) -> Result<ServeEnd, ServeFailure>
 where
     R: Threads + Wait + Sync,
     T: std::time::Clock,
@@ -318,7 +318,7 @@ where
     let waiting = Mutex::new(Waiting::new());
     let input = PeerStream::new(rt, clock, stream, phase, &waiting).among(seats, id);
     let Ok(input) = BufReader::with_capacity(alloc, READ_AHEAD, input) else {
-        return Err(ServeFault::NoMemory);
+        return Err(ServeFailure::from(ServeFault::NoMemory));
     };
     let mut reader = FrameReader::new(Counting::new(input));
     let mut writer = Counting::new(PeerStream::new(rt, clock, stream, phase, &waiting));
@@ -334,5 +334,11 @@ where
     };
     let (held, times) = (context.held, SystemClock::new(clock));
     let mut locked = LockedServer::new(rt, held, times, host, phase, seat, context.tally);
-    serve_requests(alloc, &mut locked, &mut reader, &mut writer)
+    match serve_requests(alloc, &mut locked, &mut reader, &mut writer) {
+        Ok(end) => Ok(end),
+        Err(fault) => {
+            let read = reader.get_ref().get_ref().get_ref().last();
+            Err(ServeFailure::new(fault, read.or(writer.get_ref().last())))
+        }
+    }
 }
