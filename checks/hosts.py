@@ -15,6 +15,7 @@ import select
 import shutil
 import signal
 import socket
+import struct
 import sys
 import threading
 import time
@@ -313,7 +314,7 @@ def check_bad_meetings(program: str):
         nobody = socket.create_server(('127.0.0.1', 0))
         away = nobody.getsockname()
         nobody.close()
-        stranger = hosts.witness({1: server.address()}, rosters='others')
+        stranger = hosts.witness({1: server.address()}, '--epoch', '1', rosters='others')
         forger = hosts.keep(Forger(hosts.roster(), hosts.keys('four', 4, CLIENT, 2)))
         others = silent.getsockname(), away, stranger.address(), forger.address
         witness = hosts.witness({1: server.address()}, '--witness', ','.join(map(spelled, others)))
@@ -449,6 +450,34 @@ def check_other_witness(program: str):
         assert [ask(other.address, node).indication for node in (1, 2)] == ['trusted'] * 2
         assert ask(other.address, 1).end >= 11 and ask(other.address, 2).end > 0
     print('our gateway with the other server and the other witness')
+
+
+def check_ask_gateway(program: str):
+    """`ask --state` says after a witness's lines up to which number it assured this machine's gateway. A gateway that
+    doesn't answer is status 4, or that of what is graver."""
+    with Hosts(program) as hosts:
+        usual(hosts, HEIGHT, HEIGHT - 1)
+        state, server = hosts.state('gateway'), hosts.server('one')
+        ours, other = (hosts.witness({1: server.address()}) for _ in range(2))
+        gateway = hosts.gateway('two', '2', server.address(), ours.address(), state=state)
+        connection = Connection(gateway.address()[1])
+        for _ in range(3):
+            assert connection.ask(ATTRIBUTES) == owed(ATTRIBUTES)
+        wait_assured(hosts, state, ours.address(), lambda to: to is not None and to >= 9)
+        [line] = hosts.status_of(state)['witness']
+        words = line.removeprefix(f'{spelled(ours.address())} ')
+        more = '--nodes', '1', '--state', str(state)
+        status, lines, said = ask_all(hosts, [ours.address()], *more)
+        assert (status, lines[1:], said) == (0, [words], ''), (status, lines, said)
+        status, lines, said = ask_all(hosts, [other.address(), ours.address()], *more)
+        assert (status, len(lines), lines[2], said) == (0, 3, line, ''), (status, lines, said)
+        exposing = hosts.keep(Says(hosts.roster(), 3)).address
+        assert hosts.stop(gateway, state) == 0
+        for asked, owed_status in ([ours.address()], DEVICE), ([exposing, ours.address()], EXPOSED):
+            status, lines, said = ask_all(hosts, asked, *more)
+            assert (status, len(lines)) == (owed_status, len(asked)), (status, lines)
+            assert said.count('nfsacc: ') == 1 and said.startswith(f'nfsacc: {state}/control: '), said
+    print('`ask --state` says what witnesses assured this machine\'s gateway')
 
 
 def check_server(program: str):
@@ -645,8 +674,9 @@ def check_lives(program: str):
         secret = hosts.folder / 'one'
         assert secret.stat().st_mode & 0o777 == 0o600 and len(secret.read_bytes()) == 32
         assert hosts.run('secret', str(secret))[0] == DEVICE
-        server = hosts.server('one')
+        server = hosts.server('one', '--progress')
         address = server.address()
+        assert re.fullmatch(f'{TIME} nfsacc: epoch 1: making 128 keys\n', server.said()), server.said()
         assert 'epoch 1 node 1 roster sha256:' in Path(f'{secret}.spent').read_text()
         second = hosts.server('one')
         assert second.status() == DEVICE and second.said().startswith('nfsacc: '), second.said()
@@ -714,7 +744,7 @@ def check_ask(program: str):
         witness = hosts.witness({1: server.address()})
         assert hosts.ask(witness.address()) == (0, {node: ('trusted', 0, 0) for node in (1, 2, 3)})
         assert hosts.ask(witness.address(), rosters='others')[0] == OTHER
-        stranger = hosts.witness({1: server.address()}, rosters='others')
+        stranger = hosts.witness({1: server.address()}, '--epoch', '1', rosters='others')
         stranger.wait_for(r'(?:\S+Z )?1 greets another roster sha256:[0-9a-f]{64}')
         witness.kill()
         assert hosts.ask(witness.address())[0] == DEVICE
@@ -1122,6 +1152,83 @@ def check_next_epoch(program: str):
     print('a gateway whose server begins another epoch ends with 6')
 
 
+def check_witness_epoch(program: str):
+    """A witness goes by the roster with which a server greets: it waits for one that it has, says once why there is none,
+    and stops when it is told to. With --epoch it goes by that roster, whatever the server's is."""
+    with Hosts(program) as hosts:
+        usual(hosts, HEIGHT, HEIGHT - 1, '1-3')
+        hosts.rosters(hosts.member('one', 1, SERVER, 2), hosts.member('four', 4, CLIENT, 2), name='others')
+        server = hosts.server('one')
+        way = hosts.keep(Switch(server.address()))
+        way.off()
+        stranger = hosts.keep(Server(hosts.keys('one', 1, SERVER, 2), hosts.roster(name='others')))
+        states = [hosts.state(name) for name in ('w1', 'w2')]
+        waiting = hosts.witness({1: way.address}, state=states[0])
+        lost = hosts.witness({1: stranger.address}, state=states[1])
+        wait_for_words(waiting, f'nfsacc: server 1 at {spelled(way.address)}: ')
+        wait_for_words(lost, f'nfsacc: server 1 at {spelled(stranger.address)}: it goes by a roster that isn\'t known, sha256:')
+        told = hosts.status_of(states[0])
+        assert told.pop('memory') and told == {'kind': ['witness']}, told
+        time.sleep(3)
+        assert waiting.said().count('nfsacc: ') == lost.said().count('nfsacc: ') == 1, (waiting.said(), lost.said())
+        assert hosts.stop(lost, states[1]) == 0 and lost.lines == ['stopped'], lost.lines
+        assert waiting.lines == [], waiting.lines
+        way.on()
+        waiting.wait_for('epoch 1')
+        waiting.address()
+        both = hosts.witness({2: way.address, 1: server.address()})
+        both.wait_for('epoch 1')
+        named = hosts.witness({1: server.address()}, '--epoch', '2')
+        named.wait_for('epoch 2')
+        named.wait_for(r'(?:\S+Z )?1 greets another roster sha256:[0-9a-f]{64}')
+        time.sleep(2)
+        assert named.process.poll() is None and named.said() == '', named.said()
+        assert hosts.witness({1: server.address()}, '--epoch', '4').status() == INPUT
+    print('a witness goes by the roster with which a server greets, or by that of --epoch')
+
+
+def check_witness_next_epoch(program: str):
+    """A witness whose server begins the next epoch ends with 6, and says so; its evidence was put before. One that is begun
+    anew goes by the next epoch."""
+    with Hosts(program) as hosts:
+        usual(hosts, HEIGHT, HEIGHT - 1, '1-2')
+        liar = hosts.keep(WrongReply(hosts.keys('one', 1, SERVER, HEIGHT), hosts.roster(), at=2))
+        way, cases = hosts.keep(Switch(liar.address)), hosts.state('cases')
+        witness = hosts.witness({1: way.address}, '--evidence', str(cases))
+        witness.wait_for('epoch 1')
+        gateway = hosts.gateway('two', '2', liar.address, witness.address())
+        connection = Connection(gateway.address()[1])
+        for _ in range(2):
+            connection.ask(ATTRIBUTES)
+        exposed_alone(hosts, witness, cases)
+        later = hosts.keep(Server(hosts.keys('one', 1, SERVER, HEIGHT, 2), hosts.roster(2)))
+        way.off()
+        way.on(later.address)
+        assert witness.status() == OTHER, witness.said()
+        assert witness.lines[-1] == 'a server goes by another roster', witness.lines
+        assert re.search(f'{TIME} nfsacc: server 1 began epoch 2\n$', witness.said()), witness.said()
+        assert not any('greets another roster' in line for line in witness.lines), witness.lines
+        hosts.witness({1: way.address}).wait_for('epoch 2')
+    print('a witness whose server begins another epoch ends with 6')
+
+
+def check_resets(program: str):
+    """A peer that resets its connection within a record: a server and a witness say that it did."""
+    with Hosts(program) as hosts:
+        usual(hosts, HEIGHT, HEIGHT - 1)
+        server = hosts.server('one')
+        witness = hosts.witness({1: server.address()})
+        for party in server, witness:
+            peer = socket.create_connection(party.address())
+            peer.setsockopt(socket.SOL_SOCKET, socket.SO_LINGER, struct.pack('ii', 1, 0))
+            peer.sendall(word(0x80000028) + bytes(8))
+            time.sleep(0.5)
+            peer.close()
+            wait_for_words(party, ': connection reset\n')
+            assert 'device' not in party.said(), party.said()
+    print('a peer that resets its connection is said to have done so')
+
+
 def check_challenge(program: str):
     """A call that the server doesn't acknowledge by its signature goes to witnesses at once."""
     with Hosts(program) as hosts:
@@ -1321,7 +1428,8 @@ def check_assured(program: str):
 CHECKS = [check_meeting, check_bad_meetings, check_put_back, check_slow_readers, check_ask_many, check_server, check_strangers, check_assured, check_server_keys, check_three, check_rows, check_lie, check_fork, check_none, check_other_calls, check_suspected,
           check_other_witness, check_lives, check_second_roster, check_keys_used_up, check_ask,
           check_calls, check_breaks, check_garbage, check_same_call, check_in_flight, check_gateway_put_back, check_open_message, check_rough,
-          check_round_trips, check_away, check_give_up, check_next_epoch, check_challenge, check_ranges, check_status,
+          check_round_trips, check_away, check_give_up, check_next_epoch, check_witness_epoch, check_witness_next_epoch,
+          check_resets, check_ask_gateway, check_challenge, check_ranges, check_status,
           check_log_file, check_kills]
 
 

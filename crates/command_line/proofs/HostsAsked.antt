@@ -18,6 +18,7 @@ pub record IsServerAsked (rows : List Row) (a : ServerAsked) : Type 0 where
   pub node : a.node ≡ unwrap_or (first_of (codes "node") rows) []
   pub listen : a.listen ≡ unwrap_or (first_of (codes "listen") rows) []
   pub audit : a.audit ≡ first_of (codes "audit") rows
+  pub check_every : a.check_every ≡ first_of (codes "check-every") rows
   pub progress : is_told (codes "progress") rows ≡ true → a.progress ≡ is_set (codes "progress") rows
   pub log_file : a.log_file ≡ first_of (codes "log-file") rows
 
@@ -39,6 +40,7 @@ server_is words rows a none is asks =
       sym asks.node,
       sym asks.listen,
       sym asks.audit,
+      sym asks.check_every,
       sym progress_is,
       sym asks.log_file,
     ) refl
@@ -55,6 +57,7 @@ pub record IsGatewayAsked (rows : List Row) (a : GatewayAsked) : Type 0 where
   pub every : a.every ≡ first_of (codes "every") rows
   pub reserve : a.reserve ≡ first_of (codes "reserve") rows
   pub give_up : a.give_up ≡ first_of (codes "give-up") rows
+  pub progress : is_told (codes "progress") rows ≡ true → a.progress ≡ is_set (codes "progress") rows
   pub log_file : a.log_file ≡ first_of (codes "log-file") rows
 
 -- `gateway` asks for them
@@ -62,10 +65,13 @@ pub gateway_is : (words : List Text) (rows : List Row) (a : GatewayAsked) → fa
     → subcommand_of commands words ≡ Some (codes "gateway", rows) → IsGatewayAsked rows a
     → asked_in words ≡ Some (Gateway a)
 gateway_is words rows a none is asks =
-    asked_is words (codes "gateway") rows none is ∙ ap (λ (x : GatewayAsked). Some (Gateway x)) same
+    let progress_is = asks.progress (flag_is commands words are_plain none (codes "gateway")
+    (codes "progress") rows refl is) in
+    asked_is words (codes "gateway") rows none is
+    ∙ ap (λ (x : GatewayAsked). Some (Gateway x)) (same progress_is)
   where
-    same : gateway_asked rows ≡ a
-    same = rw (
+    same : a.progress ≡ is_set (codes "progress") rows → gateway_asked rows ≡ a
+    same progress_is = rw (
       sym asks.secret,
       sym asks.nodes,
       sym asks.server,
@@ -76,6 +82,7 @@ gateway_is words rows a none is asks =
       sym asks.every,
       sym asks.reserve,
       sym asks.give_up,
+      sym progress_is,
       sym asks.log_file,
     ) refl
 
@@ -89,6 +96,7 @@ pub record IsWitnessAsked (rows : List Row) (a : WitnessAsked) : Type 0 where
   pub patience : a.patience ≡ first_of (codes "patience") rows
   pub evidence : a.evidence ≡ first_of (codes "evidence") rows
   pub epoch : a.epoch ≡ first_of (codes "epoch") rows
+  pub join : is_told (codes "join") rows ≡ true → a.join ≡ is_set (codes "join") rows
   pub state : a.state ≡ first_of (codes "state") rows
   pub log_file : a.log_file ≡ first_of (codes "log-file") rows
 
@@ -97,10 +105,13 @@ pub witness_is : (words : List Text) (rows : List Row) (a : WitnessAsked) → fa
     → subcommand_of commands words ≡ Some (codes "witness", rows) → IsWitnessAsked rows a
     → asked_in words ≡ Some (Witness a)
 witness_is words rows a none is asks =
-    asked_is words (codes "witness") rows none is ∙ ap (λ (x : WitnessAsked). Some (Witness x)) same
+    let join_is = asks.join (flag_is commands words are_plain none (codes "witness")
+    (codes "join") rows refl is) in
+    asked_is words (codes "witness") rows none is
+    ∙ ap (λ (x : WitnessAsked). Some (Witness x)) (same join_is)
   where
-    same : witness_asked rows ≡ a
-    same = rw (
+    same : a.join ≡ is_set (codes "join") rows → witness_asked rows ≡ a
+    same join_is = rw (
       sym asks.rosters,
       sym asks.at,
       sym asks.listen,
@@ -109,6 +120,7 @@ witness_is words rows a none is asks =
       sym asks.patience,
       sym asks.evidence,
       sym asks.epoch,
+      sym join_is,
       sym asks.state,
       sym asks.log_file,
     ) refl
@@ -118,6 +130,7 @@ pub record IsAskAsked (rows : List Row) (a : AskAsked) : Type 0 where
   pub rosters : a.rosters ≡ first_of (codes "rosters") rows
   pub nodes : a.nodes ≡ first_of (codes "nodes") rows
   pub evidence : a.evidence ≡ first_of (codes "evidence") rows
+  pub state : a.state ≡ first_of (codes "state") rows
   pub witness : a.witness ≡ unwrap_or (first_of (codes "witness") rows) []
 
 -- `ask` asks for them
@@ -132,6 +145,7 @@ ask_is words rows a none is asks =
       sym asks.rosters,
       sym asks.nodes,
       sym asks.evidence,
+      sym asks.state,
       sym asks.witness,
     ) refl
 

@@ -197,6 +197,7 @@ asked_by (requests.Server r) = Server (record {
   node = r.node.now;
   listen = r.listen.now;
   audit = option_map (λ s. s.now) r.audit;
+  check_every = option_map (λ s. s.now) r.check_every;
   progress = r.progress;
   log_file = option_map (λ s. s.now) r.log_file;
 })
@@ -211,6 +212,7 @@ asked_by (requests.Gateway r) = Gateway (record {
   every = option_map (λ s. s.now) r.every;
   reserve = option_map (λ s. s.now) r.reserve;
   give_up = option_map (λ s. s.now) r.give_up;
+  progress = r.progress;
   log_file = option_map (λ s. s.now) r.log_file;
 })
 asked_by (requests.Witness r) = Witness (record {
@@ -222,6 +224,7 @@ asked_by (requests.Witness r) = Witness (record {
   patience = option_map (λ s. s.now) r.patience;
   evidence = option_map (λ s. s.now) r.evidence;
   epoch = option_map (λ s. s.now) r.epoch;
+  join = r.join;
   state = option_map (λ s. s.now) r.state;
   log_file = option_map (λ s. s.now) r.log_file;
 })
@@ -229,6 +232,7 @@ asked_by (requests.Ask r) = Ask (record {
   rosters = option_map (λ s. s.now) r.rosters;
   nodes = option_map (λ s. s.now) r.nodes;
   evidence = option_map (λ s. s.now) r.evidence;
+  state = option_map (λ s. s.now) r.state;
   witness = r.witness.now;
 })
 asked_by (requests.Stop name) = Stop name.now

@@ -39,6 +39,7 @@ pub record OrdersServer (r : ServerRequest) (o : ServerOrder) : Type 0 where
   pub node : Writes 1 64 r.node.now o.node
   pub listen : IsSocketText r.listen.now o.listen
   pub audit : SocketIf (option_map (λ s. s.now) r.audit) o.audit
+  pub check_every : WritesIf 1 16384 (option_map (λ s. s.now) r.check_every) o.check_every
   pub progress : o.progress ≡ r.progress
   pub log_file : o.log_file ≡ r.log_file
 
@@ -55,6 +56,7 @@ pub record OrdersGateway (r : GatewayRequest) (o : GatewayOrder) : Type 0 where
   pub every : WritesOr 1 86400 10 (option_map (λ s. s.now) r.every) o.every
   pub reserve : WritesOr 0 16384 0 (option_map (λ s. s.now) r.reserve) o.reserve
   pub give_up : WritesIf 1 4294967295 (option_map (λ s. s.now) r.give_up) o.give_up
+  pub progress : o.progress ≡ r.progress
   pub log_file : o.log_file ≡ r.log_file
 
 -- the order of `witness`
@@ -67,6 +69,7 @@ pub record OrdersWitness (r : WitnessRequest) (o : WitnessOrder) : Type 0 where
   pub patience : WritesOr 0 86400 60 (option_map (λ s. s.now) r.patience) o.patience
   pub evidence : o.evidence ≡ r.evidence
   pub epoch : WritesIf 1 4294967295 (option_map (λ s. s.now) r.epoch) o.epoch
+  pub join : o.join ≡ r.join
   pub state : o.state ≡ r.state
   pub log_file : o.log_file ≡ r.log_file
 
@@ -75,4 +78,5 @@ pub record OrdersAsk (r : AskRequest) (o : AskOrder) : Type 0 where
   pub witnesses : map (λ s. s.now) o.witnesses.items ≡ items_of r.witness.now
   pub rosters : o.rosters ≡ r.rosters
   pub evidence : o.evidence ≡ r.evidence
+  pub state : o.state ≡ r.state
   pub nodes : WritesRangeOr 1 64 1 64 (option_map (λ s. s.now) r.nodes) o.first o.last

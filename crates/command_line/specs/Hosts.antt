@@ -8,13 +8,14 @@ use Rattle.command_line.specs.Serve.{word_option}
 -- `server`, with its arguments
 abbrev pub server_command : App
 server_command =
-    with_rule (with_rule (with_rule (with_rule (with_rule (with_rule (with_rule (with_rule (new_app
-    (codes "server")) (needed_option (codes "secret")))
+    with_rule (with_rule (with_rule (with_rule (with_rule (with_rule (with_rule (with_rule (with_rule
+    (new_app (codes "server")) (needed_option (codes "secret")))
     (needed_option (codes "rosters")))
     (needed_option (codes "state")))
     (needed_option (codes "node")))
     (needed_option (codes "listen")))
     (word_option (codes "audit")))
+    (word_option (codes "check-every")))
     (flag_option (codes "progress")))
     (word_option (codes "log-file"))
 
@@ -26,6 +27,7 @@ pub record ServerAsked : Type 0 where
   pub node : Text
   pub listen : Text
   pub audit : Option Text
+  pub check_every : Option Text
   pub progress : Bool
   pub log_file : Option Text
 
@@ -38,6 +40,7 @@ server_asked rows = record {
   node = word_in (codes "node") rows;
   listen = word_in (codes "listen") rows;
   audit = first_of (codes "audit") rows;
+  check_every = first_of (codes "check-every") rows;
   progress = is_flag_set (codes "progress") rows;
   log_file = first_of (codes "log-file") rows;
 }
@@ -46,7 +49,7 @@ server_asked rows = record {
 abbrev pub gateway_command : App
 gateway_command =
     with_rule (with_rule (with_rule (with_rule (with_rule (with_rule (with_rule (with_rule (with_rule
-    (with_rule (with_rule (new_app (codes "gateway")) (needed_option (codes "secret")))
+    (with_rule (with_rule (with_rule (new_app (codes "gateway")) (needed_option (codes "secret")))
     (needed_option (codes "nodes")))
     (needed_option (codes "server")))
     (needed_option (codes "rosters")))
@@ -56,6 +59,7 @@ gateway_command =
     (word_option (codes "every")))
     (word_option (codes "reserve")))
     (word_option (codes "give-up")))
+    (flag_option (codes "progress")))
     (word_option (codes "log-file"))
 
 -- what `gateway` is asked, word by word
@@ -70,6 +74,7 @@ pub record GatewayAsked : Type 0 where
   pub every : Option Text
   pub reserve : Option Text
   pub give_up : Option Text
+  pub progress : Bool
   pub log_file : Option Text
 
 -- the same, by what was found for its arguments
@@ -85,6 +90,7 @@ gateway_asked rows = record {
   every = first_of (codes "every") rows;
   reserve = first_of (codes "reserve") rows;
   give_up = first_of (codes "give-up") rows;
+  progress = is_flag_set (codes "progress") rows;
   log_file = first_of (codes "log-file") rows;
 }
 
@@ -92,7 +98,7 @@ gateway_asked rows = record {
 abbrev pub witness_command : App
 witness_command =
     with_rule (with_rule (with_rule (with_rule (with_rule (with_rule (with_rule (with_rule (with_rule
-    (with_rule (new_app (codes "witness")) (needed_option (codes "rosters")))
+    (with_rule (with_rule (new_app (codes "witness")) (needed_option (codes "rosters")))
     (needed_option (codes "at")))
     (needed_option (codes "listen")))
     (word_option (codes "witness")))
@@ -100,6 +106,7 @@ witness_command =
     (word_option (codes "patience")))
     (word_option (codes "evidence")))
     (word_option (codes "epoch")))
+    (flag_option (codes "join")))
     (word_option (codes "state")))
     (word_option (codes "log-file"))
 
@@ -113,6 +120,7 @@ pub record WitnessAsked : Type 0 where
   pub patience : Option Text
   pub evidence : Option Text
   pub epoch : Option Text
+  pub join : Bool
   pub state : Option Text
   pub log_file : Option Text
 
@@ -127,6 +135,7 @@ witness_asked rows = record {
   patience = first_of (codes "patience") rows;
   evidence = first_of (codes "evidence") rows;
   epoch = first_of (codes "epoch") rows;
+  join = is_flag_set (codes "join") rows;
   state = first_of (codes "state") rows;
   log_file = first_of (codes "log-file") rows;
 }
@@ -134,9 +143,11 @@ witness_asked rows = record {
 -- `ask`, with its arguments
 abbrev pub ask_command : App
 ask_command =
-    with_rule (with_rule (with_rule (with_rule (new_app (codes "ask")) (word_option (codes "rosters")))
+    with_rule (with_rule (with_rule (with_rule (with_rule (new_app (codes "ask"))
+    (word_option (codes "rosters")))
     (word_option (codes "nodes")))
     (word_option (codes "evidence")))
+    (word_option (codes "state")))
     (word_argument (codes "witness"))
 
 -- what `ask` is asked, word by word
@@ -144,6 +155,7 @@ pub record AskAsked : Type 0 where
   pub rosters : Option Text
   pub nodes : Option Text
   pub evidence : Option Text
+  pub state : Option Text
   pub witness : Text
 
 -- the same, by what was found for its arguments
@@ -152,6 +164,7 @@ ask_asked rows = record {
   rosters = first_of (codes "rosters") rows;
   nodes = first_of (codes "nodes") rows;
   evidence = first_of (codes "evidence") rows;
+  state = first_of (codes "state") rows;
   witness = word_in (codes "witness") rows;
 }
 

@@ -33,7 +33,9 @@ pub struct ServerOrder<'a> {
     pub listen: SocketAddr,
     /// Where witnesses connect, if it is named.
     pub audit: Option<SocketAddr>,
-    /// Whether it is told how far keys and audits are.
+    /// After how many calls the server logs a CHECK, from 1 to 16,384; it logs none where that isn't given.
+    pub check_every: Option<u64>,
+    /// Whether it is told how far the keys are.
     pub progress: bool,
     /// The name of the file that its lines go to as well, if one is named.
     pub log_file: Option<&'a str>,
@@ -65,6 +67,8 @@ pub struct GatewayOrder<'a> {
     /// After how many seconds without a reply a call is given up, from 1 on; it waits for ever where none are
     /// given.
     pub give_up: Option<u32>,
+    /// Whether it is told what witnesses assure.
+    pub progress: bool,
     /// The name of the file that its lines go to as well, if one is named.
     pub log_file: Option<&'a str>,
 }
@@ -86,8 +90,10 @@ pub struct WitnessOrder<'a> {
     pub patience: u32,
     /// The name of the folder that evidence goes to, if one is named.
     pub evidence: Option<&'a str>,
-    /// The epoch, from 1 on; the greatest for which there is a roster where none is named.
+    /// The epoch, from 1 on; that which a server greets with where none is named.
     pub epoch: Option<u32>,
+    /// Whether it begins at the last base that each server gives.
+    pub join: bool,
     /// The name of the folder of the control socket, if one is named.
     pub state: Option<&'a str>,
     /// The name of the file that its lines go to as well, if one is named.
@@ -103,6 +109,8 @@ pub struct AskOrder<'a> {
     pub rosters: Option<&'a str>,
     /// The name of the folder that evidence goes to, if one is named; then rosters are, too.
     pub evidence: Option<&'a str>,
+    /// The name of the folder of the control socket of this machine's gateway, if one is named.
+    pub state: Option<&'a str>,
     /// The first number that is asked for, from 1 on.
     pub first: u32,
     /// The last number that is asked for, no less than the first and at most 64.
@@ -128,6 +136,9 @@ pub enum HostRefusal {
     /// The address that witnesses connect to is none.
     #[error("--audit is ADDRESS:PORT")]
     Audit,
+    /// The calls between two CHECKs are no decimal number from 1 to 16,384.
+    #[error("--check-every is a number of calls from 1 to 16384")]
+    CheckEvery,
     /// The server isn't a number and where it listens.
     #[error("--server is N=HOST:PORT, N from 1 to 64")]
     Server,
@@ -166,21 +177,23 @@ pub enum HostRefusal {
 /// The most seconds of an option: a day.
 const MOST_SECONDS: u32 = 86400;
 
-/// The most calls that are kept: as many as a server has keys for.
+/// The most calls that are kept, and between two CHECKs: as many as a server has keys for.
 const MOST_CALLS: u32 = 16384;
 
 /// The port that local programs connect to where none is named: that of NFS.
 const NFS_PORT: u16 = 2049;
 
-/// The order that a request makes. It is refused for the first of the number and the two addresses that is
-/// none.
+/// The order that a request makes. It is refused for the first of the number, the two addresses and the calls
+/// between two CHECKs that is none.
 pub fn server_order<'a>(request: &ServerRequest<'a>) -> Result<ServerOrder<'a>, HostRefusal>
     ensures order { IfOk result (OrdersServer request.now) }
     ensures node { IfOk result (λ o. (1 ≤ o.node) × (o.node ≤ 64)) }
+    ensures calls { IfOk result (λ o. IfSome o.check_every (λ n. (1 ≤ n) × (n ≤ 16384))) }
 {
     let node = number_within(request.node, 1, MAX_NODE).ok_or(HostRefusal::Node)?;
     let listen = socket_of(request.listen).ok_or(HostRefusal::Listen)?;
     let audit = audit_of(request.audit)?;
+    let check_every = check_every_of(request.check_every)?;
     Ok(ServerOrder {
         secret: request.secret,
         rosters: request.rosters,
@@ -188,6 +201,7 @@ pub fn server_order<'a>(request: &ServerRequest<'a>) -> Result<ServerOrder<'a>, 
         node,
         listen,
         audit,
+        check_every,
         progress: request.progress,
         log_file: request.log_file,
     })
@@ -222,6 +236,7 @@ pub fn gateway_order<'a>(
         every,
         reserve,
         give_up,
+        progress: request.progress,
         log_file: request.log_file,
     })
 }
@@ -249,6 +264,7 @@ pub fn witness_order<'a>(
         patience,
         evidence: request.evidence,
         epoch,
+        join: request.join,
         state: request.state,
         log_file: request.log_file,
     })
@@ -271,6 +287,7 @@ pub fn ask_order<'a>(alloc: Global, request: &AskRequest<'a>) -> Result<AskOrder
         witnesses,
         rosters,
         evidence,
+        state: request.state,
         first,
         last,
     })
@@ -377,6 +394,20 @@ fn calls_of(word: Option<&str>) -> Option<u32>
     match word {
         Some(word) => number_within(word, 0, MOST_CALLS),
         None => Some(0),
+    }
+}
+
+/// The calls between two CHECKs in an option's word, if it is given.
+fn check_every_of(word: Option<&str>) -> Result<Option<u64>, HostRefusal>
+    ensures calls { IfOk result (WritesIf 1 16384 (option_map (λ s. s.now) word.entry)) }
+    ensures bounds { IfOk result (λ o. IfSome o (λ n. (1 ≤ n) × (n ≤ 16384))) }
+{
+    let Some(word) = word else {
+        return Ok(None);
+    };
+    match number_within(word, 1, MOST_CALLS) {
+        Some(calls) => Ok(Some(u64::from(calls))),
+        None => Err(HostRefusal::CheckEvery),
     }
 }
 

@@ -30,7 +30,9 @@ pub struct ServerRequest<'a> {
     pub listen: &'a str,
     /// Where witnesses connect, if it is named.
     pub audit: Option<&'a str>,
-    /// Whether it is told how far keys and audits are.
+    /// After how many calls the server logs a CHECK, if that is given.
+    pub check_every: Option<&'a str>,
+    /// Whether it is told how far the keys are.
     pub progress: bool,
     /// The name of the file that its lines go to as well, if one is named.
     pub log_file: Option<&'a str>,
@@ -59,6 +61,8 @@ pub struct GatewayRequest<'a> {
     pub reserve: Option<&'a str>,
     /// After how long a call is given up, if that is given.
     pub give_up: Option<&'a str>,
+    /// Whether it is told what witnesses assure.
+    pub progress: bool,
     /// The name of the file that its lines go to as well, if one is named.
     pub log_file: Option<&'a str>,
 }
@@ -82,6 +86,8 @@ pub struct WitnessRequest<'a> {
     pub evidence: Option<&'a str>,
     /// The epoch, if it is named.
     pub epoch: Option<&'a str>,
+    /// Whether it begins at the last base that each server gives.
+    pub join: bool,
     /// The name of the folder of the control socket, if one is named.
     pub state: Option<&'a str>,
     /// The name of the file that its lines go to as well, if one is named.
@@ -97,6 +103,8 @@ pub struct AskRequest<'a> {
     pub nodes: Option<&'a str>,
     /// The name of the folder that evidence goes to, if one is named.
     pub evidence: Option<&'a str>,
+    /// The name of the folder of the control socket of this machine's gateway, if one is named.
+    pub state: Option<&'a str>,
     /// Where witnesses listen.
     pub witness: &'a str,
 }
@@ -113,8 +121,11 @@ const SERVER_LISTEN_HELP: &str = "Where gateways connect, and witnesses without 
 
 const SERVER_AUDIT_HELP: &str = "Where witnesses connect";
 
+const SERVER_CHECK_EVERY_HELP: &str =
+    "Logs a CHECK after each N calls, 1 to 16384; none where it isn't given";
+
 const SERVER_PROGRESS_HELP: &str =
-    "Tells on standard error how far keys and audits are, each line with its time";
+    "Tells on standard error how far the keys are, each line with its time";
 
 const GATEWAY_SECRET_HELP: &str = "The party's file of 32 secret bytes";
 
@@ -142,6 +153,9 @@ const GATEWAY_RESERVE_HELP: &str =
 const GATEWAY_GIVE_UP_HELP: &str =
     "After how long without a reply a call is given up, 1 to 4294967295; never where it isn't given";
 
+const GATEWAY_PROGRESS_HELP: &str =
+    "Tells on standard error up to where each witness assures replies, each line with its time";
+
 const LOG_FILE_HELP: &str = "Adds each line that it says to this file, too, with its time in front";
 
 const WITNESS_ROSTERS_HELP: &str = "The folder with the roster of each epoch";
@@ -163,7 +177,10 @@ const WITNESS_EVIDENCE_HELP: &str =
     "Writes node-N.evidence to this folder as soon as node N is exposed";
 
 const WITNESS_EPOCH_HELP: &str =
-    "The epoch; the greatest for which there is a roster where none is named";
+    "The epoch; that which a server of --at greets with where none is named";
+
+const WITNESS_JOIN_HELP: &str =
+    "Begins at the last base that each server gives, as a witness that wasn't there before";
 
 const WITNESS_STATE_HELP: &str =
     "The folder of the control socket; nobody but its owner may use it";
@@ -175,6 +192,9 @@ const ASK_NODES_HELP: &str =
 
 const ASK_EVIDENCE_HELP: &str =
     "Writes node-N.evidence to this folder where a witness has evidence that is good under a roster of --rosters";
+
+const ASK_STATE_HELP: &str =
+    "The folder of the control socket of this machine's gateway: after what a witness says comes what it assured that gateway";
 
 const ASK_WITNESS_HELP: &str = "Where witnesses listen: HOST:PORT, with commas between";
 
@@ -190,7 +210,8 @@ side can't be accepted";
 /// What the help of `ask` ends with.
 const ASK_NOTES: &str =
     "Each line is a node, what the witness says of it, how many challenges are open, and up to which number of its log it found
-it sound. Of several witnesses each line begins with where its witness listens.
+it sound. Of several witnesses each line begins with where its witness listens. With --state a line `assured to K` or
+`assured of none` comes after them, as `status` has it of the gateway.
 
 Statuses: 0 all are trusted, 2 the command line, 3 no memory, 4 no connection, or a device, 6 another roster, 7 somebody is
 suspected, 8 somebody is exposed. Of several it is the first of 8, 6, 4, 3 and 7";
@@ -215,6 +236,7 @@ pub(crate) fn server_command<'a>(alloc: Global) -> Result<Command<'a>, AllocErro
         .arg(needed_option(alloc, "node", "N", SERVER_NODE_HELP))?
         .arg(needed_option(alloc, "listen", "ADDRESS:PORT", SERVER_LISTEN_HELP))?
         .arg(word_option(alloc, "audit", "ADDRESS:PORT", SERVER_AUDIT_HELP))?
+        .arg(word_option(alloc, "check-every", "N", SERVER_CHECK_EVERY_HELP))?
         .arg(flag(alloc, "progress", SERVER_PROGRESS_HELP))?
         .arg(word_option(alloc, "log-file", "FILE", LOG_FILE_HELP))
 }
@@ -236,6 +258,7 @@ pub(crate) fn gateway_command<'a>(alloc: Global) -> Result<Command<'a>, AllocErr
         .arg(word_option(alloc, "every", "SECONDS", GATEWAY_EVERY_HELP))?
         .arg(word_option(alloc, "reserve", "CALLS", GATEWAY_RESERVE_HELP))?
         .arg(word_option(alloc, "give-up", "SECONDS", GATEWAY_GIVE_UP_HELP))?
+        .arg(flag(alloc, "progress", GATEWAY_PROGRESS_HELP))?
         .arg(word_option(alloc, "log-file", "FILE", LOG_FILE_HELP))
 }
 
@@ -254,6 +277,7 @@ pub(crate) fn witness_command<'a>(alloc: Global) -> Result<Command<'a>, AllocErr
         .arg(word_option(alloc, "patience", "SECONDS", WITNESS_PATIENCE_HELP))?
         .arg(word_option(alloc, "evidence", "DIR", WITNESS_EVIDENCE_HELP))?
         .arg(word_option(alloc, "epoch", "E", WITNESS_EPOCH_HELP))?
+        .arg(flag(alloc, "join", WITNESS_JOIN_HELP))?
         .arg(word_option(alloc, "state", "DIR", WITNESS_STATE_HELP))?
         .arg(word_option(alloc, "log-file", "FILE", LOG_FILE_HELP))
 }
@@ -268,6 +292,7 @@ pub(crate) fn ask_command<'a>(alloc: Global) -> Result<Command<'a>, AllocError>
         .arg(word_option(alloc, "rosters", "DIR", ASK_ROSTERS_HELP))?
         .arg(word_option(alloc, "nodes", "A-B", ASK_NODES_HELP))?
         .arg(word_option(alloc, "evidence", "DIR", ASK_EVIDENCE_HELP))?
+        .arg(word_option(alloc, "state", "DIR", ASK_STATE_HELP))?
         .arg(word_argument(alloc, "witness", "LIST", ASK_WITNESS_HELP))
 }
 
@@ -298,6 +323,8 @@ fn server_request<'a>(matches: &ArgMatches<'a>) -> ServerRequest<'a>
     ensures node { result.node.now ≡ unwrap_or (first_of (codes "node") (rows_in matches.now)) [] }
     ensures listen { result.listen.now ≡ unwrap_or (first_of (codes "listen") (rows_in matches.now)) [] }
     ensures audit { option_map (λ s. s.now) result.audit ≡ first_of (codes "audit") (rows_in matches.now) }
+    ensures check_every { option_map (λ s. s.now) result.check_every
+        ≡ first_of (codes "check-every") (rows_in matches.now) }
     ensures progress { is_told (codes "progress") (rows_in matches.now) ≡ true
         → result.progress ≡ is_set (codes "progress") (rows_in matches.now) }
     ensures log_file { option_map (λ s. s.now) result.log_file
@@ -310,6 +337,7 @@ fn server_request<'a>(matches: &ArgMatches<'a>) -> ServerRequest<'a>
         node: text_of(matches, "node"),
         listen: text_of(matches, "listen"),
         audit: word_of(matches, "audit"),
+        check_every: word_of(matches, "check-every"),
         progress: flag_of(matches, "progress"),
         log_file: word_of(matches, "log-file"),
     }
@@ -330,6 +358,8 @@ fn gateway_request<'a>(matches: &ArgMatches<'a>) -> GatewayRequest<'a>
         ≡ first_of (codes "reserve") (rows_in matches.now) }
     ensures give_up { option_map (λ s. s.now) result.give_up
         ≡ first_of (codes "give-up") (rows_in matches.now) }
+    ensures progress { is_told (codes "progress") (rows_in matches.now) ≡ true
+        → result.progress ≡ is_set (codes "progress") (rows_in matches.now) }
     ensures log_file { option_map (λ s. s.now) result.log_file
         ≡ first_of (codes "log-file") (rows_in matches.now) }
 {
@@ -344,6 +374,7 @@ fn gateway_request<'a>(matches: &ArgMatches<'a>) -> GatewayRequest<'a>
         every: word_of(matches, "every"),
         reserve: word_of(matches, "reserve"),
         give_up: word_of(matches, "give-up"),
+        progress: flag_of(matches, "progress"),
         log_file: word_of(matches, "log-file"),
     }
 }
@@ -361,6 +392,8 @@ fn witness_request<'a>(matches: &ArgMatches<'a>) -> WitnessRequest<'a>
     ensures evidence { option_map (λ s. s.now) result.evidence
         ≡ first_of (codes "evidence") (rows_in matches.now) }
     ensures epoch { option_map (λ s. s.now) result.epoch ≡ first_of (codes "epoch") (rows_in matches.now) }
+    ensures join { is_told (codes "join") (rows_in matches.now) ≡ true
+        → result.join ≡ is_set (codes "join") (rows_in matches.now) }
     ensures state { option_map (λ s. s.now) result.state ≡ first_of (codes "state") (rows_in matches.now) }
     ensures log_file { option_map (λ s. s.now) result.log_file
         ≡ first_of (codes "log-file") (rows_in matches.now) }
@@ -374,6 +407,7 @@ fn witness_request<'a>(matches: &ArgMatches<'a>) -> WitnessRequest<'a>
         patience: word_of(matches, "patience"),
         evidence: word_of(matches, "evidence"),
         epoch: word_of(matches, "epoch"),
+        join: flag_of(matches, "join"),
         state: word_of(matches, "state"),
         log_file: word_of(matches, "log-file"),
     }
@@ -386,6 +420,7 @@ fn ask_request<'a>(matches: &ArgMatches<'a>) -> AskRequest<'a>
     ensures nodes { option_map (λ s. s.now) result.nodes ≡ first_of (codes "nodes") (rows_in matches.now) }
     ensures evidence { option_map (λ s. s.now) result.evidence
         ≡ first_of (codes "evidence") (rows_in matches.now) }
+    ensures state { option_map (λ s. s.now) result.state ≡ first_of (codes "state") (rows_in matches.now) }
     ensures witness { result.witness.now ≡ unwrap_or (first_of (codes "witness") (rows_in matches.now)) [] }
 {
     let evidence = word_of(matches, "evidence");
@@ -393,6 +428,7 @@ fn ask_request<'a>(matches: &ArgMatches<'a>) -> AskRequest<'a>
         rosters: word_of(matches, "rosters"),
         nodes: word_of(matches, "nodes"),
         evidence,
+        state: word_of(matches, "state"),
         witness: text_of(matches, "witness"),
     }
 }

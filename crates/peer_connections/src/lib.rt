@@ -5,6 +5,7 @@
 mod accept;
 mod caller;
 mod control;
+mod failure;
 mod memory;
 mod node_connection;
 mod output;
@@ -16,6 +17,7 @@ mod turns;
 pub use accept::{Accepting, Place};
 pub use caller::{Answer, CallFault, PeerCaller};
 pub use control::{Commands, Teller, attend};
+pub use failure::ServeFailure;
 pub use memory::OwnMemory;
 pub use node_connection::{Meanwhile, NodeConnection, Sent};
 pub use output::Output;

@@ -9,8 +9,8 @@ use frames::FrameReader;
 use hosting::Host;
 use nodes::HonestServer;
 use peer_connections::{
-    Accepting, Commands, Output, PeerStream, Phase, Place, Seats, SegmentTurns, Standing, Waiting,
-    attend, set_timeouts,
+    Accepting, Commands, Output, PeerStream, Phase, Place, Seats, SegmentTurns, ServeFailure,
+    Standing, Waiting, attend, set_timeouts,
 };
 use request_streams::{ServeEnd, ServeFault, serve_requests};
 use rpc::records::Counting;
@@ -297,8 +297,8 @@ where
     context.tally.lock(context.rt).closed();
     context.turns.give_back(context.rt, id);
     context.seats.leave(context.rt, id);
-    if let Err(fault) = served {
-        let line = format!(in context.alloc; "nfsacc: {address}: {fault}\n");
+    if let Err(failure) = served {
+        let line = format!(in context.alloc; "nfsacc: {address}: {failure}\n");
         context.output.lock(context.rt).say(line);
     }
 }
@@ -310,7 +310,7 @@ fn serve_records<R, T, W, E>(
     address: SocketAddr,
     kind: AddressKind,
     id: u64,
-) -> Result<ServeEnd, ServeFault>
+) -> Result<ServeEnd, ServeFailure>
 where
     R: Threads + Wait + Sync,
     T: std::time::Clock,
@@ -332,7 +332,7 @@ where
     let waiting = Mutex::new(Waiting::new());
     let input = PeerStream::new(rt, clock, stream, phase, &waiting).among(seats, turns, id);
     let Ok(input) = BufReader::with_capacity(alloc, READ_AHEAD, input) else {
-        return Err(ServeFault::NoMemory);
+        return Err(ServeFailure::from(ServeFault::NoMemory));
     };
     let mut reader = FrameReader::new(Counting::new(input));
     let mut writer = Counting::new(PeerStream::new(rt, clock, stream, phase, &waiting));
@@ -360,5 +360,11 @@ where
         seat,
         context.tally,
     );
-    serve_requests(alloc, &mut locked, &mut reader, &mut writer)
+    match serve_requests(alloc, &mut locked, &mut reader, &mut writer) {
+        Ok(end) => Ok(end),
+        Err(fault) => {
+            let read = reader.get_ref().get_ref().get_ref().last();
+            Err(ServeFailure::new(fault, read.or(writer.get_ref().last())))
+        }
+    }
 }

@@ -16,6 +16,8 @@ returns c =
     c.in_ok-arg-2.ensures.shape (search rules) ∙ ap₂ with_rule with_rosters c.word_option-2.ensures.rule in
     let with_evidence =
     c.in_ok-arg-3.ensures.shape (search rules) ∙ ap₂ with_rule with_nodes c.word_option-3.ensures.rule in
-    IfOk-weaker c.arg-4.result _ _
+    let with_state =
+    c.in_ok-arg-4.ensures.shape (search rules) ∙ ap₂ with_rule with_evidence c.word_option-4.ensures.rule in
+    IfOk-weaker c.arg-5.result _ _
     (λ r added. added.shape (search rules)
-    ∙ ap₂ with_rule with_evidence c.word_argument.ensures.rule) c.arg-4.ensures
+    ∙ ap₂ with_rule with_state c.word_argument.ensures.rule) c.arg-5.ensures

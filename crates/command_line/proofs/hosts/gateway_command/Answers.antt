@@ -30,6 +30,8 @@ returns c =
     c.in_ok-arg-9.ensures.shape (search rules) ∙ ap₂ with_rule with_every c.word_option-4.ensures.rule in
     let with_give_up =
     c.in_ok-arg-10.ensures.shape (search rules) ∙ ap₂ with_rule with_reserve c.word_option-5.ensures.rule in
-    IfOk-weaker c.arg-11.result _ _
+    let with_progress =
+    c.in_ok-arg-11.ensures.shape (search rules) ∙ ap₂ with_rule with_give_up c.flag.ensures.rule in
+    IfOk-weaker c.arg-12.result _ _
     (λ r added. added.shape (search rules)
-    ∙ ap₂ with_rule with_give_up c.word_option-6.ensures.rule) c.arg-11.ensures
+    ∙ ap₂ with_rule with_progress c.word_option-6.ensures.rule) c.arg-12.ensures

@@ -16,6 +16,7 @@ returns-in-Some-clause-some c words none found =
       node = _;
       listen = _;
       audit = _;
+      check_every = _;
       progress = _;
       log_file = _;
     }) none is (record {
@@ -25,6 +26,7 @@ returns-in-Some-clause-some c words none found =
       node = asked.node;
       listen = asked.listen;
       audit = asked.audit;
+      check_every = asked.check_every;
       progress = asked.progress;
       log_file = asked.log_file;
     })
@@ -45,6 +47,7 @@ returns-in-Some-subcommand_matches-clause-some c words none found =
       every = _;
       reserve = _;
       give_up = _;
+      progress = _;
       log_file = _;
     }) none is (record {
       secret = asked.secret;
@@ -57,6 +60,7 @@ returns-in-Some-subcommand_matches-clause-some c words none found =
       every = asked.every;
       reserve = asked.reserve;
       give_up = asked.give_up;
+      progress = asked.progress;
       log_file = asked.log_file;
     })
 
@@ -74,6 +78,7 @@ returns-in-Some-subcommand_matches-2-clause-some c words none found =
       patience = _;
       evidence = _;
       epoch = _;
+      join = _;
       state = _;
       log_file = _;
     }) none is (record {
@@ -85,6 +90,7 @@ returns-in-Some-subcommand_matches-2-clause-some c words none found =
       patience = asked.patience;
       evidence = asked.evidence;
       epoch = asked.epoch;
+      join = asked.join;
       state = asked.state;
       log_file = asked.log_file;
     })
@@ -94,10 +100,11 @@ returns-in-Some-subcommand_matches-3-clause-some c words none found =
     let is = found_is c.args.matches.now _ _ _ found (c.in-Some-subcommand_matches-3.ensures.found.0 refl)
     c.in-Some-subcommand_matches-3.ensures.rows in
     let asked = c.ask_request.ensures in
-    ask_is words _ (record { rosters = _; nodes = _; evidence = _; witness = _ }) none is (record {
+    ask_is words _ (record { rosters = _; nodes = _; evidence = _; state = _; witness = _ }) none is (record {
       rosters = asked.rosters;
       nodes = asked.nodes;
       evidence = asked.evidence;
+      state = asked.state;
       witness = asked.witness;
     })
 

@@ -22,8 +22,10 @@ returns c =
     c.in_ok-arg-5.ensures.shape (search rules) ∙ ap₂ with_rule with_node c.needed_option-5.ensures.rule in
     let with_audit =
     c.in_ok-arg-6.ensures.shape (search rules) ∙ ap₂ with_rule with_listen c.word_option.ensures.rule in
+    let with_check_every =
+    c.in_ok-arg-7.ensures.shape (search rules) ∙ ap₂ with_rule with_audit c.word_option-2.ensures.rule in
     let with_progress =
-    c.in_ok-arg-7.ensures.shape (search rules) ∙ ap₂ with_rule with_audit c.flag.ensures.rule in
-    IfOk-weaker c.arg-8.result _ _
+    c.in_ok-arg-8.ensures.shape (search rules) ∙ ap₂ with_rule with_check_every c.flag.ensures.rule in
+    IfOk-weaker c.arg-9.result _ _
     (λ r added. added.shape (search rules)
-    ∙ ap₂ with_rule with_progress c.word_option-2.ensures.rule) c.arg-8.ensures
+    ∙ ap₂ with_rule with_progress c.word_option-3.ensures.rule) c.arg-9.ensures
