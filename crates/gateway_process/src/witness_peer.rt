@@ -1,7 +1,7 @@
 //! A witness that a gateway reports to.
 
 use crate::context::{Context, Shared};
-use crate::desk::Assured;
+use crate::desk::{Assured, AssuredTo};
 use crate::news::{
     News, Progress, Shown, ShownOf, ack_packet, news_since, receipt_packet, replies_after,
     segment_packet,
@@ -69,6 +69,8 @@ pub(crate) struct WitnessPeer {
     counted: usize,
     /// The numbers of the calls in the server's log whose acknowledgements it took, and whose replies it didn't yet.
     acknowledged: Vec<u64>,
+    /// Which replies it answers for, as it was said last, if it was.
+    said: Option<AssuredTo>,
     /// Whether the last report to it has failed.
     pub(crate) has_failed: bool,
 }
@@ -87,6 +89,7 @@ impl WitnessPeer {
             assurance: Assurance::new(alloc),
             counted: 0,
             acknowledged: Vec::new(alloc),
+            said: None,
             has_failed: false,
         }
     }
@@ -261,9 +264,29 @@ impl WitnessPeer {
         self.count_replies(shared)?;
         let assured = Assured {
             address: String::from_str(alloc, self.address.as_str())?,
-            to: self.assurance.assured(),
+            to: self.assured(),
         };
         Ok(desk.lock(rt).note_assured(assured)?)
+    }
+
+    /// Up to which number it answers for the replies.
+    fn assured(&self) -> AssuredTo {
+        AssuredTo(self.assurance.assured())
+    }
+
+    /// Says up to which number it answers for the replies, where that isn't what was said last.
+    pub(crate) fn say_progress<R, T, W, E>(&mut self, context: Context<'_, R, T, W, E>)
+    where
+        R: Wait,
+        W: Write,
+        E: Write,
+    {
+        let (alloc, assured) = (context.alloc, self.assured());
+        if self.said != Some(assured) {
+            self.said = Some(assured);
+            let address = self.address();
+            context.say(format!(in alloc; "nfsacc: witness {address}: {assured}\n"));
+        }
     }
 
     /// The connection that there is, or a new one. It is kept again after a report.
