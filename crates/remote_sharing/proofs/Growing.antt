@@ -35,8 +35,8 @@ grown_unbegun r r' body NoMemory has stops = by stops.1
 pub same_unreceived : (r r' : RemoteParts) (bytes : List ℕ) (why : AcceptFault) → RefusesReceiving r bytes why r'
     → r' ≡ r
 same_unreceived r r' bytes faults.Unanswered refused = refused.1
-same_unreceived r r' bytes faults.KeysUsedUp refused = refused.1.1.1.1
-same_unreceived r r' bytes faults.NoNumbers refused = refused.1.1.1.1.1
+same_unreceived r r' bytes faults.KeysUsedUp refused = refused.1.3
+same_unreceived r r' bytes faults.NoNumbers refused = refused.1.4
 same_unreceived r r' bytes faults.NoMemory refused = refused
 same_unreceived r r' bytes faults.NotAcknowledged refused = absurd refused
 same_unreceived r r' bytes faults.AcknowledgedTwice refused = absurd refused

@@ -1,6 +1,6 @@
 -- Calls of a client that lies under a lock.
 -- Serves: Caller::begin, take, SharedRemote::call_once, call, carry.
-use Rattle.std.proofs.Common.{◌≡◌, refl, ℕ, List, Result, Ok, Err, Option}
+use Rattle.std.proofs.Common.{◌≡◌, refl, subst, sym, ℕ, List, Result, Ok, Err, Option}
 use Rattle.std.specs.Option.{option_map}
 use Rattle.std.specs.Prelude.{IfErr, IfOk}
 use Rattle.gateway.specs.declared.links.fault.LinkFault.{LinkFault}
@@ -13,7 +13,7 @@ use Rattle.remote.specs.declared.call_fault.CallFault.TheVariants.{NotBegun, Unc
 use Rattle.remote.specs.declared.fault.AcceptFault.{AcceptFault}
 use Rattle.remote_sharing.specs.Clients.{BeginsBeside, ClientParts, IsInFlight, StopsBeside}
 use Rattle.remote_sharing.specs.Shared.{IsBegunUnderLock, IsExchangedUnderLock, IsUnaccepted, IsUnbegun}
-use Rattle.remote_sharing.specs.Shared.{BeginsOne, LinkParts, StopsCall, StopsUnderLock, stopped, passed_since}
+use Rattle.remote_sharing.specs.Shared.{BeginsNone, BeginsOne, LinkParts, StopsCall, StopsUnderLock, stopped, passed_since}
 use Rattle.remote_sharing.specs.Rounds.{StopsCarrying}
 
 -- A call is begun.
@@ -83,12 +83,14 @@ stops_begun l l' body number (NotBegun fault) begun one stops = absurd stops
 stops_begun l l' body number (Uncarried fault) begun one stops = (one, (number, begun))
 stops_begun l l' body number (Refused why) begun one stops = (one, stops)
 
--- Its fault, as one of the link.
-pub stops_under_lock : (l l' : LinkParts) (body : List ℕ) (why : CallFault) (fault : LinkFault)
-    → StopsCall l body why l'
+-- Its fault, as one of the link, which begins no other.
+pub stops_under_lock : (l between l' : LinkParts) (body : List ℕ) (why : CallFault) (fault : LinkFault)
+    → StopsCall l body why between
+    → BeginsNone between l'
     → fault ≡ call_fault why
     → StopsUnderLock l body fault l'
-stops_under_lock l l' body why fault stops told = stopped why stops told
+stops_under_lock l between l' body why fault stops none told =
+    stopped why (subst (λ (x : LinkParts). StopsCall l body why x) (sym none) stops) told
 
 -- Another connection gets its reply.
 pub passed_on : (l l' : LinkParts) (body : List ℕ) (reply : Option (List ℕ))
