@@ -4,8 +4,7 @@ use crate::context::{Context, Shared};
 use crate::desk::{Assured, AssuredTo};
 use crate::learned::{Learned, said_by};
 use crate::news::{
-    News, Progress, Shown, ack_packet, news_since, receipt_packet, replies_after,
-    segment_packet,
+    News, Progress, Shown, ack_packet, news_since, receipt_packet, replies_after, segment_packet,
 };
 use crate::own_log::lost_number;
 use crate::replies::Replies;
@@ -213,7 +212,9 @@ impl WitnessPeer {
         if told.standing < TRUSTED || told.standing > EXPOSED {
             return Err(Trouble::Garbage);
         }
-        self.replies.assurance.tell(told.standing == EXPOSED, told.end);
+        self.replies
+            .assurance
+            .tell(told.standing == EXPOSED, told.end);
         self.count_replies(shared)?;
         let assured = Assured {
             address: String::from_str(alloc, self.address.as_str())?,

@@ -148,7 +148,8 @@ impl SharedClient {
         ensures honest { HasNotStrayed self.new.remote.client }
         ensures size { IfOk result (λ r. IfSome r (λ v. length v.items ≤ MAX_BODY)) }
     {
-        self.client.accept(alloc, &call.pending, ack, reply, receipt)
+        self.client
+            .accept(alloc, &call.pending, ack, reply, receipt)
     }
 
     /// Ends a call: it is no longer in flight.

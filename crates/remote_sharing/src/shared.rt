@@ -232,11 +232,7 @@ impl<'a, R: Wait, C: Courier + Drop, P: Presence> SharedRemote<'a, R, C, P> {
 }
 
 /// A way that is free, or else the one that the number tells, once it is: none where there are no ways.
-fn free_way<'w, R: Wait, C>(
-    rt: &R,
-    ways: &'w [Mutex<C>],
-    number: u64,
-) -> Option<MutexGuard<'w, C>>
+fn free_way<'w, R: Wait, C>(rt: &R, ways: &'w [Mutex<C>], number: u64) -> Option<MutexGuard<'w, C>>
     ensures { IfNone result (length ways.now ≡ 0) }
 {
     for way in ways {
