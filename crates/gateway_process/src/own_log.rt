@@ -1,5 +1,7 @@
 //! Whether a log was put back to an earlier one: somebody has a signature of its node of what the log lacks.
 
+ghost use Rattle.std.specs.Prelude.{◌≡◌, ◌↔◌, IsTrue, Some};
+
 use crate::news::shown_by;
 use authenticator::{Authenticator, is_same_hash, is_signed_by};
 use nodes::ClientNode;
@@ -22,7 +24,9 @@ pub(crate) fn lost_number(client: &ClientNode, shown: &Authenticator) -> Option<
 }
 
 /// Whether this is the hash, where there is one.
-fn has_hash(found: Option<[u8; 32]>, hash: &[u8; 32]) -> bool {
+fn has_hash(found: Option<[u8; 32]>, hash: &[u8; 32]) -> bool
+    ensures { IsTrue result ↔ (found ≡ Some hash.now) }
+{
     match found {
         Some(found) => is_same_hash(&found, hash),
         None => false,
