@@ -6,7 +6,6 @@ use crate::learned::{Learned, said_by};
 use crate::news::{
     News, Progress, Shown, ack_packet, news_since, receipt_packet, replies_after, segment_packet,
 };
-use crate::own_log::lost_number;
 use crate::replies::Replies;
 use crate::trouble::{Trouble, check_greeted};
 use authenticator::Authenticator;
@@ -341,8 +340,8 @@ where
     /// A witness was shown this of the client: `OwnPutBack` comes where its log lacks it.
     fn check_own(&self, shown: &Authenticator) -> Result<(), Trouble> {
         let client = self.client.lock(self.context.rt);
-        match lost_number(client.client().client(), shown) {
-            Some(number) => Err(Trouble::OwnPutBack(number)),
+        match client.client().client().lost(shown) {
+            Some(number) => Err(Trouble::OwnPutBack(number.get())),
             None => Ok(()),
         }
     }
