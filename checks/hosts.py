@@ -1381,21 +1381,35 @@ def wait_assured(hosts: Hosts, state: Path, witness: Address, holds: Callable[[i
         time.sleep(0.3)
 
 
+def check_progress(gateway: Party, witness: Address, reply: int):
+    """A gateway says as it goes what its status says of a witness, whenever that has changed."""
+    said = rf'nfsacc: witness {re.escape(spelled(witness))}: assured (of none|to \d+)$'
+    end = time.monotonic() + 60
+    while not any(words.startswith('to ') and int(words[3:]) >= reply
+                  for words in re.findall(said, gateway.said(), re.MULTILINE)):
+        assert time.monotonic() < end, gateway.said()
+        time.sleep(0.2)
+    lines = re.findall(said, gateway.said(), re.MULTILINE)
+    assert all(line != following for line, following in zip(lines, lines[1:])), lines
+
+
 def check_assured(program: str):
     """A gateway says up to which number each witness answers for its replies: no further than the witness has taken
     what the server signed and has audited the server, of which one that takes its place knows nothing; and not at all
-    where it calls the server exposed."""
+    where it calls the server exposed. With `--progress` it says so as it goes."""
     with Hosts(program) as hosts:
         usual(hosts)
         state, server = hosts.state('gateway'), hosts.server('one')
         ours, other = hosts.witness({1: server.address()}), hosts.keep(NoRoom(hosts.roster()))
         way = hosts.keep(Switch(other.address))
-        gateway = hosts.gateway('two', '2-2', server.address(), ours.address(), way.address, state=state)
+        gateway = hosts.gateway('two', '2-2', server.address(), ours.address(), way.address, state=state,
+                                more=('--progress',))
         connection = Connection(gateway.address()[1])
         for _ in range(5):
             assert connection.ask(ATTRIBUTES) == owed(ATTRIBUTES)
         replies = [each.number + 2 for each in log_of(server.address(), hosts.roster()).calls]
         wait_assured(hosts, state, ours.address(), lambda to: to is not None and to >= replies[-1])
+        check_progress(gateway, ours.address(), replies[-1])
         for witness in other, hosts.keep(NoRoom(hosts.roster())):
             def audit(witness=witness):
                 assert witness.round({1: server.address()}) == {}
