@@ -3,7 +3,7 @@
 ghost use Rattle.std.specs.Prelude.{◌≡◌, ◌&&◌, IfOk, IfSome, MatchOption, Some, find, nat_lt};
 ghost use Rattle.std.specs.Str.{bytes_eq};
 ghost use Rattle.peer_calls.specs.Answers.{greeted_at};
-ghost use Rattle.peer_calls.specs.declared.answers.Greeted.TheVariants.{Same};
+ghost use Rattle.peer_calls.specs.declared.answers.Greeted.TheVariants.{Other, Same};
 ghost use Rattle.witness_process.specs.Rosters.{HasGreeted, HasTold, IsEnding, ending_after, later_with};
 ghost use Rattle.witness_process.specs.Rosters.{roster_with};
 
