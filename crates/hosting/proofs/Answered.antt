@@ -9,10 +9,10 @@ use Rattle.rpc.specs.declared.reply.ReplyBody.TheVariants.{ProcedureUnavailable,
 use Rattle.commitment.specs.declared.refusal.Refusal.TheVariants.{NoMemory}
 use Rattle.node_logs.specs.Nodes.{NodeParts}
 use Rattle.peer_calls.specs.Calls.{Call}
-use Rattle.peer_calls.specs.NodeRequests.{NodeAsk, Null, Greet, Deliver, Acknowledge, Signed, Segment, Stands}
+use Rattle.peer_calls.specs.NodeRequests.{NodeAsk, Null, Greet, Deliver, Acknowledge, Signed, Segment, Stands, Base}
 use Rattle.peer_calls.specs.NodeRequests.{node_ask_at}
 use Rattle.hosting.specs.declared.host.Host.{Host}
-use Rattle.hosting.specs.Hosting.{AnswersCall, AnswersRead, IsAudited, IsReplied, MayDo, bare, host_ask_at}
+use Rattle.hosting.specs.Hosting.{AnswersCall, AnswersRead, IsReplied, MayDo, bare, host_ask_at}
 use Rattle.hosting.specs.Hosting.{no_memory, serves}
 use Rattle.request_streams.specs.declared.answerer.Outcome.{Outcome}
 use Rattle.request_streams.specs.declared.answerer.Outcome.TheVariants as outcomes
@@ -26,6 +26,7 @@ nothing_done n time (Acknowledge text) = (Err NoMemory, refl)
 nothing_done n time (Signed after) = refl
 nothing_done n time (Segment first last) = refl
 nothing_done n time (Stands a) = refl
+nothing_done n time (Base node after) = refl
 
 -- memory was refused while the arguments were read
 unread : (h : Host) (n : NodeParts) (time : Timeval) (xid : ℕ) (text : List ℕ) (r : Result NodeAsk ReplyBody)
@@ -68,13 +69,13 @@ refused_read h n time c body outcome text is (inl memory) replied =
 refused_read h n time c body outcome text is (inr refused) replied =
     refused_as h n time c body outcome text (asked h c true is ∙ refused) replied
 
--- what a segment's results are of
-pub audited_of : {E : Type 0} (n m : NodeParts) (first last : ℕ) (old new : List ℕ) (r : Result (Unit {0}) E)
-    → m ≡ n → OnOk r ((x : List ℕ) × IsAudited m first last x × (new ≡ old ++ x))
-    → OnOk r ((x : List ℕ) × (IsAudited n first last x × (n ≡ n)) × (new ≡ old ++ x))
-audited_of n m first last old new (Ok x) same told =
-    (told.0, (subst (λ (k : NodeParts). IsAudited k first last told.0) same told.1, refl), told.2)
-audited_of n m first last old new (Err e) same told = tt
+-- what the results are of that a node gives which was only looked at
+pub told_of : {E : Type 0} (Is : NodeParts → List ℕ → Type 0) (n m : NodeParts) (old new : List ℕ)
+    (r : Result (Unit {0}) E) → m ≡ n → OnOk r ((x : List ℕ) × Is m x × (new ≡ old ++ x))
+    → OnOk r ((x : List ℕ) × (Is n x × (n ≡ n)) × (new ≡ old ++ x))
+told_of Is n m old new (Ok x) same told =
+    (told.0, (subst (λ (k : NodeParts). Is k told.0) same told.1, refl), told.2)
+told_of Is n m old new (Err e) same told = tt
 
 -- what holds of every error holds of this result
 pub on_err : {A E P : Type 0} (r : Result A E) → P → OnErr r P

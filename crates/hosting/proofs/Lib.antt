@@ -1,3 +1,4 @@
 pub mod Chosen
 pub mod Answered
+pub mod Based
 pub mod UnderLock

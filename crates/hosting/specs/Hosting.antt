@@ -38,12 +38,13 @@ use Rattle.peer_calls.specs.Answers.{Answered, Taken, delivered_text, greeted_te
 use Rattle.peer_calls.specs.Answers.{stands_text}
 use Rattle.peer_calls.specs.declared.answers.Greeted.TheVariants.{Same, Other}
 use Rattle.peer_calls.specs.Calls.{Call, judged, success_text}
-use Rattle.peer_calls.specs.NodeRequests.{NodeAsk, Null, Greet, Deliver, Acknowledge, Signed, Segment, Stands}
+use Rattle.peer_calls.specs.NodeRequests.{NodeAsk, Null, Greet, Deliver, Acknowledge, Signed, Segment, Stands, Base}
 use Rattle.peer_calls.specs.NodeRequests.{node_ask_at}
 use Rattle.peer_calls.specs.declared.call.Asked.{Asked}
 use Rattle.peer_calls.specs.declared.call.TheConstants.{NODE_PROGRAM}
 use Rattle.peer_calls.specs.declared.call.Unasked.{Unasked}
 use Rattle.peer_calls.specs.declared.call.Unasked.TheVariants.{NoCall, Refused}
+use Rattle.hosting.specs.BaseGiving.{IsBased}
 use Rattle.hosting.specs.declared.host.Host.{Host}
 use Rattle.request_streams.specs.declared.answerer.Outcome.{Outcome}
 use Rattle.request_streams.specs.declared.answerer.Outcome.TheVariants as outcomes
@@ -121,9 +122,13 @@ IsStood n a results =
 
 -- ---- what is asked
 
--- whether a host serves a procedure: SEGMENT (5) where it gives segments, and all others
+-- whether a procedure gives out a log, or what a whole state is: SEGMENT (5) and BASE (7)
+abbrev pub gives_logs : (procedure : ℕ) → Bool
+gives_logs procedure = if procedure == 5 then true else procedure == 7
+
+-- whether a host serves a procedure: these two where it gives segments, and all others
 abbrev pub serves : Host → (procedure : ℕ) → Bool
-serves h procedure = if procedure == 5 then h.gives_segments else true
+serves h procedure = if gives_logs procedure then h.gives_segments else true
 
 -- what the arguments of a procedure ask of a host, or PROC_UNAVAIL where it doesn't serve the procedure (RFC 5531,
 -- section 9)
@@ -143,6 +148,7 @@ Does h n time (Signed after) results n' =
     (l : Option ℕ) × IsLastSigned (sender_of n) after l × IsSignedText (sender_of n) l results × (n' ≡ n)
 Does h n time (Segment first last) results n' = IsAudited n first last results × (n' ≡ n)
 Does h n time (Stands a) results n' = IsStood n a results × (n' ≡ n)
+Does h n time (Base node after) results n' = IsBased n node after results × (n' ≡ n)
 
 -- Memory was refused while it was done, or for its results: what was done then stands, and nothing else was done.
 abbrev pub MayDo : NodeParts → Timeval → NodeAsk → NodeParts → Type 0
@@ -153,6 +159,7 @@ MayDo n time (Acknowledge text) n' = (r : Result AckTaken Refusal) × TakesAck n
 MayDo n time (Signed after) n' = n' ≡ n
 MayDo n time (Segment first last) n' = n' ≡ n
 MayDo n time (Stands a) n' = n' ≡ n
+MayDo n time (Base node after) n' = n' ≡ n
 
 -- ---- what is answered
 

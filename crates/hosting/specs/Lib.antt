@@ -1,1 +1,2 @@
+pub mod BaseGiving
 pub mod Hosting

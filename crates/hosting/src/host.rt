@@ -8,7 +8,7 @@ ghost use Rattle.peer_calls.specs.NodeRequests.{node_ask};
 ghost use Rattle.peer_calls.specs.declared.call.TheConstants.{NODE_PROGRAM};
 ghost use Rattle.request_streams.specs.Serving.{IsAnswerIf};
 ghost use Rattle.hosting.specs.Hosting.{AnswersCall, Does, IsAnswerTo, IsAnsweredUnderLock, IsReplied, MayDo};
-ghost use Rattle.hosting.specs.Hosting.{call_of, serves};
+ghost use Rattle.hosting.specs.Hosting.{call_of, gives_logs, serves};
 
 use crate::ready::Ready;
 use crate::results::add_results;
@@ -22,12 +22,15 @@ use std::alloc::{AllocError, Global};
 /// SEGMENT.
 const SEGMENT: u32 = 5;
 
+/// BASE.
+const BASE: u32 = 7;
+
 /// How a server answers at an address.
 #[derive(Clone, Copy, Debug)]
 pub struct Host {
     /// The digest of the text of its roster.
     pub digest: [u8; 32],
-    /// Whether segments of its log are given out there.
+    /// Whether segments of its log are given out there, and bases.
     pub gives_segments: bool,
 }
 
@@ -133,12 +136,19 @@ impl Host {
     fn serves(&self, procedure: u32) -> bool
         ensures { result ≡ serves self.now procedure }
     {
-        if procedure == SEGMENT {
+        if gives_logs(procedure) {
             self.gives_segments
         } else {
             true
         }
     }
+}
+
+/// Whether a procedure gives out a log, or what a whole state is.
+fn gives_logs(procedure: u32) -> bool
+    ensures { result ≡ gives_logs procedure }
+{
+    procedure == SEGMENT || procedure == BASE
 }
 
 /// Answers a request that was read, into an empty vector.

@@ -1,6 +1,7 @@
 //! What a server answers to the calls of nodes and witnesses on other hosts.
 #![tactic(auto)]
 
+mod bases;
 mod host;
 mod ready;
 mod results;

@@ -13,6 +13,7 @@ ghost use Rattle.peer_calls.specs.NodeRequests.{node_ask};
 ghost use Rattle.hosting.specs.Hosting.{Does, HasPair, IsAckTold, IsAudited, IsDelivered, IsGreeted, IsNumber};
 ghost use Rattle.hosting.specs.Hosting.{IsShown, IsSignedText, IsStood, MayDo, ack_spelling, audited_text, reply_spelling};
 
+use crate::bases::add_based;
 use crate::host::Host;
 use crate::ready::Ready;
 use authenticator::{Authenticator, LogVersion, is_same_hash};
@@ -61,6 +62,7 @@ pub(crate) fn add_results<'r>(
         NodeRequest::Signed(after) => add_signed(server.server(), alloc, after, out),
         NodeRequest::Segment(numbers) => add_segment(server.server(), alloc, numbers, out),
         NodeRequest::Stands(authenticator) => add_stood(server.server(), authenticator, out),
+        NodeRequest::Base(asked) => add_based(server.server(), alloc, asked, out),
     }
 }
 

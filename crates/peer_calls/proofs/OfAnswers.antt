@@ -1,14 +1,15 @@
 -- Answers are read as what they are.
 -- Serves: answers_are_read_as_written.
-use Rattle.std.proofs.Common.{◌≡◌, ℕ, Bool, true, false, eqb, List, [], ◌++◌, Some, None, refl, sym, ap, ◌∙◌, arith}
+use Rattle.std.proofs.Common.{◌≡◌, ℕ, Bool, true, false, eqb, List, [], ◌++◌, Option, Some, None, refl, sym, ap, ◌∙◌}
+use Rattle.std.proofs.Common.{arith}
 use Rattle.std.specs.Prelude.{◌<◌, ◌^◌}
 use Rattle.std.proofs.lemmas.List.{append-nil}
 use Rattle.xdr.specs.Item.{hyper, number_spelling, spelling, word}
 use Rattle.xdr.specs.Reading.{tested_at}
 use Rattle.xdr.proofs.Exact.{again}
 use Rattle.peer_calls.specs.Arguments.{after_word}
-use Rattle.peer_calls.specs.Answers.{IsCase, NodeCase, NoCase, Here, TooLarge, case_at, case_text, file_item}
-use Rattle.peer_calls.specs.Answers.{stands_at, stands_text}
+use Rattle.peer_calls.specs.Answers.{IsBaseAnswer, IsCase, NodeCase, NoCase, Here, TooLarge, base_at, base_bytes}
+use Rattle.peer_calls.specs.Answers.{base_results, case_at, case_text, file_item, stands_at, stands_text}
 use Rattle.peer_calls.proofs.Read.{text_again, word_again}
 
 -- a word isn't another one
@@ -38,3 +39,8 @@ case_read (Here file) fits =
 case_read (TooLarge bytes) fits =
     rw (other_word 0 2 (spelling hyper bytes) (omega arith) refl, other_word 1 2 (spelling hyper bytes) (omega arith) refl)
     (rw (word_again 2 (spelling hyper bytes) (omega arith)) (rw (text_again hyper bytes fits) refl))
+
+pub base_read : (b : Option (List ℕ)) → IsBaseAnswer b → base_at (base_results b) ≡ Some b
+base_read (Some base) fits =
+    rw (word_again 0 (spelling base_bytes base) (omega arith)) (rw (text_again base_bytes base fits) refl)
+base_read None fits = rw (other_alone 0 1 (omega arith) refl, word_alone 1 (omega arith)) refl

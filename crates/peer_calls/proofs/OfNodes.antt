@@ -3,9 +3,9 @@
 use Rattle.std.proofs.Common.{◌≡◌, ℕ, List, Ok, refl, sym, subst, arith}
 use Rattle.xdr.specs.Item.{IsBytes, hyper, spelling}
 use Rattle.authenticator.specs.Signed.{authenticator_item}
-use Rattle.peer_calls.specs.Arguments.{greeting_item, numbers_item}
+use Rattle.peer_calls.specs.Arguments.{base_after_item, greeting_item, numbers_item}
 use Rattle.peer_calls.specs.NodeRequests.{IsNodeAsk, NodeAsk, Null, Greet, Deliver, Acknowledge, Signed, Segment}
-use Rattle.peer_calls.specs.NodeRequests.{Stands}
+use Rattle.peer_calls.specs.NodeRequests.{Base, Stands}
 use Rattle.peer_calls.specs.NodeRequests.{node_arguments, node_ask_at, node_procedure}
 use Rattle.peer_calls.proofs.Read.{by_number, decoded, nothing_only, packet_only, text_again, text_only, word_again}
 use Rattle.peer_calls.proofs.Read.{word_only}
@@ -20,6 +20,7 @@ read (Signed after) fits = rw (text_again hyper after fits) refl
 read (Segment first last) fits = rw (text_again numbers_item (first, last) fits) refl
 read (Stands a) fits =
     rw (word_again 1 (spelling authenticator_item a) (omega arith)) (rw (text_again authenticator_item a fits) refl)
+read (Base n after) fits = rw (text_again base_after_item (n, after) fits) refl
 
 -- A procedure and its arguments are those of a request.
 abbrev AreOf : ℕ → List ℕ → NodeAsk → Type 0
@@ -52,4 +53,8 @@ only procedure bytes a bound e =
     (λ same e. let d = decoded _ _ a e in
     let t = packet_only 1 authenticator_item d.0 bytes bound d.1 in
     subst (AreOf procedure bytes) (sym d.2) (same, t.0, t.1))
-    (λ e. absurd cc) e) e) e) e) e) e) e
+    (λ e. by_number procedure 7 _ _ a
+    (λ same e. let d = decoded _ _ a e in
+    let t = text_only base_after_item d.0 bytes bound d.1 in
+    subst (AreOf procedure bytes) (sym d.2) (same, t.0, t.1))
+    (λ e. absurd cc) e) e) e) e) e) e) e) e

@@ -2,9 +2,9 @@
 -- Serves: witness_requests_have_one_text.
 use Rattle.std.proofs.Common.{◌≡◌, ℕ, List, Ok, refl, sym, subst}
 use Rattle.xdr.specs.Item.{IsBytes, word}
-use Rattle.peer_calls.specs.Arguments.{greeting_item}
+use Rattle.peer_calls.specs.Arguments.{base_after_item, greeting_item}
 use Rattle.peer_calls.specs.WitnessRequests.{IsWitnessAsk, WitnessAsk, Null, Greet, Deliver, Wanted, Told, Shown}
-use Rattle.peer_calls.specs.WitnessRequests.{Case}
+use Rattle.peer_calls.specs.WitnessRequests.{Base, Case}
 use Rattle.peer_calls.specs.WitnessRequests.{witness_arguments, witness_ask_at, witness_procedure}
 use Rattle.peer_calls.proofs.Read.{by_number, decoded, nothing_only, text_again, text_only}
 
@@ -17,6 +17,7 @@ read (Wanted n) fits = rw (text_again word n fits) refl
 read (Told n) fits = rw (text_again word n fits) refl
 read (Shown n) fits = rw (text_again word n fits) refl
 read (Case n) fits = rw (text_again word n fits) refl
+read (Base n after) fits = rw (text_again base_after_item (n, after) fits) refl
 
 -- A procedure and its arguments are those of a request.
 abbrev AreOf : ℕ → List ℕ → WitnessAsk → Type 0
@@ -47,4 +48,8 @@ only procedure bytes a bound e =
     (λ e. by_number procedure 6 _ _ a
     (λ same e. let d = decoded _ _ a e in let t = text_only word d.0 bytes bound d.1 in
     subst (AreOf procedure bytes) (sym d.2) (same, t.0, t.1))
-    (λ e. absurd cc) e) e) e) e) e) e) e
+    (λ e. by_number procedure 7 _ _ a
+    (λ same e. let d = decoded _ _ a e in
+    let t = text_only base_after_item d.0 bytes bound d.1 in
+    subst (AreOf procedure bytes) (sym d.2) (same, t.0, t.1))
+    (λ e. absurd cc) e) e) e) e) e) e) e) e

@@ -1,6 +1,6 @@
 -- What a node and a witness answer: the results of their procedures (RFC 4506).
 use Rattle.std.specs.Prelude.{◌≡◌, ◌≢◌, ◌<◌, ◌-◌, ◌^◌, ℕ, ◌==◌, Bool, true, false, List, ◌++◌, length, map, take}
-use Rattle.std.specs.Prelude.{Option, Some, None, Result, Ok, Err, option_and_then, option_map}
+use Rattle.std.specs.Prelude.{Option, Some, None, Result, Ok, Err, nat_le, option_and_then, option_map, if◌then◌else◌}
 use Rattle.xdr.specs.Item.{Fits, Item, Value, array, fixed, hyper, number_spelling, opaque, optional, pair}
 use Rattle.xdr.specs.Item.{spelling, word, word_where}
 use Rattle.xdr.specs.Reading.{Read, read_at}
@@ -19,6 +19,7 @@ use Rattle.peer_calls.specs.declared.answers.ResultsFault.TheVariants.{Garbage, 
 use Rattle.peer_calls.specs.declared.answers.Segment.{Segment}
 use Rattle.peer_calls.specs.declared.answers.Segment.TheVariants as code
 use Rattle.peer_calls.specs.declared.answers.Told.{Told}
+use Rattle.peer_calls.specs.declared.bases.TheConstants.{MAX_BASE}
 use Rattle.peer_calls.specs.declared.cases.Case.{Case}
 use Rattle.peer_calls.specs.declared.cases.Case.TheVariants as cases
 use Rattle.peer_calls.specs.declared.cases.TheConstants.{MAX_CASE}
@@ -153,6 +154,32 @@ stands_text false = number_spelling 4 1
 abbrev pub stands_at : List ℕ → Option Bool
 stands_at bytes =
     after_or (after_word 0 bytes) (alone true) (option_and_then (alone false) (after_word 1 bytes))
+
+-- ---- BASE, of a node and of a witness
+
+-- the bytes of a base, as opaque data (RFC 4506, section 4.10)
+abbrev pub base_bytes : Item
+base_bytes = opaque MAX_BASE
+
+-- 0 and the bytes of a base; 1: there is none
+abbrev pub base_results : Option (List ℕ) → List ℕ
+base_results (Some base) = number_spelling 4 0 ++ spelling base_bytes base
+base_results None = number_spelling 4 1
+
+-- what is sent of a base, if there is one: all of it, where it has at most MAX_BASE bytes
+abbrev pub base_sent : Option (List ℕ) → Option (List ℕ)
+base_sent None = None
+base_sent (Some base) = if nat_le (length base) MAX_BASE then Some base else None
+
+-- what has such a text
+abbrev pub IsBaseAnswer : Option (List ℕ) → Type 0
+IsBaseAnswer (Some base) = Fits base_bytes base
+IsBaseAnswer None = Unit {0}
+
+abbrev pub base_at : List ℕ → Option (Option (List ℕ))
+base_at bytes =
+    after_or (after_word 0 bytes) (λ rest. option_map Some (text_at (text_of base_bytes) rest))
+    (option_and_then (alone None) (after_word 1 bytes))
 
 -- ---- a witness's WANTED
 

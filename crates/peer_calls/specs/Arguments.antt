@@ -6,6 +6,7 @@ use Rattle.xdr.specs.Reading.{Read, read_at}
 use Rattle.xdr.specs.Texts.Text.{Text}
 use Rattle.rpc.specs.declared.reply.ReplyBody.{ReplyBody}
 use Rattle.rpc.specs.declared.reply.ReplyBody.TheVariants.{GarbageArguments, SystemError}
+use Rattle.peer_calls.specs.declared.arguments.BaseAfter.{BaseAfter}
 use Rattle.peer_calls.specs.declared.arguments.Greeting.{Greeting}
 use Rattle.peer_calls.specs.declared.arguments.Numbers.{Numbers}
 
@@ -40,6 +41,16 @@ numbers_value n = (n.first, n.last)
 -- the number of a node
 abbrev pub node_text : Text
 node_text = text_of word
+
+-- a node, and the number of its log above which a base is asked for
+abbrev pub base_after_item : Item
+base_after_item = pair word hyper
+
+abbrev pub base_after_text : Text
+base_after_text = text_of base_after_item
+
+abbrev pub base_after_value : BaseAfter → Value base_after_item
+base_after_value b = (b.node, b.after)
 
 -- what follows a word, where the bytes begin with it
 abbrev pub rest_of : {A : Type 0} → Read A → Option (List ℕ)

@@ -6,7 +6,8 @@ ghost use Rattle.xdr.specs.Item.{word_where};
 ghost use Rattle.xdr.specs.Reading.{Gives, GivesUnless};
 ghost use Rattle.xdr.specs.Texts.Text.{text_at};
 ghost use Rattle.xdr.specs.ReadFault.{xdr_fault};
-ghost use Rattle.peer_calls.specs.Arguments.{GivesAsk, after_word, after_words, greeting_item, greeting_text};
+ghost use Rattle.peer_calls.specs.Arguments.{GivesAsk, after_word, after_words, base_after_item, base_after_text};
+ghost use Rattle.peer_calls.specs.Arguments.{base_after_value, greeting_item, greeting_text};
 ghost use Rattle.peer_calls.specs.Arguments.{greeting_value};
 ghost use Rattle.peer_calls.specs.Arguments.{hyper_text, node_text, nothing_in, numbers_item, numbers_text};
 ghost use Rattle.peer_calls.specs.Arguments.{numbers_value, or_garbage};
@@ -41,6 +42,13 @@ pub struct Numbers {
 #[derive(Clone, Copy, Debug)]
 pub struct NodeNumber {
     pub node: u32,
+}
+
+/// A node, and a number of its log: a base at a later one is asked for.
+#[derive(Clone, Copy, Debug)]
+pub struct BaseAfter {
+    pub node: u32,
+    pub after: u64,
 }
 
 impl<'a> FromText<'a> for Greeting {
@@ -119,6 +127,30 @@ impl<'a> FromText<'a> for NodeNumber {
     fn has_text(&self) -> bool {
         true
     }
+}
+
+impl<'a> FromText<'a> for BaseAfter {
+    ghost text = { base_after_text };
+
+    ghost value = { base_after_value };
+
+    fn read_front(_alloc: Global, reader: &mut Reader<'a>) -> Result<BaseAfter, ReadFault> {
+        let start = reader.rest();
+        let read = read_base_after(reader);
+        put_back_on_err(reader, start, read)
+    }
+
+    fn has_text(&self) -> bool {
+        true
+    }
+}
+
+fn read_base_after<'a>(reader: &mut Reader<'a>) -> Result<BaseAfter, ReadFault>
+    ensures { GivesUnless xdr_fault base_after_item base_after_value reader.old result reader.new }
+{
+    let node = reader.u32()?;
+    let after = reader.u64()?;
+    Ok(BaseAfter { node, after })
 }
 
 /// The value whose text the arguments are, or the refusal of a call whose arguments don't decode.

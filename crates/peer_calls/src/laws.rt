@@ -1,9 +1,10 @@
 //! What holds of all calls of the two programs.
 
-ghost use Rattle.std.specs.Prelude.{◌≡◌, ◌<◌, ◌^◌, ◌++◌, Bool, List, ℕ, Ok, Some};
+ghost use Rattle.std.specs.Prelude.{◌≡◌, ◌<◌, ◌^◌, ◌++◌, Bool, List, ℕ, Ok, Option, Some};
 ghost use Rattle.xdr.specs.Item.{IsBytes};
 ghost use Rattle.rpc.specs.Call.{message_at};
-ghost use Rattle.peer_calls.specs.Answers.{IsCase, NodeCase, case_at, case_text, stands_at, stands_text};
+ghost use Rattle.peer_calls.specs.Answers.{IsBaseAnswer, IsCase, NodeCase, base_at, base_results, case_at, case_text};
+ghost use Rattle.peer_calls.specs.Answers.{stands_at, stands_text};
 ghost use Rattle.peer_calls.specs.Calls.{call_text, judged};
 ghost use Rattle.peer_calls.specs.NodeRequests.{IsNodeAsk, NodeAsk, node_arguments, node_ask_at, node_procedure};
 ghost use Rattle.peer_calls.specs.WitnessRequests.{IsWitnessAsk, WitnessAsk, witness_arguments, witness_ask_at};
@@ -34,8 +35,9 @@ pub fn witness_requests_have_one_text()
         (procedure ≡ witness_procedure a) × (bytes ≡ witness_arguments a) × IsWitnessAsk a }
 {}
 
-/// What is answered to STANDS and to CASE is read as what it is.
+/// What is answered to STANDS, to CASE and to BASE is read as what it is.
 pub fn answers_are_read_as_written()
     ensures stands { (b : Bool) → stands_at (stands_text b) ≡ Some b }
     ensures case { (c : NodeCase) → IsCase c → case_at (case_text c) ≡ Some c }
+    ensures base { (b : Option (List ℕ)) → IsBaseAnswer b → base_at (base_results b) ≡ Some b }
 {}

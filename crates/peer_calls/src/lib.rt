@@ -4,6 +4,7 @@
 
 mod answers;
 mod arguments;
+mod bases;
 mod call;
 mod cases;
 mod delivered;
@@ -17,7 +18,8 @@ pub use answers::{
     Greeted, ResultNumber, ResultsFault, Segment, Told, read_greeted, read_segment, read_signed,
     read_stands,
 };
-pub use arguments::{After, Greeting, NodeNumber, Numbers};
+pub use arguments::{After, BaseAfter, Greeting, NodeNumber, Numbers};
+pub use bases::{MAX_BASE, read_base, write_base};
 pub use call::{Asked, NODE_PROGRAM, Unasked, VERSION, WITNESS_PROGRAM, judge_call, read_results};
 pub use cases::{Case, MAX_CASE, read_case};
 pub use delivered::{Delivered, read_delivered};

@@ -11,10 +11,10 @@ ghost use Rattle.peer_calls.specs.NodeRequests.{node_arguments, node_ask, node_a
 ghost use Rattle.peer_calls.specs.NodeRequests.{shown_at};
 
 use crate::arguments::{
-    After, Greeting, Numbers, after_word, read_arguments, read_nothing, read_packet,
+    After, BaseAfter, Greeting, Numbers, after_word, read_arguments, read_nothing, read_packet,
 };
 use crate::call::NODE_PROGRAM;
-use crate::write::{add_greeting, add_numbers, add_packet, write_call};
+use crate::write::{add_base_after, add_greeting, add_numbers, add_packet, write_call};
 use authenticator::Authenticator;
 use rpc::ReplyBody;
 use std::alloc::{AllocError, Global};
@@ -38,6 +38,8 @@ pub enum NodeRequest<'a> {
     Segment(Numbers),
     /// Whether the pair of number and hash of this authenticator stands in the log.
     Stands(Authenticator),
+    /// The base of the node with this number at its last CHECK, if that is after this number.
+    Base(BaseAfter),
 }
 
 /// The number of a packet with an authenticator, of one with an envelope, and of one with an acknowledgement.
@@ -47,7 +49,7 @@ const ENVELOPE: u32 = 2;
 
 const ACK: u32 = 4;
 
-/// What the arguments of a procedure ask of a node: `ProcedureUnavailable` where the procedure is above 6, else
+/// What the arguments of a procedure ask of a node: `ProcedureUnavailable` where the procedure is above 7, else
 /// `GarbageArguments` where they don't decode, or more follows. DELIVER and ACKNOWLEDGE decode by their first word
 /// alone: whether a text follows is the node's to say. `SystemError` comes only where a growth was refused.
 pub fn read_node_request<'a>(
@@ -84,6 +86,10 @@ pub fn read_node_request<'a>(
         },
         6 => match read_authenticator(alloc, arguments) {
             Ok(authenticator) => Ok(NodeRequest::Stands(authenticator)),
+            Err(refusal) => Err(refusal),
+        },
+        7 => match read_arguments(alloc, arguments) {
+            Ok(base) => Ok(NodeRequest::Base(base)),
             Err(refusal) => Err(refusal),
         },
         _ => Err(ReplyBody::ProcedureUnavailable),
@@ -129,6 +135,7 @@ impl NodeRequest<'_> {
             NodeRequest::Signed(_) => 4,
             NodeRequest::Segment(_) => 5,
             NodeRequest::Stands(_) => 6,
+            NodeRequest::Base(_) => 7,
         }
     }
 }
@@ -165,6 +172,7 @@ fn add_arguments(request: &NodeRequest<'_>, out: &mut Vec<u8>) -> Result<(), All
         NodeRequest::Signed(after) => out.put_u64(after.number),
         NodeRequest::Segment(numbers) => add_numbers(numbers, out),
         NodeRequest::Stands(authenticator) => add_shown(authenticator, out),
+        NodeRequest::Base(base) => add_base_after(base, out),
     }
 }
 

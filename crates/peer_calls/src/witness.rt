@@ -7,9 +7,9 @@ ghost use Rattle.peer_calls.specs.Calls.{call_text};
 ghost use Rattle.peer_calls.specs.WitnessRequests.{witness_arguments, witness_ask, witness_ask_at, witness_call};
 ghost use Rattle.peer_calls.specs.WitnessRequests.{witness_procedure};
 
-use crate::arguments::{Greeting, NodeNumber, read_arguments, read_nothing};
+use crate::arguments::{BaseAfter, Greeting, NodeNumber, read_arguments, read_nothing};
 use crate::call::WITNESS_PROGRAM;
-use crate::write::{add_greeting, write_call};
+use crate::write::{add_base_after, add_greeting, write_call};
 use rpc::ReplyBody;
 use std::alloc::{AllocError, Global};
 use xdr::{Writer, all_or_nothing};
@@ -32,9 +32,11 @@ pub enum WitnessRequest<'a> {
     Shown(NodeNumber),
     /// Its evidence of a node.
     Case(NodeNumber),
+    /// The base by which its own books of a node began, if that is after this number.
+    Base(BaseAfter),
 }
 
-/// What the arguments of a procedure ask of a witness: `ProcedureUnavailable` where the procedure is above 6, else
+/// What the arguments of a procedure ask of a witness: `ProcedureUnavailable` where the procedure is above 7, else
 /// `GarbageArguments` where they don't decode, or more follows. The arguments of DELIVER are the packet, whatever
 /// they are. `SystemError` comes only where a growth was refused.
 pub fn read_witness_request<'a>(
@@ -70,6 +72,10 @@ pub fn read_witness_request<'a>(
             Ok(node) => Ok(WitnessRequest::Case(node)),
             Err(refusal) => Err(refusal),
         },
+        7 => match read_arguments(alloc, arguments) {
+            Ok(base) => Ok(WitnessRequest::Base(base)),
+            Err(refusal) => Err(refusal),
+        },
         _ => Err(ReplyBody::ProcedureUnavailable),
     }
 }
@@ -87,6 +93,7 @@ impl WitnessRequest<'_> {
             WitnessRequest::Told(_) => 4,
             WitnessRequest::Shown(_) => 5,
             WitnessRequest::Case(_) => 6,
+            WitnessRequest::Base(_) => 7,
         }
     }
 }
@@ -123,5 +130,6 @@ fn add_arguments(request: &WitnessRequest<'_>, out: &mut Vec<u8>) -> Result<(), 
         WitnessRequest::Told(node) => out.put_u32(node.node),
         WitnessRequest::Shown(node) => out.put_u32(node.node),
         WitnessRequest::Case(node) => out.put_u32(node.node),
+        WitnessRequest::Base(base) => add_base_after(base, out),
     }
 }

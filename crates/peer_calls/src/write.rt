@@ -3,10 +3,11 @@
 ghost use Rattle.std.specs.Prelude.{◌++◌};
 ghost use Rattle.xdr.specs.Item.{number_spelling, spelling};
 ghost use Rattle.xdr.specs.Writing.{Adds, Appends};
-ghost use Rattle.peer_calls.specs.Arguments.{greeting_item, greeting_value, numbers_item, numbers_value};
+ghost use Rattle.peer_calls.specs.Arguments.{base_after_item, base_after_value, greeting_item, greeting_value};
+ghost use Rattle.peer_calls.specs.Arguments.{numbers_item, numbers_value};
 ghost use Rattle.peer_calls.specs.Calls.{call_text};
 
-use crate::arguments::{Greeting, Numbers};
+use crate::arguments::{BaseAfter, Greeting, Numbers};
 use crate::call::VERSION;
 use rpc::RPC_VERSION;
 use std::alloc::AllocError;
@@ -58,6 +59,14 @@ pub(crate) fn add_numbers(numbers: &Numbers, out: &mut Vec<u8>) -> Result<(), Al
 {
     out.put_u64(numbers.first)?;
     out.put_u64(numbers.last)
+}
+
+/// Appends the arguments of BASE. Where memory is refused, a part of them may stand.
+pub(crate) fn add_base_after(base: &BaseAfter, out: &mut Vec<u8>) -> Result<(), AllocError>
+    ensures { Adds (spelling base_after_item (base_after_value base.now)) out.old.items result out.new.items }
+{
+    out.put_u32(base.node)?;
+    out.put_u64(base.after)
 }
 
 /// Appends a word and a text. Where memory is refused, a part of them may stand.
