@@ -2,6 +2,7 @@
 
 ghost use Rattle.server_process.specs.PutBack.{IsEnding};
 
+use crate::checking::Checking;
 use crate::locked::{Held, LockedServer, Seat};
 use crate::status::{ServerTeller, Tally, count_received};
 use authenticator::Roster;
@@ -42,6 +43,8 @@ pub struct ServerOrder<'a, L> {
     pub audits: Option<L>,
     /// Where the process can be told to stop, and asked how it is.
     pub control: Option<Commands<'a>>,
+    /// After how many new messages the server logs a CHECK of its state, if it does; 0 counts as 1.
+    pub check_every: Option<u64>,
 }
 
 /// Why a server no longer serves.
@@ -104,8 +107,9 @@ where
         listener,
         audits,
         control,
+        check_every,
     } = order;
-    let held = Mutex::new(Held::new(server));
+    let held = Mutex::new(Held::new(server, Checking::new(check_every)));
     let phase = Mutex::new(Phase::Serving);
     let tally = Mutex::new(Tally::new(epoch));
     serve_until_end(
@@ -359,6 +363,7 @@ where
         phase,
         seat,
         context.tally,
+        context.output,
     );
     match serve_requests(alloc, &mut locked, &mut reader, &mut writer) {
         Ok(end) => Ok(end),
