@@ -97,7 +97,6 @@ fn is_good_file(
 }
 
 /// Whether a case is of a roster, and its evidence is against a node and accepted under it.
-#[tactic(auto, using(crate::proofs::OfCases::is_good))]
 fn is_good(
     alloc: Global,
     roster: &Roster,
