@@ -15,9 +15,16 @@ pub(crate) fn assured_in<'s>(status: &'s str, witness: &str) -> Option<&'s str> 
 
 /// What a line of a gateway's status says of the witness at this address, if it is of that one.
 fn words_of<'s>(line: &'s str, witness: &str) -> Option<&'s str>
-    ensures { IfSome result (λ words. line.now ≡ codes "witness: " ++ witness.now ++ codes " " ++ words.now) }
+    ensures { IfSome result (λ words. line.now ≡ codes "witness: " ++ (witness.now ++ (codes " " ++ words.now))) }
 {
-    line.strip_prefix("witness: ")?
-        .strip_prefix(witness)?
-        .strip_prefix(" ")
+    let named = after(line, "witness: ")?;
+    let rest = after(named, witness)?;
+    after(rest, " ")
+}
+
+/// What follows a beginning of a text.
+fn after<'s>(text: &'s str, beginning: &str) -> Option<&'s str>
+    ensures { IfSome result (λ rest. text.now ≡ beginning.now ++ rest.now) }
+{
+    text.strip_prefix(beginning)
 }

@@ -78,12 +78,7 @@ where
 
 /// Whether bytes are a roster and evidence against a node that is accepted under it.
 #[tactic(auto, using(crate::proofs::OfCases::judged, crate::proofs::OfCases::no_text))]
-fn is_good_file(
-    alloc: Global,
-    roster: &Roster,
-    node: u32,
-    bytes: &[u8],
-) -> Result<bool, AllocError>
+fn is_good_file(alloc: Global, roster: &Roster, node: u32, bytes: &[u8]) -> Result<bool, AllocError>
     ensures { IfOk result (IsJudged roster.now node bytes.now) }
 {
     let mut copy = Vec::new(alloc);
@@ -97,13 +92,7 @@ fn is_good_file(
 }
 
 /// Whether a case is of a roster, and its evidence is against a node and accepted under it.
-#[tactic(auto, using(crate::proofs::OfCases::is_good))]
-fn is_good(
-    alloc: Global,
-    roster: &Roster,
-    node: u32,
-    case: &CaseFile,
-) -> Result<bool, AllocError>
+fn is_good(alloc: Global, roster: &Roster, node: u32, case: &CaseFile) -> Result<bool, AllocError>
     ensures { IfOk result (λ good. IsTrue good ↔ IsGood roster.now node case.now) }
 {
     if !roster.is_same(&case.roster) || case.evidence.node() != node {

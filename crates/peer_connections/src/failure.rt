@@ -4,8 +4,7 @@ ghost use Rattle.std.specs.Prelude.{◌≡◌};
 
 use frames::FrameFault;
 use request_streams::ServeFault;
-use std::fmt;
-use std::io;
+use std::{fmt, io};
 
 /// Why a peer's requests came to an end before its stream did.
 #[derive(Clone, Copy, Debug)]

@@ -95,11 +95,7 @@ pub(crate) fn roster_with(known: &[KnownRoster], digest: &[u8; 32]) -> Option<Kn
 }
 
 /// The first roster with this digest that is of a later epoch than another one.
-pub(crate) fn later_with(
-    known: &[KnownRoster],
-    own: u32,
-    digest: &[u8; 32],
-) -> Option<KnownRoster>
+pub(crate) fn later_with(known: &[KnownRoster], own: u32, digest: &[u8; 32]) -> Option<KnownRoster>
     ensures { result ≡ later_with known.now own digest.now }
 {
     for roster in known {
