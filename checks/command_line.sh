@@ -252,6 +252,24 @@ check_words() {
     says 2 'error: the following required arguments were not provided:' run
     says 2 "error: a value is required for '--roster-out <FILE>' but none was supplied" run --roster-out
     says 2 'nfsacc: the command line is no text' $'\xff'
+    check_host_words
+}
+
+# The words of parties on hosts of their own.
+check_host_words() {
+    local server=(server --secret s --rosters r --state d --node 1 --listen 127.0.0.1:0) number
+    local witness=(witness --rosters r --at 1=a:1 --listen 127.0.0.1:0)
+    says 0 ' *--check-every <N> .*' server --help
+    says 0 ' *--progress .*' gateway --help
+    says 0 ' *--join .*' witness --help
+    says 0 ' *--state <DIR> .*' ask --help
+    for number in 0 16385 x +1 ''; do
+        says 2 'nfsacc: --check-every is a number of calls from 1 to 16384' "${server[@]}" --check-every "$number"
+    done
+    says 2 "error: a value is required for '--check-every <N>' but none was supplied" "${server[@]}" --check-every
+    says 2 "error: the argument '--join' cannot be used multiple times" "${witness[@]}" --join --join
+    says 2 "error: unexpected value 'x' for '--join' found; no more were expected" "${witness[@]}" --join=x
+    says 2 "error: a value is required for '--state <DIR>' but none was supplied" ask a:1 --state
 }
 
 # harmless STATUS WORD..: what is written ends with this status, and is lines of printed ASCII, none of which a word made.

@@ -23,6 +23,7 @@ ALIKE = {
     ("rpc_streams/src/stream.rt", "rpc_streams/src/stream.rt"): CONTRACT,
     ("file_tree/src/making.rt", "file_tree/src/making.rt"): CONTRACT,
     ("nodes/src/locked.rt", "nodes/src/locked.rt"): CONTRACT,
+    ("remote_sharing/src/caller.rt", "remote_sharing/src/caller.rt"): CONTRACT,
     ("replay/src/steps.rt", "replay/src/steps.rt"): CONTRACT,
     ("explain/src/comparison.rt", "explain/src/entry.rt"): FIELDS,
     ("envelopes/src/checks.rt", "witness_service/src/checking.rt"): ORDER,

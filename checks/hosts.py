@@ -11,9 +11,11 @@ given, and as many by a rough way, 60 if not given. KILLS are those of the part 
 import argparse
 import os
 import re
+import select
 import shutil
 import signal
 import socket
+import struct
 import sys
 import threading
 import time
@@ -34,7 +36,8 @@ from peer.keys import Keys  # noqa: E402
 from peer.lies import (Fork, HidesLog, Liar, NoReply, OldReply, OtherAck, OtherMember, ReceivesTwice,  # noqa: E402
                        Silent, Slow, Swapped, UnsignedAck, UnsignedReply, WrongReply, WrongXid)
 from peer.server import Server  # noqa: E402
-from peer.wire import DELIVER, GREET, NODE, WITNESS, Address, Caller, optional_packet  # noqa: E402
+from peer.wire import (DELIVER, GREET, NODE, SEGMENT, WITNESS, Address, Caller, call_text,  # noqa: E402
+                       optional_packet)
 from peer.witness import REFUSED, Witness  # noqa: E402
 from serve.calls import Calls  # noqa: E402
 from serve.client import ROOT, Connection, call, record  # noqa: E402
@@ -53,6 +56,9 @@ ATTRIBUTES = call(8, 1, ROOT)
 SAME_XID = call(7, 1, ROOT)
 CONNECTIONS = 4
 HEIGHT = 4
+LONG_LOG = 480
+SHORTEST = 10_000_000
+PATIENCE_OF_READERS = 90
 INPUT, COMMAND_LINE, DEVICE, KEYS_USED_UP, OTHER, SUSPECTED, EXPOSED = 1, 2, 4, 5, 6, 7, 8
 NO_ROOM = 4
 
@@ -308,7 +314,7 @@ def check_bad_meetings(program: str):
         nobody = socket.create_server(('127.0.0.1', 0))
         away = nobody.getsockname()
         nobody.close()
-        stranger = hosts.witness({1: server.address()}, rosters='others')
+        stranger = hosts.witness({1: server.address()}, '--epoch', '1', rosters='others')
         forger = hosts.keep(Forger(hosts.roster(), hosts.keys('four', 4, CLIENT, 2)))
         others = silent.getsockname(), away, stranger.address(), forger.address
         witness = hosts.witness({1: server.address()}, '--witness', ','.join(map(spelled, others)))
@@ -446,6 +452,34 @@ def check_other_witness(program: str):
     print('our gateway with the other server and the other witness')
 
 
+def check_ask_gateway(program: str):
+    """`ask --state` says after a witness's lines up to which number it assured this machine's gateway. A gateway that
+    doesn't answer is status 4, or that of what is graver."""
+    with Hosts(program) as hosts:
+        usual(hosts, HEIGHT, HEIGHT - 1)
+        state, server = hosts.state('gateway'), hosts.server('one')
+        ours, other = (hosts.witness({1: server.address()}) for _ in range(2))
+        gateway = hosts.gateway('two', '2', server.address(), ours.address(), state=state)
+        connection = Connection(gateway.address()[1])
+        for _ in range(3):
+            assert connection.ask(ATTRIBUTES) == owed(ATTRIBUTES)
+        wait_assured(hosts, state, ours.address(), lambda to: to is not None and to >= 9)
+        [line] = hosts.status_of(state)['witness']
+        words = line.removeprefix(f'{spelled(ours.address())} ')
+        more = '--nodes', '1', '--state', str(state)
+        status, lines, said = ask_all(hosts, [ours.address()], *more)
+        assert (status, lines[1:], said) == (0, [words], ''), (status, lines, said)
+        status, lines, said = ask_all(hosts, [other.address(), ours.address()], *more)
+        assert (status, len(lines), lines[2], said) == (0, 3, line, ''), (status, lines, said)
+        exposing = hosts.keep(Says(hosts.roster(), 3)).address
+        assert hosts.stop(gateway, state) == 0
+        for asked, owed_status in ([ours.address()], DEVICE), ([exposing, ours.address()], EXPOSED):
+            status, lines, said = ask_all(hosts, asked, *more)
+            assert (status, len(lines)) == (owed_status, len(asked)), (status, lines)
+            assert said.count('nfsacc: ') == 1 and said.startswith(f'nfsacc: {state}/control: '), said
+    print('`ask --state` says what witnesses assured this machine\'s gateway')
+
+
 def check_server(program: str):
     """Our server with the other gateway and the other witness, and `ask` with that; the other gateway with our witness. A
     second process with the server's secret is refused, and the server ends when it is told to."""
@@ -504,6 +538,57 @@ def check_strangers(program: str):
         gateway.finish()
         assert server.process.poll() is None and server.said() == '', server.said()
     print('forty silent connections and a repeated message hold nobody off, and end after ten seconds')
+
+
+class SlowReader:
+    """Asks for a segment from an address of this machine, and takes next to nothing of the answer."""
+
+    def __init__(self, server: Address, own: str, last: int):
+        self.socket = socket.socket()
+        self.socket.setsockopt(socket.SOL_SOCKET, socket.SO_RCVBUF, 4096)
+        self.socket.settimeout(PATIENCE_OF_READERS)
+        self.socket.bind((own, 0))
+        self.socket.connect(server)
+        self.socket.sendall(record(call_text(1, NODE, SEGMENT, hyper(1) + hyper(last))))
+
+    def has_bytes(self, seconds: float) -> bool:
+        """Whether its answer begins so soon."""
+        return bool(select.select([self.socket], [], [], seconds)[0])
+
+    def is_cut_off(self) -> bool:
+        """Whether the connection ends before the whole answer came, once it is read."""
+        taken = 0
+        try:
+            while more := self.socket.recv(65536):
+                taken += len(more)
+        except ConnectionResetError:
+            return True
+        return taken < SHORTEST
+
+    def close(self):
+        self.socket.close()
+
+
+def check_slow_readers(program: str):
+    """Who reads a segment slowly holds up neither calls nor, but for a time, other audits: two segments are written at
+    once, one of an address, each within 30 seconds."""
+    with Hosts(program) as hosts:
+        usual(hosts, 11, 10)
+        server = hosts.server('one')
+        gateway = hosts.gateway('two', '2-2', server.address())
+        made = make_calls(gateway.address(), LONG_LOG)
+        last = last_number(server.address(), hosts)
+        slow = [hosts.keep(SlowReader(server.address(), own, last)) for own in ('127.0.0.2', '127.0.0.3')]
+        assert all(reader.has_bytes(10) for reader in slow)
+        again, third = (hosts.keep(SlowReader(server.address(), own, last)) for own in ('127.0.0.2', '127.0.0.4'))
+        assert not again.has_bytes(2) and not third.has_bytes(2)
+        began = time.monotonic()
+        made += make_calls(gateway.address(), CONNECTIONS)
+        assert time.monotonic() - began < 10
+        assert third.has_bytes(60)
+        assert all(reader.is_cut_off() for reader in slow)
+        assert len(log_of(server.address(), hosts.roster()).calls) == LONG_LOG + CONNECTIONS
+    print('two slow readers of a segment are cut off after 30 seconds; a third waits, and calls go on')
 
 
 def check_put_back(program: str):
@@ -589,8 +674,9 @@ def check_lives(program: str):
         secret = hosts.folder / 'one'
         assert secret.stat().st_mode & 0o777 == 0o600 and len(secret.read_bytes()) == 32
         assert hosts.run('secret', str(secret))[0] == DEVICE
-        server = hosts.server('one')
+        server = hosts.server('one', '--progress')
         address = server.address()
+        assert re.fullmatch(f'{TIME} nfsacc: epoch 1: making 128 keys\n', server.said()), server.said()
         assert 'epoch 1 node 1 roster sha256:' in Path(f'{secret}.spent').read_text()
         second = hosts.server('one')
         assert second.status() == DEVICE and second.said().startswith('nfsacc: '), second.said()
@@ -658,7 +744,7 @@ def check_ask(program: str):
         witness = hosts.witness({1: server.address()})
         assert hosts.ask(witness.address()) == (0, {node: ('trusted', 0, 0) for node in (1, 2, 3)})
         assert hosts.ask(witness.address(), rosters='others')[0] == OTHER
-        stranger = hosts.witness({1: server.address()}, rosters='others')
+        stranger = hosts.witness({1: server.address()}, '--epoch', '1', rosters='others')
         stranger.wait_for(r'(?:\S+Z )?1 greets another roster sha256:[0-9a-f]{64}')
         witness.kill()
         assert hosts.ask(witness.address())[0] == DEVICE
@@ -1066,6 +1152,83 @@ def check_next_epoch(program: str):
     print('a gateway whose server begins another epoch ends with 6')
 
 
+def check_witness_epoch(program: str):
+    """A witness goes by the roster with which a server greets: it waits for one that it has, says once why there is none,
+    and stops when it is told to. With --epoch it goes by that roster, whatever the server's is."""
+    with Hosts(program) as hosts:
+        usual(hosts, HEIGHT, HEIGHT - 1, '1-3')
+        hosts.rosters(hosts.member('one', 1, SERVER, 2), hosts.member('four', 4, CLIENT, 2), name='others')
+        server = hosts.server('one')
+        way = hosts.keep(Switch(server.address()))
+        way.off()
+        stranger = hosts.keep(Server(hosts.keys('one', 1, SERVER, 2), hosts.roster(name='others')))
+        states = [hosts.state(name) for name in ('w1', 'w2')]
+        waiting = hosts.witness({1: way.address}, state=states[0])
+        lost = hosts.witness({1: stranger.address}, state=states[1])
+        wait_for_words(waiting, f'nfsacc: server 1 at {spelled(way.address)}: ')
+        wait_for_words(lost, f'nfsacc: server 1 at {spelled(stranger.address)}: it goes by a roster that isn\'t known, sha256:')
+        told = hosts.status_of(states[0])
+        assert told.pop('memory') and told == {'kind': ['witness']}, told
+        time.sleep(3)
+        assert waiting.said().count('nfsacc: ') == lost.said().count('nfsacc: ') == 1, (waiting.said(), lost.said())
+        assert hosts.stop(lost, states[1]) == 0 and lost.lines == ['stopped'], lost.lines
+        assert waiting.lines == [], waiting.lines
+        way.on()
+        waiting.wait_for('epoch 1')
+        waiting.address()
+        both = hosts.witness({2: way.address, 1: server.address()})
+        both.wait_for('epoch 1')
+        named = hosts.witness({1: server.address()}, '--epoch', '2')
+        named.wait_for('epoch 2')
+        named.wait_for(r'(?:\S+Z )?1 greets another roster sha256:[0-9a-f]{64}')
+        time.sleep(2)
+        assert named.process.poll() is None and named.said() == '', named.said()
+        assert hosts.witness({1: server.address()}, '--epoch', '4').status() == INPUT
+    print('a witness goes by the roster with which a server greets, or by that of --epoch')
+
+
+def check_witness_next_epoch(program: str):
+    """A witness whose server begins the next epoch ends with 6, and says so; its evidence was put before. One that is begun
+    anew goes by the next epoch."""
+    with Hosts(program) as hosts:
+        usual(hosts, HEIGHT, HEIGHT - 1, '1-2')
+        liar = hosts.keep(WrongReply(hosts.keys('one', 1, SERVER, HEIGHT), hosts.roster(), at=2))
+        way, cases = hosts.keep(Switch(liar.address)), hosts.state('cases')
+        witness = hosts.witness({1: way.address}, '--evidence', str(cases))
+        witness.wait_for('epoch 1')
+        gateway = hosts.gateway('two', '2', liar.address, witness.address())
+        connection = Connection(gateway.address()[1])
+        for _ in range(2):
+            connection.ask(ATTRIBUTES)
+        exposed_alone(hosts, witness, cases)
+        later = hosts.keep(Server(hosts.keys('one', 1, SERVER, HEIGHT, 2), hosts.roster(2)))
+        way.off()
+        way.on(later.address)
+        assert witness.status() == OTHER, witness.said()
+        assert witness.lines[-1] == 'a server goes by another roster', witness.lines
+        assert re.search(f'{TIME} nfsacc: server 1 began epoch 2\n$', witness.said()), witness.said()
+        assert not any('greets another roster' in line for line in witness.lines), witness.lines
+        hosts.witness({1: way.address}).wait_for('epoch 2')
+    print('a witness whose server begins another epoch ends with 6')
+
+
+def check_resets(program: str):
+    """A peer that resets its connection within a record: a server and a witness say that it did."""
+    with Hosts(program) as hosts:
+        usual(hosts, HEIGHT, HEIGHT - 1)
+        server = hosts.server('one')
+        witness = hosts.witness({1: server.address()})
+        for party in server, witness:
+            peer = socket.create_connection(party.address())
+            peer.setsockopt(socket.SOL_SOCKET, socket.SO_LINGER, struct.pack('ii', 1, 0))
+            peer.sendall(word(0x80000028) + bytes(8))
+            time.sleep(0.5)
+            peer.close()
+            wait_for_words(party, ': connection reset\n')
+            assert 'device' not in party.said(), party.said()
+    print('a peer that resets its connection is said to have done so')
+
+
 def check_challenge(program: str):
     """A call that the server doesn't acknowledge by its signature goes to witnesses at once."""
     with Hosts(program) as hosts:
@@ -1218,21 +1381,35 @@ def wait_assured(hosts: Hosts, state: Path, witness: Address, holds: Callable[[i
         time.sleep(0.3)
 
 
+def check_progress(gateway: Party, witness: Address, reply: int):
+    """A gateway says as it goes what its status says of a witness, whenever that has changed."""
+    said = rf'nfsacc: witness {re.escape(spelled(witness))}: assured (of none|to \d+)$'
+    end = time.monotonic() + 60
+    while not any(words.startswith('to ') and int(words[3:]) >= reply
+                  for words in re.findall(said, gateway.said(), re.MULTILINE)):
+        assert time.monotonic() < end, gateway.said()
+        time.sleep(0.2)
+    lines = re.findall(said, gateway.said(), re.MULTILINE)
+    assert all(line != following for line, following in zip(lines, lines[1:])), lines
+
+
 def check_assured(program: str):
     """A gateway says up to which number each witness answers for its replies: no further than the witness has taken
     what the server signed and has audited the server, of which one that takes its place knows nothing; and not at all
-    where it calls the server exposed."""
+    where it calls the server exposed. With `--progress` it says so as it goes."""
     with Hosts(program) as hosts:
         usual(hosts)
         state, server = hosts.state('gateway'), hosts.server('one')
         ours, other = hosts.witness({1: server.address()}), hosts.keep(NoRoom(hosts.roster()))
         way = hosts.keep(Switch(other.address))
-        gateway = hosts.gateway('two', '2-2', server.address(), ours.address(), way.address, state=state)
+        gateway = hosts.gateway('two', '2-2', server.address(), ours.address(), way.address, state=state,
+                                more=('--progress',))
         connection = Connection(gateway.address()[1])
         for _ in range(5):
             assert connection.ask(ATTRIBUTES) == owed(ATTRIBUTES)
         replies = [each.number + 2 for each in log_of(server.address(), hosts.roster()).calls]
         wait_assured(hosts, state, ours.address(), lambda to: to is not None and to >= replies[-1])
+        check_progress(gateway, ours.address(), replies[-1])
         for witness in other, hosts.keep(NoRoom(hosts.roster())):
             def audit(witness=witness):
                 assert witness.round({1: server.address()}) == {}
@@ -1262,10 +1439,11 @@ def check_assured(program: str):
     print('a gateway says up to which reply each witness answers: not before it has taken what was signed, nor of a liar')
 
 
-CHECKS = [check_meeting, check_bad_meetings, check_put_back, check_ask_many, check_server, check_strangers, check_assured, check_server_keys, check_three, check_rows, check_lie, check_fork, check_none, check_other_calls, check_suspected,
+CHECKS = [check_meeting, check_bad_meetings, check_put_back, check_slow_readers, check_ask_many, check_server, check_strangers, check_assured, check_server_keys, check_three, check_rows, check_lie, check_fork, check_none, check_other_calls, check_suspected,
           check_other_witness, check_lives, check_second_roster, check_keys_used_up, check_ask,
           check_calls, check_breaks, check_garbage, check_same_call, check_in_flight, check_gateway_put_back, check_open_message, check_rough,
-          check_round_trips, check_away, check_give_up, check_next_epoch, check_challenge, check_ranges, check_status,
+          check_round_trips, check_away, check_give_up, check_next_epoch, check_witness_epoch, check_witness_next_epoch,
+          check_resets, check_ask_gateway, check_challenge, check_ranges, check_status,
           check_log_file, check_kills]
 
 

@@ -18,7 +18,7 @@ from verifier.keys import CLIENT, MAX_MEMBERS, SERVER
 from .parties import PATIENCE, TOLD, Hosts, Party
 from .recorder import NOWHERE, Book, Recorder
 
-KILLED, ENDED = -signal.SIGKILL, -signal.SIGTERM
+KILLED = -signal.SIGKILL
 STOPPED, DEVICE, KEYS_USED_UP, OTHER = 0, 4, 5, 6
 SERVER_HEIGHT, CLIENT_HEIGHT = 9, 6
 SPARE_EPOCHS, SPARE_NODES = 5, 10
@@ -146,7 +146,7 @@ class Story:
         self.servers = Lives(self.begin_server, self.server_is_up, self.server_is_down, {KILLED, KEYS_USED_UP})
         self.gateways = Lives(self.begin_gateway, self.gateway_is_up, self.gateway_is_down,
                               {KILLED, KEYS_USED_UP, OTHER})
-        self.witnesses = Lives(self.begin_witness, self.witness_is_up, self.witness_is_down, {KILLED, ENDED})
+        self.witnesses = Lives(self.begin_witness, self.witness_is_up, self.witness_is_down, {KILLED, OTHER})
         self.lives = [self.servers, self.gateways, self.witnesses]
         self.programs = [Program(self, number) for number in range(1, PROGRAMS + 1)]
 
@@ -156,13 +156,12 @@ class Story:
         return self.hosts.server('one', state=self.states[0])
 
     def server_is_up(self, party: Party):
-        """The witness of an earlier epoch is ended before anybody can reach the server of this one."""
+        """The witness of an earlier epoch can't be reached from then on. It ends by itself."""
         epoch = int(party.wait_for(r'epoch (\d+), \d+ keys made')[1])
         with self.lock:
             self.epoch = epoch
             if self.witness_epochs and self.witness_epochs[-1][1] != epoch:
                 self.to_witness.to = NOWHERE
-                self.witness_epochs[-1][0].process.terminate()
             self.to_server.to = party.address()
 
     def server_is_down(self):
@@ -171,21 +170,15 @@ class Story:
 
     # ---- the witness
 
-    def begin_witness(self) -> Party | None:
-        """Begins once a server is there, under its epoch."""
-        while not self.witnesses.is_over:
-            with self.lock:
-                if self.epoch is not None:
-                    more = '--epoch', str(self.epoch), '--evidence', str(self.cases)
-                    party = self.hosts.witness({1: self.to_server.address}, *more, state=self.states[2])
-                    self.witness_epochs.append((party, self.epoch))
-                    return party
-            time.sleep(0.01)
-        return None
+    def begin_witness(self) -> Party:
+        return self.hosts.witness({1: self.to_server.address}, '--evidence', str(self.cases), state=self.states[2])
 
     def witness_is_up(self, party: Party):
+        """It listens once a server has greeted it, and goes by the epoch of that one."""
+        epoch = int(party.wait_for(r'epoch (\d+)')[1])
         with self.lock:
-            if self.witness_epochs[-1][1] == self.epoch:
+            self.witness_epochs.append((party, epoch))
+            if epoch == self.epoch:
                 self.to_witness.to = party.address()
 
     def witness_is_down(self):

@@ -2,6 +2,7 @@
 //! acknowledged by the signature of where it is.
 #![tactic(auto)]
 
+mod incoming;
 mod kept;
 pub mod laws;
 mod outcome;
@@ -10,6 +11,7 @@ mod refusal;
 pub mod senders;
 pub mod signings;
 
+pub use incoming::{Incoming, ReadValue, Verify};
 pub use outcome::{Prepared, Received};
 pub use receiver::Receiver;
 pub use refusal::Refusal;

@@ -35,6 +35,8 @@ pub(crate) struct Context<'a, R, T, W, E> {
     pub(crate) server: u32,
     /// How many seconds after its beginning a call is given up, if it ever is.
     pub(crate) give_up: Option<u64>,
+    /// Whether it is said up to which number each witness answers for the replies.
+    pub(crate) progress: bool,
 }
 
 impl<'a, R, T, W, E> Clone for Context<'a, R, T, W, E> {

@@ -4,11 +4,13 @@
 mod cause;
 mod context;
 mod desk;
+mod learned;
 mod local_programs;
 mod local_stream;
 mod news;
 mod own_log;
 mod receipts;
+mod replies;
 mod reporter;
 mod run;
 mod status;

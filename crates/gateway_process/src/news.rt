@@ -1,5 +1,7 @@
 //! What witnesses are told of a client's log, as packets.
 
+ghost use Rattle.std.specs.Prelude.{◌≡◌, drop};
+
 use authenticator::{Authenticator, Word};
 use envelopes::{Envelope, EnvelopeRef};
 use nodes::ClientNode;
@@ -88,7 +90,9 @@ pub(crate) fn news_since(
 }
 
 /// What stands in a list after so many items.
-fn rest_after<T>(items: &[T], count: usize) -> &[T] {
+fn rest_after<T>(items: &[T], count: usize) -> &[T]
+    ensures { result.now ≡ drop count items.now }
+{
     let first = count.min(items.len());
     &items[first..]
 }

@@ -116,7 +116,7 @@ where
     }
 }
 
-/// Reports to a witness, and says what goes wrong.
+/// Reports to a witness, and says what goes wrong; and which replies it answers for, where that is to be said.
 fn report_to<R, T, W, E>(
     shared: Shared<'_, R, T, W, E>,
     witness: &mut WitnessPeer,
@@ -130,6 +130,9 @@ where
 {
     let Err(trouble) = witness.report(shared, reserve) else {
         witness.has_failed = false;
+        if shared.context.progress {
+            witness.say_progress(shared.context);
+        }
         return;
     };
     if let Trouble::OwnPutBack(_) = &trouble {

@@ -41,6 +41,9 @@ pub struct GatewayOrder<'a, L> {
     pub reserve: u32,
     /// After how many seconds without a reply a call is given up; it waits for ever where none are given.
     pub give_up: Option<u64>,
+    /// Whether a line says, after a report, up to which number the witness answers for the replies, where that has
+    /// changed.
+    pub progress: bool,
     /// Where local programs connect.
     pub listener: L,
     /// Where the process can be told to stop, and asked how it is.
@@ -100,6 +103,7 @@ where
         epoch: order.epoch,
         server: order.server,
         give_up: order.give_up,
+        progress: order.progress,
     };
     serve_order(context, order);
     end_of(rt, &phase, &ending)
@@ -136,7 +140,7 @@ where
         ..
     } = order;
     let alloc = context.alloc;
-    let Some(client) = shared_client(client, server) else {
+    let Some(client) = shared_client(alloc, client, server) else {
         context.say(format!(in alloc;
             "nfsacc: the roster lists no server {server} for this node\n"
         ));
@@ -164,9 +168,9 @@ where
 }
 
 /// The client of the server with a number: none where its roster lists no such server, or its log isn't empty.
-fn shared_client(client: ClientNode, server: u32) -> Option<SharedClient> {
+fn shared_client(alloc: Global, client: ClientNode, server: u32) -> Option<SharedClient> {
     let client = RemoteClient::new(client, server).ok()?;
-    SharedClient::new(client).ok()
+    SharedClient::new(alloc, client).ok()
 }
 
 /// The ways to the server at an address.

@@ -45,11 +45,8 @@ impl<R: Wait> GatewayTeller<'_, R> {
 
 /// The line that says up to which number a witness answers for the replies, as its last report brought it.
 fn assured_line(alloc: Global, assured: &Assured) -> Result<String, AllocError> {
-    let address = assured.address.as_str();
-    match assured.to {
-        Some(number) => format!(in alloc; "witness: {address} assured to {number}\n"),
-        None => format!(in alloc; "witness: {address} assured of none\n"),
-    }
+    let (address, to) = (assured.address.as_str(), assured.to);
+    format!(in alloc; "witness: {address} {to}\n")
 }
 
 /// How many replies were received, by the entries of a log.

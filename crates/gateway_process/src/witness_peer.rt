@@ -1,14 +1,13 @@
 //! A witness that a gateway reports to.
 
 use crate::context::{Context, Shared};
-use crate::desk::Assured;
+use crate::desk::{Assured, AssuredTo};
+use crate::learned::{Learned, said_by};
 use crate::news::{
-    News, Progress, Shown, ShownOf, ack_packet, news_since, receipt_packet, replies_after,
-    segment_packet,
+    News, Progress, Shown, ack_packet, news_since, receipt_packet, replies_after, segment_packet,
 };
-use crate::own_log::lost_number;
+use crate::replies::Replies;
 use crate::trouble::{Trouble, check_greeted};
-use assurance::Assurance;
 use authenticator::Authenticator;
 use peer_calls::{
     NodeNumber, Numbers, ResultNumber, Told as NodeTold, Wanted, WantedMessage, WitnessRequest,
@@ -38,13 +37,6 @@ const MOST_SHOWN: u32 = 16_980;
 /// How many times news is handed to a witness in one report.
 const MOST_ROUNDS: u32 = 16;
 
-/// What a witness says of a packet that it takes, of one that it took before, and of one for which it has no room yet.
-const TAKEN: u32 = 0;
-
-const TAKEN_BEFORE: u32 = 10;
-
-const NO_ROOM: u32 = 20;
-
 /// What it says of a node that it trusts, suspects or calls exposed.
 const TRUSTED: u32 = 1;
 
@@ -64,11 +56,11 @@ pub(crate) struct WitnessPeer {
     /// How far it was told.
     progress: Progress,
     /// Which replies it answers for.
-    assurance: Assurance,
+    replies: Replies,
     /// After how many entries of the client's log replies weren't counted yet that were handed out.
     counted: usize,
-    /// The numbers of the calls in the server's log whose acknowledgements it took, and whose replies it didn't yet.
-    acknowledged: Vec<u64>,
+    /// Which replies it answers for, as it was said last, if it was.
+    said: Option<AssuredTo>,
     /// Whether the last report to it has failed.
     pub(crate) has_failed: bool,
 }
@@ -84,9 +76,9 @@ impl WitnessPeer {
                 own: 0,
                 unanswered: 0,
             },
-            assurance: Assurance::new(alloc),
+            replies: Replies::new(alloc),
             counted: 0,
-            acknowledged: Vec::new(alloc),
+            said: None,
             has_failed: false,
         }
     }
@@ -168,53 +160,15 @@ impl WitnessPeer {
         all: &[Shown],
     ) -> Result<Option<usize>, Trouble> {
         for shown in all {
-            let result = hand(alloc, caller, &shown.packet)?;
-            if result == NO_ROOM {
+            let learned = said_by(hand(alloc, caller, &shown.packet)?);
+            if learned == Learned::NoRoom {
                 return Ok(Some(shown.before));
             }
-            if result == TAKEN || result == TAKEN_BEFORE {
-                self.note_taken(server, shown.of)?;
+            if learned == Learned::Taken {
+                self.replies.note_taken(server, shown.of)?;
             }
         }
         Ok(None)
-    }
-
-    /// It took what the server signed. A reply counts where the acknowledgement of its call was taken, too: that of the
-    /// message two numbers before it.
-    fn note_taken(&mut self, server: u32, of: ShownOf) -> Result<(), Trouble> {
-        match of {
-            ShownOf::Receipt { by, number } => {
-                if by == server {
-                    self.note_acknowledged(number)?;
-                }
-            }
-            ShownOf::Reply { from, number } => {
-                if from == server {
-                    self.note_reply(number);
-                }
-            }
-        }
-        Ok(())
-    }
-
-    /// It took the server's signature of the acknowledgement of the call with a number.
-    fn note_acknowledged(&mut self, number: u64) -> Result<(), AllocError> {
-        if self.acknowledged.contains(&number) {
-            return Ok(());
-        }
-        match self.acknowledged.push(number) {
-            Ok(()) => Ok(()),
-            Err(_) => Err(AllocError),
-        }
-    }
-
-    /// It took the server's signature of the message with a number.
-    fn note_reply(&mut self, number: u64) {
-        let call = number.saturating_sub(2);
-        if self.acknowledged.contains(&call) {
-            self.acknowledged.retain(|other| *other != call);
-            self.assurance.take(number);
-        }
     }
 
     /// Counts the replies that were handed out since they were counted last.
@@ -227,7 +181,7 @@ impl WitnessPeer {
     {
         let (numbers, entries) = shared.replies(self.counted)?;
         for number in numbers {
-            self.assurance.hand_out(number)?;
+            self.replies.assurance.hand_out(number)?;
         }
         self.counted = entries;
         Ok(())
@@ -252,18 +206,40 @@ impl WitnessPeer {
             desk,
             ..
         } = shared.context;
-        self.assurance.ask();
+        self.replies.assurance.ask();
         let told = ask_told(alloc, caller, server)?;
         if told.standing < TRUSTED || told.standing > EXPOSED {
             return Err(Trouble::Garbage);
         }
-        self.assurance.tell(told.standing == EXPOSED, told.end);
+        self.replies
+            .assurance
+            .tell(told.standing == EXPOSED, told.end);
         self.count_replies(shared)?;
         let assured = Assured {
             address: String::from_str(alloc, self.address.as_str())?,
-            to: self.assurance.assured(),
+            to: self.assured(),
         };
         Ok(desk.lock(rt).note_assured(assured)?)
+    }
+
+    /// Up to which number it answers for the replies.
+    fn assured(&self) -> AssuredTo {
+        AssuredTo(self.replies.assurance.assured())
+    }
+
+    /// Says up to which number it answers for the replies, where that isn't what was said last.
+    pub(crate) fn say_progress<R, T, W, E>(&mut self, context: Context<'_, R, T, W, E>)
+    where
+        R: Wait,
+        W: Write,
+        E: Write,
+    {
+        let (alloc, assured) = (context.alloc, self.assured());
+        if self.said != Some(assured) {
+            self.said = Some(assured);
+            let address = self.address();
+            context.say(format!(in alloc; "nfsacc: witness {address}: {assured}\n"));
+        }
     }
 
     /// The connection that there is, or a new one. It is kept again after a report.
@@ -306,9 +282,8 @@ impl WitnessPeer {
             own: 0,
             unanswered: self.progress.unanswered,
         };
-        self.assurance = Assurance::new(alloc);
+        self.replies = Replies::new(alloc);
         self.counted = 0;
-        self.acknowledged.clear();
     }
 }
 
@@ -365,8 +340,8 @@ where
     /// A witness was shown this of the client: `OwnPutBack` comes where its log lacks it.
     fn check_own(&self, shown: &Authenticator) -> Result<(), Trouble> {
         let client = self.client.lock(self.context.rt);
-        match lost_number(client.client().client(), shown) {
-            Some(number) => Err(Trouble::OwnPutBack(number)),
+        match client.client().client().lost(shown) {
+            Some(number) => Err(Trouble::OwnPutBack(number.get())),
             None => Ok(()),
         }
     }

@@ -1,9 +1,11 @@
 //! `nfsacc ask`.
 
-ghost use Rattle.std.specs.Prelude.{◌≡◌, max};
+ghost use Rattle.std.specs.Prelude.{◌≡◌, MatchResult, max};
 ghost use Rattle.host_commands.specs.Findings.{rank};
 
+use crate::assured::assured_in;
 use crate::cases::{Wanting, fetch_case};
+use crate::control::status_said;
 use crate::findings::Finding;
 use crate::greeting::{Side, common_roster, connect, report_call};
 use crate::opening::{hold_rosters, try_evidence};
@@ -25,8 +27,9 @@ use xdr::texts::{TextFault, read_text};
 const MOST_TOLD: u32 = 48;
 
 /// Asks witnesses what they say of nodes, prints a line for each member by rising numbers, and gives the status for the
-/// gravest finding: 0 where all are trusted, 7 where one is suspected, that of a witness that can't be asked, 8 where one
-/// is exposed. All witnesses are asked.
+/// gravest finding: 0 where all are trusted, 7 where one is suspected, that of a witness or a gateway that can't be asked,
+/// 8 where one is exposed. All witnesses are asked. Where a gateway is named, a line with what it says that a witness
+/// assured it comes after that one's lines.
 pub fn ask_witness<R>(rt: &R, request: &AskRequest<'_>) -> u8
 where
     R: Files<File = File> + Print + Eprint + AllocGlobal + RandomSource + Clone + Drop,
@@ -57,15 +60,38 @@ where
         None => Vec::new(rt.alloc()),
     };
     try_evidence(rt, order.evidence)?;
+    let gateway = match order.state {
+        Some(folder) => status_said(rt, folder),
+        None => Ok(String::new(rt.alloc())),
+    };
     let mut asking = Asking {
         order,
         rosters: rosters.as_slice(),
-        worst: Finding::Trusted,
+        gateway: text_or_none(&gateway),
+        worst: worst_of(&gateway),
     };
     for witness in order.witnesses.as_slice() {
         asking.ask(rt, witness);
     }
     Ok(asking.worst)
+}
+
+/// What was said; no line where that failed.
+fn text_or_none(said: &Result<String, u8>) -> &str {
+    match said {
+        Ok(text) => text.as_str(),
+        Err(_) => "",
+    }
+}
+
+/// What came of asking a gateway.
+fn worst_of(said: &Result<String, u8>) -> Finding
+    ensures { MatchResult said.now (λ text. result ≡ Finding.Trusted) (λ status. result ≡ Finding.Failed status) }
+{
+    match said {
+        Ok(_) => Finding::Trusted,
+        Err(status) => Finding::Failed(*status),
+    }
 }
 
 /// What is asked, and what was found so far.
@@ -74,12 +100,14 @@ struct Asking<'a> {
     order: &'a AskOrder<'a>,
     /// The rosters, of which each witness must have one; none where none are named.
     rosters: &'a [HeldRoster],
+    /// How the gateway is, by its own words; no line where none is named, or none answers.
+    gateway: &'a str,
     /// The gravest finding.
     worst: Finding,
 }
 
 impl<'a> Asking<'a> {
-    /// Asks a witness. What goes wrong is said, and noted.
+    /// Asks a witness, and says what it assured the gateway. What goes wrong is said, and noted.
     fn ask<R>(&mut self, rt: &R, witness: &str)
     where
         R: Files<File = File> + Print + Eprint + AllocGlobal + RandomSource + Clone + Drop,
@@ -88,6 +116,25 @@ impl<'a> Asking<'a> {
         if let Err(status) = self.try_ask(rt, witness) {
             self.note(Finding::Failed(status));
         }
+        if let Err(status) = self.tell_assured(rt, witness) {
+            self.note(Finding::Failed(status));
+        }
+    }
+
+    /// Prints what a witness assured the gateway, if that says something of it.
+    fn tell_assured<R>(&self, rt: &R, witness: &str) -> Result<(), u8>
+    where
+        R: Print + Eprint + AllocGlobal,
+    {
+        match assured_in(self.gateway, witness) {
+            Some(words) => print_said(rt, witness, self.is_alone(), words),
+            None => Ok(()),
+        }
+    }
+
+    /// Whether one witness is asked alone.
+    fn is_alone(&self) -> bool {
+        self.order.witnesses.len() == 1
     }
 
     /// Notes a finding.
@@ -151,8 +198,7 @@ impl<'a> Asking<'a> {
         R: Files + Print + Eprint + AllocGlobal + RandomSource,
     {
         self.note(Finding::of(told.indication));
-        let is_alone = self.order.witnesses.len() == 1;
-        print_told(rt, witness, is_alone, told)?;
+        print_told(rt, witness, self.is_alone(), told)?;
         match wanting {
             Some(wanting) if told.indication == Indication::Exposed => {
                 fetch_case(rt, caller, witness, told.node, wanting)
@@ -202,7 +248,20 @@ fn print_told<R: Print + Eprint + AllocGlobal>(
     is_alone: bool,
     told: &NodeTold,
 ) -> Result<(), u8> {
-    let Ok(line) = line_of(rt.alloc(), witness, is_alone, told) else {
+    match told.line(rt.alloc()) {
+        Ok(line) => print_said(rt, witness, is_alone, &line),
+        Err(AllocError) => Err(report_no_memory(rt)),
+    }
+}
+
+/// Prints words on a line, after the witness's address unless that one is asked alone.
+fn print_said<R: Print + Eprint + AllocGlobal>(
+    rt: &R,
+    witness: &str,
+    is_alone: bool,
+    words: &str,
+) -> Result<(), u8> {
+    let Ok(line) = line_of(rt.alloc(), witness, is_alone, words) else {
         return Err(report_no_memory(rt));
     };
     match rt.println(line.as_str()) {
@@ -211,17 +270,16 @@ fn print_told<R: Print + Eprint + AllocGlobal>(
     }
 }
 
-/// The line of a node, after the witness's address unless that one is asked alone.
+/// A line of these words, after the witness's address unless that one is asked alone.
 fn line_of(
     alloc: Global,
     witness: &str,
     is_alone: bool,
-    told: &NodeTold,
+    words: &str,
 ) -> Result<String, AllocError> {
-    let line = told.line(alloc)?;
     if is_alone {
-        return Ok(line);
+        return String::from_str(alloc, words);
     }
     let witness = ShownName::new(witness);
-    format!(in alloc; "{witness} {line}")
+    format!(in alloc; "{witness} {words}")
 }

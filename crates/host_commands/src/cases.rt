@@ -1,11 +1,11 @@
 //! Evidence that a witness has, as it is fetched.
 
-ghost use Rattle.std.specs.Prelude.{IfOk, IsTrue};
-ghost use Rattle.host_commands.specs.GoodCases.{IsGoodCase};
+ghost use Rattle.std.specs.Prelude.{◌↔◌, IfOk, IsTrue};
+ghost use Rattle.host_commands.specs.GoodCases.{IsGood, IsJudged};
 
 use crate::greeting::report_call;
 use authenticator::Roster;
-use challenge::{EvidenceFault, check_evidence, read_case as read_file};
+use challenge::{Case as CaseFile, EvidenceFault, check_evidence, read_case as read_file};
 use party_files::DurableShelf;
 use peer_calls::{Case, MAX_CASE, NodeNumber, ResultsFault, WitnessRequest, read_case};
 use peer_connections::{Answer, CallFault, PeerCaller};
@@ -69,7 +69,7 @@ fn take_case<R>(
 where
     R: Files + Eprint + AllocGlobal + RandomSource,
 {
-    match is_good(rt.alloc(), wanting.roster, node, file) {
+    match is_good_file(rt.alloc(), wanting.roster, node, file) {
         Ok(true) => put_case(rt, node, wanting.folder, file),
         Ok(false) => Ok(say(rt, witness, node, Lack::NotGood)),
         Err(AllocError) => Err(report_no_memory(rt)),
@@ -77,8 +77,9 @@ where
 }
 
 /// Whether bytes are a roster and evidence against a node that is accepted under it.
-fn is_good(alloc: Global, roster: &Roster, node: u32, bytes: &[u8]) -> Result<bool, AllocError>
-    ensures { IfOk result (λ good. IsTrue good → IsGoodCase roster.now node bytes.now) }
+#[tactic(auto, using(crate::proofs::OfCases::judged, crate::proofs::OfCases::no_text))]
+fn is_good_file(alloc: Global, roster: &Roster, node: u32, bytes: &[u8]) -> Result<bool, AllocError>
+    ensures { IfOk result (IsJudged roster.now node bytes.now) }
 {
     let mut copy = Vec::new(alloc);
     copy.extend_from_slice(bytes)?;
@@ -87,6 +88,13 @@ fn is_good(alloc: Global, roster: &Roster, node: u32, bytes: &[u8]) -> Result<bo
         Err(EvidenceFault::Garbage) => return Ok(false),
         Err(EvidenceFault::NoMemory) => return Err(AllocError),
     };
+    is_good(alloc, roster, node, &case)
+}
+
+/// Whether a case is of a roster, and its evidence is against a node and accepted under it.
+fn is_good(alloc: Global, roster: &Roster, node: u32, case: &CaseFile) -> Result<bool, AllocError>
+    ensures { IfOk result (λ good. IsTrue good ↔ IsGood roster.now node case.now) }
+{
     if !roster.is_same(&case.roster) || case.evidence.node() != node {
         return Ok(false);
     }

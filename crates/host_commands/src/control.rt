@@ -18,13 +18,27 @@ pub fn stop_process<R: Net + Eprint + AllocGlobal>(rt: &R, folder: &str) -> u8 {
 /// Prints how the process is whose control socket lies in a folder, by its own words, and gives the status
 /// for it: 4 where nobody answers.
 pub fn show_status<R: Net + Print + Eprint + AllocGlobal>(rt: &R, folder: &str) -> u8 {
-    match ask_status(rt, rt.alloc(), folder) {
-        Ok(said) if said.is_empty() => report_name(rt, folder, "nobody says how it is", DEVICE),
+    match status_said(rt, folder) {
         Ok(said) => match rt.print(said.as_str()) {
             Ok(()) => 0,
             Err(error) => report_output(rt, Some(error)),
         },
-        Err(error) => report_socket(rt, folder, &error),
+        Err(status) => status,
+    }
+}
+
+/// How the process is whose control socket lies in a folder, by its own words; or says why nobody answers, and gives the
+/// status for it: 4, or 3 where memory was refused.
+pub(crate) fn status_said<R: Net + Eprint + AllocGlobal>(
+    rt: &R,
+    folder: &str,
+) -> Result<String, u8> {
+    match ask_status(rt, rt.alloc(), folder) {
+        Ok(said) if said.is_empty() => {
+            Err(report_name(rt, folder, "nobody says how it is", DEVICE))
+        }
+        Ok(said) => Ok(said),
+        Err(error) => Err(report_socket(rt, folder, &error)),
     }
 }
 

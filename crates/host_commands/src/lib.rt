@@ -2,6 +2,7 @@
 #![tactic(auto)]
 
 mod ask;
+mod assured;
 mod cases;
 mod control;
 mod findings;

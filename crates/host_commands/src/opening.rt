@@ -20,7 +20,7 @@ use std::rt::{Clock, Files};
 use std::thread::Threads;
 
 /// The greatest height of a tree of keys.
-const MAX_HEIGHT: u32 = 16;
+pub(crate) const MAX_HEIGHT: u32 = 16;
 
 /// What a party has before a key of it is made.
 #[derive(Drop)]

@@ -3,9 +3,10 @@
 ghost use Rattle.std.specs.Prelude.{◌≡◌, ℕ};
 
 use crate::opening::{
-    Held, commands_at, hold, keys_of, listen, open_control, open_output, place_of, roster_of,
+    Held, MAX_HEIGHT, PartyOutput, commands_at, hold, keys_of, listen, open_control, open_output,
+    place_of, roster_of,
 };
-use authenticator::{Kind, MAX_NODE, Member};
+use authenticator::{Kind, MAX_NODE, Member, Roster};
 use command_line::{ServerOrder, ServerRequest, server_order};
 use host_keys::EpochRoster;
 use node_keys::{KeyedNode, Masters};
@@ -28,6 +29,7 @@ use std::thread::Threads;
 #[derive(Drop)]
 struct BegunServer {
     server: HonestServer,
+    roster: Roster,
     of: EpochRoster,
 }
 
@@ -104,13 +106,14 @@ where
     R: Threads + Wait + Sync,
 {
     let output = Mutex::new(open_output(rt, order.log_file)?);
-    let BegunServer { server, of } = begin_server(rt, order, held)?;
+    let BegunServer { server, roster, of } = begin_server(rt, order, held, &output)?;
     let alloc = rt.alloc();
     let line = first_lines(alloc, order, &of, server.server().node().left(), &listeners);
     output.lock(rt).line(line);
     let Listeners { first, audits } = listeners;
     let asked = server_process::ServerOrder {
         server,
+        roster,
         digest: of.digest,
         epoch: of.epoch,
         listener: first,
@@ -169,10 +172,17 @@ fn status_of(ending: Ending) -> u8
     }
 }
 
-/// Begins the next epoch for which there is a roster with this server, and makes its keys.
-fn begin_server<R>(rt: &R, order: &ServerOrder<'_>, held: &mut Held) -> Result<BegunServer, u8>
+/// Begins the next epoch for which there is a roster with this server, and makes its keys. Where progress is to be told it
+/// says before how many these are.
+fn begin_server<R>(
+    rt: &R,
+    order: &ServerOrder<'_>,
+    held: &mut Held,
+    output: &Mutex<PartyOutput<'_, R>>,
+) -> Result<BegunServer, u8>
 where
-    R: Files + Eprint + AllocGlobal + RandomSource + Threads + Sync,
+    R: Files<File = File> + Print + Eprint + AllocGlobal + RandomSource + Clock,
+    R: Threads + Wait + Sync,
 {
     let Ok(epochs) = epochs_with(rt.alloc(), order.node, &held.rosters) else {
         return Err(report_no_memory(rt));
@@ -189,14 +199,24 @@ where
     let Some(member) = roster.roster.member(order.node) else {
         return Err(report_words(rt, "the roster lacks the server", INPUT_FAULT));
     };
+    if order.progress {
+        say_keys(rt, output, epoch, member.height);
+    }
     let keyed = keys_of(rt, masters, &member)?;
     match make_server(rt.alloc(), roster, keyed) {
-        Ok(server) => Ok(BegunServer {
-            server,
-            of: roster.of,
-        }),
+        Ok(begun) => Ok(begun),
         Err(AllocError) => Err(report_no_memory(rt)),
     }
+}
+
+/// Says how many keys are made for an epoch, by the height of their tree.
+fn say_keys<R>(rt: &R, output: &Mutex<PartyOutput<'_, R>>, epoch: u32, height: u32)
+where
+    R: Files<File = File> + Print + Eprint + AllocGlobal + Clock + Wait,
+{
+    let keys = 1u64 << height.min(MAX_HEIGHT);
+    let line = format!(in rt.alloc(); "nfsacc: epoch {epoch}: making {keys} keys\n");
+    output.lock(rt).say(line);
 }
 
 /// Begins the next of these epochs: gives its number, and what the keys are made of.
@@ -247,9 +267,15 @@ fn make_server(
     alloc: Global,
     held: &HeldRoster,
     keyed: KeyedNode,
-) -> Result<HonestServer, AllocError> {
+) -> Result<BegunServer, AllocError> {
+    let own = held.roster.try_clone(alloc)?;
     let roster = held.roster.try_clone(alloc)?;
-    or_refused(HonestServer::new(keyed.make_node(alloc, roster)?))
+    let server = or_refused(HonestServer::new(keyed.make_node(alloc, own)?))?;
+    Ok(BegunServer {
+        server,
+        roster,
+        of: held.of,
+    })
 }
 
 /// What was made. The types are parameters, so that the proof knows nothing of what they own.

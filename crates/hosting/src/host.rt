@@ -10,6 +10,7 @@ ghost use Rattle.request_streams.specs.Serving.{IsAnswerIf};
 ghost use Rattle.hosting.specs.Hosting.{AnswersCall, Does, IsAnswerTo, IsAnsweredUnderLock, IsReplied, MayDo};
 ghost use Rattle.hosting.specs.Hosting.{call_of, gives_logs, serves};
 
+use crate::ready::Ready;
 use crate::results::add_results;
 use nfs_items::Time;
 use nodes::HonestServer;
@@ -36,13 +37,15 @@ pub struct Host {
 /// Answers a record of the node's program at a time: the reply is written in place of what `out` holds. The checks
 /// run in the order of RFC 5531, section 9. What decodes is asked of the server, which stays one that hasn't
 /// strayed: a refusal of it is told by its number after SUCCESS. SYSTEM_ERR is the reply only where a growth was
-/// refused; what was asked may have been done then, and may be asked again.
-pub fn answer_request(
+/// refused; what was asked may have been done then, and may be asked again. What was made ready of the record isn't
+/// read and checked again.
+pub fn answer_request<'r>(
     server: &mut HonestServer,
     alloc: Global,
     time: Time,
     host: &Host,
-    bytes: &[u8],
+    ready: Ready<'r>,
+    bytes: &'r [u8],
     out: &mut Vec<u8>,
 ) -> Outcome
     ensures straight { HasNotStrayed server.old }
@@ -51,17 +54,18 @@ pub fn answer_request(
         out.new.items server.new }
     ensures answer { IsAnswerIf (IsAnsweredUnderLock host.now) bytes.now out.new.items result }
 {
-    host.answer_bytes(server, alloc, time, bytes, out)
+    host.answer_bytes(server, alloc, time, ready, bytes, out)
 }
 
 impl Host {
     /// The same as `answer_request`, without its last clause.
-    fn answer_bytes(
+    fn answer_bytes<'r>(
         &self,
         server: &mut HonestServer,
         alloc: Global,
         time: Time,
-        bytes: &[u8],
+        ready: Ready<'r>,
+        bytes: &'r [u8],
         out: &mut Vec<u8>,
     ) -> Outcome
         ensures straight { HasNotStrayed server.old }
@@ -72,7 +76,7 @@ impl Host {
         let _straight = server.server();
         out.clear();
         let outcome = match judge_call(NODE_PROGRAM, bytes) {
-            Ok(asked) => answer_asked(server, alloc, time, self, &asked, out),
+            Ok(asked) => answer_asked(server, alloc, time, self, ready, &asked, out),
             Err(Unasked::NoCall) => Outcome::NoCall,
             Err(Unasked::Refused(reply)) => replied(&reply, out),
         };
@@ -93,12 +97,13 @@ fn replied(reply: &Reply, out: &mut Vec<u8>) -> Outcome
 }
 
 /// Answers a call whose arguments aren't read yet, into an empty vector.
-fn answer_asked(
+fn answer_asked<'r>(
     server: &mut HonestServer,
     alloc: Global,
     time: Time,
     host: &Host,
-    asked: &Asked<'_>,
+    ready: Ready<'r>,
+    asked: &Asked<'r>,
     out: &mut Vec<u8>,
 ) -> Outcome
     requires { out.old.items ≡ [] }
@@ -115,7 +120,7 @@ fn answer_asked(
         );
     }
     match read_node_request(alloc, asked.procedure, asked.arguments) {
-        Ok(request) => answer_read(server, alloc, time, host, asked.xid, &request, out),
+        Ok(request) => answer_read(server, alloc, time, host, ready, asked.xid, &request, out),
         Err(body) => replied(
             &Reply {
                 xid: asked.xid,
@@ -147,19 +152,20 @@ fn gives_logs(procedure: u32) -> bool
 }
 
 /// Answers a request that was read, into an empty vector.
-fn answer_read(
+fn answer_read<'r>(
     server: &mut HonestServer,
     alloc: Global,
     time: Time,
     host: &Host,
+    ready: Ready<'r>,
     xid: u32,
-    request: &NodeRequest<'_>,
+    request: &NodeRequest<'r>,
     out: &mut Vec<u8>,
 ) -> Outcome
     requires { out.old.items ≡ [] }
     ensures { IsAnswerTo host.now server.old time xid (node_ask request.now) result out.new.items server.new }
 {
-    match add_answer(server, alloc, time, host, xid, request, out) {
+    match add_answer(server, alloc, time, host, ready, xid, request, out) {
         Ok(()) => Outcome::Replied,
         Err(_) => {
             out.clear();
@@ -171,13 +177,14 @@ fn answer_read(
 
 /// Has a request done, and appends its results after SUCCESS to an empty vector. Where memory is refused, a part of
 /// them may stand.
-fn add_answer(
+fn add_answer<'r>(
     server: &mut HonestServer,
     alloc: Global,
     time: Time,
     host: &Host,
+    ready: Ready<'r>,
     xid: u32,
-    request: &NodeRequest<'_>,
+    request: &NodeRequest<'r>,
     out: &mut Vec<u8>,
 ) -> Result<(), AllocError>
     requires { out.old.items ≡ [] }
@@ -187,5 +194,5 @@ fn add_answer(
     ensures refused { OnErr result (MayDo server.old time (node_ask request.now) server.new) }
 {
     write_success(xid, out)?;
-    add_results(server, alloc, time, host, request, out)
+    add_results(server, alloc, time, host, ready, request, out)
 }

@@ -3,7 +3,9 @@
 
 mod bases;
 mod host;
+mod ready;
 mod results;
 
 pub use host::{Host, answer_request};
+pub use ready::Ready;
 pub use request_streams::Outcome;

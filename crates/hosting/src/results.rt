@@ -15,6 +15,7 @@ ghost use Rattle.hosting.specs.Hosting.{IsShown, IsSignedText, IsStood, MayDo, a
 
 use crate::bases::add_based;
 use crate::host::Host;
+use crate::ready::Ready;
 use authenticator::{Authenticator, LogVersion, is_same_hash};
 use commitment::{Received, Refusal};
 use envelopes::{AckRef, EnvelopeRef};
@@ -33,12 +34,13 @@ const DONE: u32 = 0;
 const BEFORE: u32 = 10;
 
 /// Has a request done, and appends its results. Where memory is refused, a part of them may stand.
-pub(crate) fn add_results(
+pub(crate) fn add_results<'r>(
     server: &mut HonestServer,
     alloc: Global,
     time: Time,
     host: &Host,
-    request: &NodeRequest<'_>,
+    ready: Ready<'r>,
+    request: &NodeRequest<'r>,
     out: &mut Vec<u8>,
 ) -> Result<(), AllocError>
     ensures done { OnOk result ((results : List ℕ)
@@ -50,10 +52,13 @@ pub(crate) fn add_results(
         NodeRequest::Null => Ok(()),
         NodeRequest::Greet(greeting) => add_greeted(greeting, host, out),
         NodeRequest::Deliver(text) => {
-            let received = server.receive(alloc, time, text);
+            let received = server.receive_incoming(alloc, time, ready.message(text));
             add_delivered(server.server(), received, out)
         }
-        NodeRequest::Acknowledge(text) => add_ack_told(server.take_ack(alloc, text), out),
+        NodeRequest::Acknowledge(text) => {
+            let taken = server.take_incoming_ack(alloc, ready.acknowledgement(text));
+            add_ack_told(taken, out)
+        }
         NodeRequest::Signed(after) => add_signed(server.server(), alloc, after, out),
         NodeRequest::Segment(numbers) => add_segment(server.server(), alloc, numbers, out),
         NodeRequest::Stands(authenticator) => add_stood(server.server(), authenticator, out),

@@ -1,3 +1,4 @@
+pub mod Lost
 pub mod Roles
 pub mod Exchanges
 pub mod Delivery

@@ -24,7 +24,8 @@ use crate::node::Node;
 use crate::role::Role;
 use crate::server::ServerNode;
 use authenticator::Number;
-use commitment::{Received, Refusal};
+use commitment::{Incoming, Received, Refusal};
+use envelopes::{Ack, Envelope};
 use gateway::links::LinkFault;
 use nfs_items::Time;
 use node_logs::{AckTaken, NodeLog, Receipt};
@@ -134,24 +135,23 @@ pub(crate) fn body_of(node: &NodeLog, number: Number, alloc: Global) -> Result<V
 }
 
 /// The server receives an envelope's text, which is to be new to it: of another, `Failed`, and also where its
-/// log lacks numbers for what would be logged. For `shown`, see `ServerNode::receive_shown`.
+/// log lacks numbers for what would be logged.
 pub(crate) fn receive(
     server: &mut ServerNode,
     alloc: Global,
     time: Time,
-    text: &[u8],
-    shown: Option<&SignatureText>,
+    text: Incoming<'_, Envelope>,
 ) -> Result<Receipt, LinkFault>
-    ensures receives { (e : Envelope) → Finds (receiver_of server.old) text.now e None →
+    ensures receives { (e : Envelope) → Finds (receiver_of server.old) text.entry e None →
         ReceivesNew server.old time e result server.new }
-    ensures told { (e : Envelope) → IsText envelope_text (envelope_value e) text.now →
-        MayReceive server.old time text.now e result server.new }
-    ensures addressed { (e : Envelope) → IsText envelope_text (envelope_value e) text.now →
+    ensures told { (e : Envelope) → IsText envelope_text (envelope_value e) text.entry →
+        MayReceive server.old time text.entry e result server.new }
+    ensures addressed { (e : Envelope) → IsText envelope_text (envelope_value e) text.entry →
         OnOk result (e.to ≡ server.old.node) }
     ensures strayed { server.new.strayed ≡ server.old.strayed }
     ensures sender { IsSender (sender_of server.new) }
 {
-    let received = server.receive_shown(alloc, time, text, shown);
+    let received = server.receive_incoming(alloc, time, text);
     server.node().is_honest();
     match received {
         Ok(Received::New(receipt)) => Ok(receipt),
@@ -161,20 +161,19 @@ pub(crate) fn receive(
 }
 
 /// The client takes a reply's text, which is to be new to it: of another, `Failed`, and also where its log has
-/// no number for it. For `shown`, see `ClientNode::take_shown`.
+/// no number for it.
 pub(crate) fn take_reply(
     client: &mut ClientNode,
     alloc: Global,
-    text: &[u8],
-    shown: Option<&SignatureText>,
+    text: Incoming<'_, Envelope>,
 ) -> Result<(), LinkFault>
-    ensures takes { (e : Envelope) → Finds (receiver_of client.old) text.now e None →
+    ensures takes { (e : Envelope) → Finds (receiver_of client.old) text.entry e None →
         TakesNew client.old e result client.new }
-    ensures told { (e : Envelope) → IsText envelope_text (envelope_value e) text.now →
-        MayTake client.old text.now e result client.new }
+    ensures told { (e : Envelope) → IsText envelope_text (envelope_value e) text.entry →
+        MayTake client.old text.entry e result client.new }
     ensures sender { IsSender (sender_of client.new) }
 {
-    let taken = client.take_shown(alloc, text, shown);
+    let taken = client.take_incoming(alloc, text);
     client.node().is_honest();
     match taken {
         Ok(received) => match received {
@@ -201,15 +200,14 @@ fn ack_taken(taken: Result<AckTaken, Refusal>) -> Result<(), LinkFault>
 pub(crate) fn take_ack<R: Role>(
     node: &mut Node<R>,
     alloc: Global,
-    text: &[u8],
+    text: Incoming<'_, Ack>,
 ) -> Result<(), LinkFault>
-    ensures takes { (a : Ack) → IsText ack_text (ack_value a) text.now → IsAccepted node.old a →
+    ensures takes { (a : Ack) → IsText ack_text (ack_value a) text.entry → IsAccepted node.old a →
         TakesAwaited node.old a result node.new }
-    ensures told { (a : Ack) → IsText ack_text (ack_value a) text.now
-        → MayTakeAck node.old a result node.new }
+    ensures told { (a : Ack) → IsText ack_text (ack_value a) text.entry → MayTakeAck node.old a result node.new }
     ensures strayed { node.new.strayed ≡ node.old.strayed }
 {
-    ack_taken(node.take_ack(alloc, text))
+    ack_taken(node.take_incoming_ack(alloc, text))
 }
 
 /// Hands the envelope of the client's SEND with a number to the server.
@@ -229,7 +227,8 @@ pub(crate) fn deliver_call(
 {
     write_envelope(client.node(), number, text)?;
     let shown = signature_of(client.node(), number);
-    receive(server, alloc, time, text, shown)
+    let incoming = Incoming::envelope(alloc, client.node().roster(), text, shown);
+    receive(server, alloc, time, incoming)
 }
 
 /// Hands the envelope of the server's SEND with a number to the client.
@@ -248,7 +247,8 @@ pub(crate) fn deliver_reply(
 {
     write_envelope(server.node(), number, text)?;
     let shown = signature_of(server.node(), number);
-    take_reply(client, alloc, text, shown)
+    let incoming = Incoming::envelope(alloc, server.node().roster(), text, shown);
+    take_reply(client, alloc, incoming)
 }
 
 /// Hands the acknowledgement that the server's RECV with a number makes to the client.

@@ -18,11 +18,11 @@ use crate::deliver::take_ack;
 use crate::server::ServerNode;
 use crate::sides::answer;
 use authenticator::Number;
-use commitment::{Received, Refusal};
+use commitment::{Incoming, Received, Refusal};
+use envelopes::{Ack, Envelope};
 use gateway::links::LinkFault;
 use nfs_items::Time;
 use node_logs::{AckTaken, Receipt};
-use secure_log::log_entries::SignatureText;
 use std::alloc::Global;
 use std::marker::Model;
 
@@ -83,29 +83,27 @@ impl HonestServer {
     /// body, which is the one owed. The server stays one that hasn't strayed. `KeysUsedUp` comes only where
     /// fewer than two keys are left, `NoMemory` only where a growth was refused, `Failed` only where the
     /// message isn't new to the server, or refused by it, or its log lacks numbers for what would be logged.
-    /// For `shown`, see `ServerNode::receive_shown`.
     pub(crate) fn answer(
         &mut self,
         alloc: Global,
         time: Time,
-        call: &[u8],
-        shown: Option<&SignatureText>,
+        call: Incoming<'_, Envelope>,
         ack: &mut Vec<u8>,
         reply: &mut Vec<u8>,
     ) -> Result<Option<Vec<u8>>, LinkFault>
         ensures straight { HasNotStrayed self.old }
         ensures stays { HasNotStrayed self.new }
-        ensures answered { (e : Envelope) → IsEnvelopeText e call.now
+        ensures answered { (e : Envelope) → IsEnvelopeText e call.entry
             → IfOk result (λ r. IsAnswered self.old time e
             (option_map (λ v. v.items) r) ack.new.items reply.new.items self.new) }
-        ensures served { (e : Envelope) → IsEnvelopeText e call.now → IfOk result (λ r.
+        ensures served { (e : Envelope) → IsEnvelopeText e call.entry → IfOk result (λ r.
             IsServed self.old time e.body (option_map (λ v. v.items) r) self.new) }
-        ensures stops { (e : Envelope) → IsEnvelopeText e call.now → IfErr result (λ f.
-            StopsAnswering self.old time e call.now f self.new) }
+        ensures stops { (e : Envelope) → IsEnvelopeText e call.entry → IfErr result (λ f.
+            StopsAnswering self.old time e call.entry f self.new) }
         ensures size { IfOk result (λ r. IfSome r (λ v. length v.items ≤ MAX_BODY)) }
     {
         self.server.node().is_honest();
-        let result = answer(&mut self.server, alloc, time, call, shown, ack, reply);
+        let result = answer(&mut self.server, alloc, time, call, ack, reply);
         self.server.node().is_honest();
         result
     }
@@ -113,12 +111,16 @@ impl HonestServer {
     /// Takes an acknowledgement's text, which it is to await: of another, `Failed`, and also where its log has
     /// no number for the ACK. The server stays one that hasn't strayed. `NoMemory` comes only where a growth
     /// was refused.
-    pub(crate) fn take_awaited(&mut self, alloc: Global, text: &[u8]) -> Result<(), LinkFault>
+    pub(crate) fn take_awaited(
+        &mut self,
+        alloc: Global,
+        text: Incoming<'_, Ack>,
+    ) -> Result<(), LinkFault>
         ensures straight { HasNotStrayed self.old }
         ensures stays { HasNotStrayed self.new }
-        ensures takes { (a : Ack) → IsTextOfAck a text.now → IsAccepted self.old a →
+        ensures takes { (a : Ack) → IsTextOfAck a text.entry → IsAccepted self.old a →
             TakesAwaited self.old a result self.new }
-        ensures told { (a : Ack) → IsTextOfAck a text.now → MayTakeAck self.old a result self.new }
+        ensures told { (a : Ack) → IsTextOfAck a text.entry → MayTakeAck self.old a result self.new }
     {
         self.server.node().is_honest();
         let result = take_ack(&mut self.server, alloc, text);
@@ -144,6 +146,23 @@ impl HonestServer {
         result
     }
 
+    /// Receives an envelope as `receive`. What was read and checked of it before isn't read and checked again.
+    pub fn receive_incoming(
+        &mut self,
+        alloc: Global,
+        time: Time,
+        incoming: Incoming<'_, Envelope>,
+    ) -> Result<Received<Receipt>, Refusal>
+        ensures straight { HasNotStrayed self.old }
+        ensures stays { HasNotStrayed self.new }
+        ensures receives { Receives self.old time incoming.entry result self.new }
+    {
+        self.server.node().is_honest();
+        let result = self.server.receive_incoming(alloc, time, incoming);
+        self.server.node().is_honest();
+        result
+    }
+
     /// Takes an acknowledgement's text, as `Node::take_ack` does. The server stays one that hasn't strayed.
     pub fn take_ack(&mut self, alloc: Global, bytes: &[u8]) -> Result<AckTaken, Refusal>
         ensures straight { HasNotStrayed self.old }
@@ -152,6 +171,23 @@ impl HonestServer {
     {
         self.server.node().is_honest();
         let result = self.server.take_ack(alloc, bytes);
+        self.server.node().is_honest();
+        result
+    }
+
+    /// Takes an acknowledgement as `take_ack`. What was read and checked of it before isn't read and checked
+    /// again.
+    pub fn take_incoming_ack(
+        &mut self,
+        alloc: Global,
+        incoming: Incoming<'_, Ack>,
+    ) -> Result<AckTaken, Refusal>
+        ensures straight { HasNotStrayed self.old }
+        ensures stays { HasNotStrayed self.new }
+        ensures takes { TakesAck self.old incoming.entry result self.new }
+    {
+        self.server.node().is_honest();
+        let result = self.server.take_incoming_ack(alloc, incoming);
         self.server.node().is_honest();
         result
     }

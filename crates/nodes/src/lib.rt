@@ -9,6 +9,7 @@ pub mod exchanges;
 mod honest;
 mod locked;
 mod lookups;
+mod lost;
 mod node;
 mod role;
 mod server;

@@ -11,6 +11,7 @@ use crate::client::ClientNode;
 use crate::deliver::{last_number, signature_of, take_ack};
 use crate::honest::HonestServer;
 use crate::sides::{receive_reply, send_text};
+use commitment::Incoming;
 use gateway::links::LinkFault;
 use nfs_items::Time;
 use std::alloc::Global;
@@ -54,7 +55,8 @@ pub(crate) fn call<R: Wait>(
     }
 }
 
-/// The client sends, the server answers under the lock, and the client takes its acknowledgement. Gives the
+/// The client sends, the server answers under the lock, and the client takes its acknowledgement. The call is read
+/// and its signature checked before the lock is taken, by the client's roster. Gives the
 /// body of the reply, if one is owed, whose envelope's text stands in `texts`.
 fn ask<R: Wait>(
     rt: &R,
@@ -74,26 +76,22 @@ fn ask<R: Wait>(
 {
     send_text(client, to, alloc, bytes, &mut texts.call)?;
     let shown = signature_of(client.node(), last_number(client.node()));
-    let answered = server.lock(rt).answer(
-        alloc,
-        time,
-        &texts.call,
-        shown,
-        &mut texts.ack,
-        &mut texts.reply,
-    );
+    let incoming = Incoming::envelope(alloc, client.node().roster(), &texts.call, shown);
+    let answered = server
+        .lock(rt)
+        .answer(alloc, time, incoming, &mut texts.ack, &mut texts.reply);
     let reply = match answered {
         Ok(reply) => reply,
         Err(fault) => return Err(fault),
     };
-    match take_ack(client, alloc, &texts.ack) {
+    match take_ack(client, alloc, Incoming::new(&texts.ack)) {
         Ok(()) => Ok(reply),
         Err(fault) => Err(fault),
     }
 }
 
 /// The client receives the reply whose envelope's text stands in `texts`, and the server takes its
-/// acknowledgement under the lock.
+/// acknowledgement under the lock, which is read and checked before that.
 fn bring_back<R: Wait>(
     rt: &R,
     server: &Mutex<HonestServer>,
@@ -107,7 +105,10 @@ fn bring_back<R: Wait>(
         StopsReturning client.old e texts.old.reply.items f client.new) }
 {
     match receive_reply(client, alloc, &texts.reply, &mut texts.call) {
-        Ok(()) => server.lock(rt).take_awaited(alloc, &texts.call),
+        Ok(()) => {
+            let incoming = Incoming::ack(alloc, client.node().roster(), &texts.call);
+            server.lock(rt).take_awaited(alloc, incoming)
+        }
         Err(fault) => Err(fault),
     }
 }

@@ -15,10 +15,11 @@ use crate::client::ClientNode;
 use crate::deliver::{body_of, last_number, receive, send, take_reply, write_ack, write_envelope};
 use crate::server::ServerNode;
 use authenticator::Number;
+use commitment::Incoming;
+use envelopes::Envelope;
 use gateway::links::LinkFault;
 use nfs_items::Time;
 use node_logs::NodeLog;
-use secure_log::log_entries::SignatureText;
 use std::alloc::Global;
 
 /// The client sends a body of at most 12,288 bytes to a node, and the text of its envelope is written, in
@@ -72,28 +73,26 @@ fn write_answer(
 /// bytes were: its acknowledgement's text, and the text of its reply's envelope, if one is owed. Gives the
 /// reply's body, which is the one owed unless the server was told to lie. `KeysUsedUp` comes only where fewer
 /// than two keys are left, `NoMemory` only where a growth was refused, `Failed` only where the message isn't
-/// new to the server, or refused by it, or its log lacks numbers for what would be logged. For `shown`, see
-/// `ServerNode::receive_shown`.
+/// new to the server, or refused by it, or its log lacks numbers for what would be logged.
 pub(crate) fn answer(
     server: &mut ServerNode,
     alloc: Global,
     time: Time,
-    call: &[u8],
-    shown: Option<&SignatureText>,
+    call: Incoming<'_, Envelope>,
     ack: &mut Vec<u8>,
     reply: &mut Vec<u8>,
 ) -> Result<Option<Vec<u8>>, LinkFault>
     ensures strayed { server.new.strayed ≡ server.old.strayed }
-    ensures answered { (e : Envelope) → IsEnvelopeText e call.now
+    ensures answered { (e : Envelope) → IsEnvelopeText e call.entry
         → IfOk result (λ r. IsAnswered server.old time e
         (option_map (λ v. v.items) r) ack.new.items reply.new.items server.new) }
-    ensures served { server.old.lies ≡ false → (e : Envelope) → IsEnvelopeText e call.now → IfOk result (λ r.
+    ensures served { server.old.lies ≡ false → (e : Envelope) → IsEnvelopeText e call.entry → IfOk result (λ r.
         IsServed server.old time e.body (option_map (λ v. v.items) r) server.new) }
-    ensures stops { (e : Envelope) → IsEnvelopeText e call.now → IfErr result (λ f.
-        StopsAnswering server.old time e call.now f server.new) }
+    ensures stops { (e : Envelope) → IsEnvelopeText e call.entry → IfErr result (λ f.
+        StopsAnswering server.old time e call.entry f server.new) }
     ensures size { IfOk result (λ r. IfSome r (λ v. length v.items ≤ MAX_BODY)) }
 {
-    let receipt = receive(server, alloc, time, call, shown)?;
+    let receipt = receive(server, alloc, time, call)?;
     write_answer(server.node(), receipt.ack, receipt.reply, alloc, ack, reply)
 }
 
@@ -112,6 +111,6 @@ pub(crate) fn receive_reply(
     ensures stops { (e : Envelope) → IsEnvelopeText e reply.now → IfErr result (λ f.
         StopsReceiving client.old e reply.now f client.new) }
 {
-    take_reply(client, alloc, reply, None)?;
+    take_reply(client, alloc, Incoming::new(reply))?;
     write_ack(client.node(), last_number(client.node()), ack)
 }

@@ -2,6 +2,7 @@
 
 use crate::phase::{Phase, is_serving};
 use crate::seats::Seats;
+use crate::turns::SegmentTurns;
 use std::io::{self, Read, Write};
 use std::net::TcpStream;
 use std::sync::{Mutex, Wait};
@@ -26,6 +27,8 @@ pub struct Waiting {
     since: Option<Instant>,
     /// How many seconds pass between two records at most, if there is an end to it.
     between: Option<u64>,
+    /// When the answer that is written was begun.
+    answering: Option<Instant>,
 }
 
 impl Waiting {
@@ -35,6 +38,7 @@ impl Waiting {
             is_within: false,
             since: None,
             between: Some(BETWEEN),
+            answering: None,
         }
     }
 
@@ -44,7 +48,13 @@ impl Waiting {
             is_within: false,
             since: None,
             between: None,
+            answering: None,
         }
+    }
+
+    /// Another answer is begun, whose time is its own.
+    pub fn begin_answer(&mut self) {
+        self.answering = None;
     }
 
     /// How many seconds it may be silent, if there is an end to it.
@@ -54,16 +64,17 @@ impl Waiting {
     }
 }
 
-/// A connection among the places of its process.
+/// A connection among the places of its process, and the turns that it may have.
 #[derive(Clone, Copy)]
 struct Seat<'a> {
     seats: &'a Seats,
+    turns: &'a SegmentTurns,
     id: u64,
 }
 
 /// A peer's stream. A read finds its end once the process is to end and no record has begun, where nothing came for
-/// long between records, or once the connection has lost its place; it fails where a record takes too long. The last
-/// error is kept.
+/// long between records, or once the connection has lost its place; it fails where a record takes too long. A write
+/// fails where an answer takes too long. The last error is kept.
 #[derive(Drop)]
 pub struct PeerStream<'a, R, T> {
     rt: &'a R,
@@ -102,9 +113,15 @@ impl<'a, R: Wait, T: std::time::Clock> PeerStream<'a, R, T> {
         }
     }
 
-    /// The same of a connection with this number, which may lose its place.
-    pub fn among(mut self, seats: &'a Seats, id: u64) -> PeerStream<'a, R, T> {
-        self.seat = Some(Seat { seats, id });
+    /// The same of a connection with this number, which may lose its place. Whenever it is read, what was asked before is
+    /// answered, and a turn that the connection had is over.
+    pub fn among(
+        mut self,
+        seats: &'a Seats,
+        turns: &'a SegmentTurns,
+        id: u64,
+    ) -> PeerStream<'a, R, T> {
+        self.seat = Some(Seat { seats, turns, id });
         self
     }
 
@@ -118,6 +135,13 @@ impl<'a, R: Wait, T: std::time::Clock> PeerStream<'a, R, T> {
         match &self.seat {
             Some(seat) => !seat.seats.holds(self.rt, self.clock, seat.id),
             None => false,
+        }
+    }
+
+    /// Gives back the turn that the connection had.
+    fn give_back(&self) {
+        if let Some(seat) = &self.seat {
+            seat.turns.give_back(self.rt, seat.id);
         }
     }
 
@@ -143,6 +167,23 @@ impl<'a, R: Wait, T: std::time::Clock> PeerStream<'a, R, T> {
         waiting.since = Instant::now(self.clock).ok();
     }
 
+    /// Notes that bytes of an answer are to be written, the first after a record that came: whether it is written for
+    /// too long. A local program may take its time.
+    fn is_late(&self) -> bool {
+        let mut waiting = self.waiting.lock(self.rt);
+        if waiting.is_within || waiting.answering.is_none() {
+            waiting.is_within = false;
+            waiting.answering = Instant::now(self.clock).ok();
+        }
+        match (waiting.between, waiting.answering) {
+            (Some(_), Some(begun)) => match begun.elapsed(self.clock) {
+                Ok(elapsed) => elapsed.as_secs() >= WITHIN,
+                Err(_) => false,
+            },
+            _ => false,
+        }
+    }
+
     /// Whether a byte of a record came, and whether its peer is silent for too long.
     fn silence(&self) -> (bool, bool) {
         let mut waiting = self.waiting.lock(self.rt);
@@ -160,6 +201,7 @@ impl<'a, R: Wait, T: std::time::Clock> PeerStream<'a, R, T> {
 
 impl<'a, R: Wait, T: std::time::Clock> Read for PeerStream<'a, R, T> {
     fn read(&mut self, buf: &mut [u8]) -> io::Result<usize> {
+        self.give_back();
         for _ in 0..u64::MAX {
             let (is_within, is_late) = self.silence();
             if is_late && is_within {
@@ -186,6 +228,9 @@ impl<'a, R: Wait, T: std::time::Clock> Read for PeerStream<'a, R, T> {
 impl<'a, R: Wait, T: std::time::Clock> Write for PeerStream<'a, R, T> {
     fn write(&mut self, bytes: &[u8]) -> io::Result<usize> {
         for _ in 0..WITHIN * 1000 / LOOK {
+            if self.is_late() {
+                break;
+            }
             match (&mut self.stream).write(bytes) {
                 Ok(count) => {
                     self.note_answer();

@@ -11,11 +11,10 @@ use thiserror::Error;
 /// Why a call of a server on another host gave no answer.
 #[derive(Clone, Copy, Debug, PartialEq, Eq, Error)]
 pub enum CallFault {
-    /// It wasn't begun.
+    /// It wasn't begun, by the client's fault, or since there is no way to the server.
     #[error("not begun")]
     NotBegun(LinkFault),
-    /// Nothing came back for it; or the acknowledgement of an earlier reply couldn't be brought, and it
-    /// wasn't begun.
+    /// It was begun, and nothing came back for it.
     #[error("not carried")]
     Uncarried(CourierFault),
     /// What came back was refused, the last time that it was carried.

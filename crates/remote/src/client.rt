@@ -13,7 +13,7 @@ ghost use Rattle.nodes.specs.Shareds.{HasNotStrayed};
 ghost use Rattle.remote.specs.Remotes.{IsRemote, remote_of};
 ghost use Rattle.remote.specs.Calls.{IsBegun, IsCallAt, IsCallOf, StopsBeginning};
 ghost use Rattle.remote.specs.Answers.{Accepts, LogsNoMore, Refuses};
-ghost use Rattle.remote.specs.Receipts.{Receives};
+ghost use Rattle.remote.specs.Receipts.{Receives, RefusesReceiving};
 
 use crate::accepted::accept;
 use crate::calls::{begin, is_call_of, write_call};
@@ -174,12 +174,12 @@ impl RemoteClient {
 
     /// Receives an envelope from the server for which no call waits, as one that a witness shows: its RECV is
     /// logged, and takes a key. One that was received before is a `Repeat`; nothing is logged and no key is
-    /// needed. Else nothing has changed: `Unanswered` where the bytes aren't an envelope from the server to
-    /// the client that the server signed, `KeysUsedUp` where no key is left for it, `NoNumbers` where the log
-    /// has no number for it, `NoMemory` only where a growth was refused.
+    /// needed. Else nothing has changed: `Unanswered` comes exactly where the bytes aren't an envelope from the
+    /// server to the client that the server signed, `KeysUsedUp` where no key is left for one that is new, else
+    /// `NoNumbers` where the log has no number for it, `NoMemory` only where a growth was refused.
     pub fn receive(&mut self, alloc: Global, bytes: &[u8]) -> Result<Received<Number>, AcceptFault>
         ensures received { IfOk result (λ r. Receives self.old bytes.now r self.new) }
-        ensures refused { IfErr result (λ _. self.new ≡ self.old) }
+        ensures refused { IfErr result (λ f. RefusesReceiving self.old bytes.now f self.new) }
         ensures honest { HasNotStrayed self.new.client }
     {
         let result = receive(&mut self.client, self.server, alloc, bytes);

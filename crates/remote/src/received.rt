@@ -10,7 +10,7 @@ ghost use Rattle.envelopes.specs.declared.envelope.Envelope.{Envelope};
 ghost use Rattle.node_logs.specs.Nodes.{sender_of};
 ghost use Rattle.remote.specs.Remotes.{IsRemote, remote_of};
 ghost use Rattle.remote.specs.declared.fault.AcceptFault.TheVariants.{NoMemory};
-ghost use Rattle.remote.specs.Receipts.{Receives};
+ghost use Rattle.remote.specs.Receipts.{Receives, RefusesReceiving};
 ghost use Rattle.remote.specs.Replies.{IsReplied, IsReplyTo, RefusesReply, WritesReceipt};
 ghost use Rattle.remote.specs.Sent.{IsTextFrom, NotTextFrom};
 
@@ -81,7 +81,8 @@ pub(crate) fn receive(
     requires { IsRemote (remote_of client.old server) }
     ensures received { IfOk result (λ r.
         Receives (remote_of client.old server) bytes.now r (remote_of client.new server)) }
-    ensures refused { IfErr result (λ _. remote_of client.new server ≡ remote_of client.old server) }
+    ensures refused { IfErr result (λ f.
+        RefusesReceiving (remote_of client.old server) bytes.now f (remote_of client.new server)) }
     ensures remote { IsRemote (remote_of client.new server) }
 {
     let _envelope = read_from(alloc, server, bytes)?;

@@ -10,8 +10,9 @@ use Rattle.commitment.specs.declared.outcome.Received.TheVariants.{New, Repeat}
 use Rattle.node_logs.specs.Nodes.{LacksNumbers}
 use Rattle.remote.specs.Remotes.{RemoteParts, having_called}
 use Rattle.remote.specs.Calls.{StopsBeginning}
-use Rattle.remote.specs.Receipts.{Receives as RemoteReceives}
+use Rattle.remote.specs.Receipts.{Receives as RemoteReceives, RefusesReceiving}
 use Rattle.remote.specs.declared.fault.AcceptFault.{AcceptFault}
+use Rattle.remote.specs.declared.fault.AcceptFault.TheVariants as faults
 use Rattle.remote_sharing.specs.Clients.{Begins, HasGrown, LogStep, MayMake, Receives}
 
 -- It grew by one more step.
@@ -30,13 +31,27 @@ grown_unbegun r r' body NoMemory has stops = by stops.1
     by (inl same) = subst HasGrown (sym same) has
     by (inr sent) = grown (Begins body) r r' has sent.1
 
+-- Where no message was received nothing has changed.
+pub same_unreceived : (r r' : RemoteParts) (bytes : List ℕ) (why : AcceptFault) → RefusesReceiving r bytes why r'
+    → r' ≡ r
+same_unreceived r r' bytes faults.Unanswered refused = refused.1
+same_unreceived r r' bytes faults.KeysUsedUp refused = refused.1.3
+same_unreceived r r' bytes faults.NoNumbers refused = refused.1.4
+same_unreceived r r' bytes faults.NoMemory refused = refused
+same_unreceived r r' bytes faults.NotAcknowledged refused = absurd refused
+same_unreceived r r' bytes faults.AcknowledgedTwice refused = absurd refused
+same_unreceived r r' bytes faults.NotOwed refused = absurd refused
+same_unreceived r r' bytes (faults.AnotherCall place) refused = absurd refused
+same_unreceived r r' bytes (faults.Repeated place) refused = absurd refused
+
 -- A message was received, or wasn't.
 pub grown_by_receiving : (r r' : RemoteParts) (bytes : List ℕ) (result : Result (Received ℕ) AcceptFault)
     → HasGrown r
     → IfOk result (λ x. RemoteReceives r bytes x r')
-    → IfErr result (λ _. r' ≡ r)
+    → IfErr result (λ why. RefusesReceiving r bytes why r')
     → HasGrown r'
-grown_by_receiving r r' bytes (Err f) has received refused = subst HasGrown (sym refused) has
+grown_by_receiving r r' bytes (Err why) has received refused =
+    subst HasGrown (sym (same_unreceived r r' bytes why refused)) has
 grown_by_receiving r r' bytes (Ok (Repeat place)) has received refused = subst HasGrown (sym received.1.2) has
 grown_by_receiving r r' bytes (Ok (New place)) has received refused = grown Receives r r' has (record {
   bytes = bytes;

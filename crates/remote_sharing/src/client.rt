@@ -1,13 +1,12 @@
 //! A client that has several calls in flight.
 
-ghost use Rattle.std.specs.Prelude.{◌≡◌, ◌≤◌, ◌↔◌, ◌+◌, [], IfErr, IfOk, IfSome, IsOk, IsTrue, length, pred};
+ghost use Rattle.std.specs.Prelude.{◌≡◌, ◌≤◌, ◌↔◌, [], Contains, IfErr, IfOk, IfSome, IsOk, IsTrue, length};
 ghost use Rattle.std.specs.Option.{option_map};
 ghost use Rattle.secure_log.specs.declared.log_entries.entry.TheConstants.{MAX_BODY};
-ghost use Rattle.node_logs.specs.Nodes.{LacksKeys};
 ghost use Rattle.nodes.specs.Shareds.{HasNotStrayed};
 ghost use Rattle.remote.specs.Answers.{Accepts, Refuses};
-ghost use Rattle.remote.specs.Receipts.{Receives};
-ghost use Rattle.remote_sharing.specs.Clients.{BeginsBeside, HasGrown, StopsBeside};
+ghost use Rattle.remote_sharing.specs.Clients.{BeginsBeside, HasGrown, IsInFlight, ReceivesBeside, RefusesBeside};
+ghost use Rattle.remote_sharing.specs.Clients.{StopsBeside, without};
 
 use authenticator::Number;
 use commitment::Received;
@@ -18,12 +17,26 @@ use std::marker::Model;
 
 /// A client of one server that has several calls in flight. Its log was empty, and has nothing but what its calls
 /// logged: the SEND of each, and the ACK and the RECV of what came back; and the RECVs of messages for which no call
-/// waited. A clause sees the client, and how many of its calls are in flight.
+/// waited. A clause sees the client, and the numbers of its calls in flight.
 #[derive(Drop)]
 pub struct SharedClient {
     client: RemoteClient,
-    /// How many calls are in flight: a key is left for the reply to each.
-    waiting: u32,
+    /// The numbers of the calls in flight: a key is left for the reply to each.
+    waiting: Vec<Number>,
+}
+
+/// A call that a shared client has begun, and that is in flight. It isn't dropped: the client ends it.
+pub struct InFlight {
+    pending: Pending,
+}
+
+impl InFlight {
+    /// What names the call.
+    pub fn pending(&self) -> &Pending
+        ensures { result.now ≡ self.now.pending }
+    {
+        &self.pending
+    }
 }
 
 impl Model for SharedClient {
@@ -33,22 +46,25 @@ impl Model for SharedClient {
 
     ghost coded = { client_code };
 
-    ghost view = { λ c. record { remote = c.client; waiting = c.waiting } };
+    ghost view = { λ c. record { remote = c.client; waiting = c.waiting.items } };
 
     ghost invariant = { λ c. HasGrown c.client };
 }
 
 impl SharedClient {
     /// A client without calls in flight. It comes back, as it was handed in, exactly where its log isn't empty.
-    pub fn new(client: RemoteClient) -> Result<SharedClient, RemoteClient>
-        ensures shared { IfOk result (λ c. c ≡ record { remote = client; waiting = 0 }) }
+    pub fn new(alloc: Global, client: RemoteClient) -> Result<SharedClient, RemoteClient>
+        ensures shared { IfOk result (λ c. c ≡ record { remote = client; waiting = [] }) }
         ensures handed_back { IfErr result (λ c. c ≡ client) }
         ensures exact { IsOk result ↔ (client.client.entries ≡ []) }
     {
         if !is_empty(&client) {
             return Err(client);
         }
-        Ok(SharedClient { client, waiting: 0 })
+        Ok(SharedClient {
+            client,
+            waiting: Vec::new(alloc),
+        })
     }
 
     /// The client.
@@ -63,75 +79,99 @@ impl SharedClient {
 
     /// Whether no call is in flight.
     pub fn is_idle(&self) -> bool
-        ensures { IsTrue result ↔ (self.now.waiting ≡ 0) }
+        ensures { IsTrue result ↔ (self.now.waiting ≡ []) }
     {
-        self.waiting == 0
+        self.waiting.is_empty()
     }
 
-    /// Begins a call, as `RemoteClient::begin`. `KeysUsedUp` comes exactly where fewer keys are left than one for the
-    /// call, one for its reply and one for the reply to each call in flight.
+    /// Begins a call, as `RemoteClient::begin`: it is in flight until it is ended. `KeysUsedUp` comes exactly where
+    /// fewer keys are left than one for the call, one for its reply and one for the reply to each call in flight.
     pub fn begin(
         &mut self,
         alloc: Global,
         bytes: &[u8],
         text: &mut Vec<u8>,
-    ) -> Result<Pending, LinkFault>
+    ) -> Result<InFlight, LinkFault>
         requires size { length bytes.now ≤ MAX_BODY }
-        ensures begun { IfOk result (λ p. BeginsBeside self.old bytes.now p.number text.new.items self.new) }
+        ensures begun { IfOk result (λ call.
+            BeginsBeside self.old bytes.now call.pending.number text.new.items self.new) }
         ensures stops { IfErr result (λ f. StopsBeside self.old bytes.now f self.new) }
         ensures honest { HasNotStrayed self.new.remote.client }
     {
         let left = u64::from(self.client.client().node().left());
-        if left < u64::from(self.waiting) + 2 {
+        if left < self.waiting.len() as u64 + 2 {
             return Err(LinkFault::KeysUsedUp);
+        }
+        match self.waiting.reserve(1) {
+            Ok(()) => {}
+            Err(_) => return Err(LinkFault::NoMemory),
         }
         match self.client.begin(alloc, bytes, text) {
             Ok(pending) => {
-                self.waiting += 1;
-                Ok(pending)
+                self.waiting.push_reserved(pending.number);
+                Ok(InFlight { pending })
             }
             Err(fault) => Err(fault),
         }
     }
 
-    /// Takes what came back for a call, as `RemoteClient::accept`. The call is in flight until it is ended.
+    /// Whether a call is in flight, and stands in the client's log: as a SEND to the server, with these bytes.
+    pub fn is_in_flight(&self, call: &InFlight, bytes: &[u8]) -> bool
+        ensures { IsTrue result ↔ IsInFlight self.now call.now.pending.number bytes.now }
+    {
+        self.waits_for(call.pending.number) && self.client.has_call(&call.pending, bytes)
+    }
+
+    /// Whether the call with a number is in flight.
+    fn waits_for(&self, number: Number) -> bool
+        ensures { IsTrue result ↔ Contains self.now.waiting number }
+    {
+        self.waiting.contains(&number)
+    }
+
+    /// Takes what came back for a call in flight, as `RemoteClient::accept`. It is in flight until it is ended.
     pub fn accept(
         &mut self,
         alloc: Global,
-        call: &Pending,
+        call: &InFlight,
         ack: &[u8],
         reply: Option<&[u8]>,
         receipt: &mut Vec<u8>,
     ) -> Result<Option<Vec<u8>>, AcceptFault>
-        ensures accepted { IfOk result (λ r. Accepts self.old.remote call.now.number ack.now
+        requires { Contains self.old.waiting call.now.pending.number }
+        ensures accepted { IfOk result (λ r. Accepts self.old.remote call.now.pending.number ack.now
             (option_map (λ b. b.now) reply.entry) (option_map (λ v. v.items) r) receipt.new.items
             self.new.remote) }
-        ensures refused { IfErr result (λ f. Refuses self.old.remote call.now.number ack.now
+        ensures refused { IfErr result (λ f. Refuses self.old.remote call.now.pending.number ack.now
             (option_map (λ b. b.now) reply.entry) f self.new.remote) }
         ensures waiting { self.new.waiting ≡ self.old.waiting }
         ensures honest { HasNotStrayed self.new.remote.client }
         ensures size { IfOk result (λ r. IfSome r (λ v. length v.items ≤ MAX_BODY)) }
     {
-        self.client.accept(alloc, call, ack, reply, receipt)
+        self.client
+            .accept(alloc, &call.pending, ack, reply, receipt)
     }
 
-    /// A call is no longer in flight.
-    pub fn end(&mut self)
+    /// Ends a call: it is no longer in flight.
+    pub fn end(&mut self, call: InFlight)
         ensures client { self.new.remote ≡ self.old.remote }
-        ensures ended { self.new.waiting ≡ pred self.old.waiting }
+        ensures ended { self.new.waiting ≡ without call.pending.number self.old.waiting }
     {
-        self.waiting = self.waiting.saturating_sub(1);
+        let InFlight { pending } = call;
+        let ended = pending.number;
+        self.waiting.retain(|number| *number != ended);
     }
 
     /// Receives an envelope from the server for which no call waits, as `RemoteClient::receive`. `KeysUsedUp` comes
-    /// where no key is left beside those for the calls in flight, too; nothing has changed then.
+    /// exactly where no key is left beside one for the reply to each call in flight, also for a `Repeat`; nothing has
+    /// changed after a fault.
     pub fn receive(&mut self, alloc: Global, bytes: &[u8]) -> Result<Received<Number>, AcceptFault>
-        ensures received { IfOk result (λ r. Receives self.old.remote bytes.now r self.new.remote) }
-        ensures refused { IfErr result (λ _. self.new ≡ self.old) }
-        ensures left { IfOk result (λ _. ¬ LacksKeys (1 + self.old.waiting) self.old.remote.client) }
-        ensures waiting { self.new.waiting ≡ self.old.waiting }
+        ensures received { IfOk result (λ r. ReceivesBeside self.old bytes.now r self.new) }
+        ensures refused { IfErr result (λ f. RefusesBeside self.old bytes.now f self.new) }
+        ensures honest { HasNotStrayed self.new.remote.client }
     {
-        if self.client.client().node().left() <= self.waiting {
+        let left = self.client.client().node().left() as usize;
+        if left <= self.waiting.len() {
             return Err(AcceptFault::KeysUsedUp);
         }
         self.client.receive(alloc, bytes)

@@ -1,32 +1,37 @@
 //! A client under a lock, as a link for each of several local programs.
 
-ghost use Rattle.std.specs.Prelude.{◌≡◌, ◌≤◌, List, ℕ, false, length, is_err, IfErr, IfOk, IfSome, None};
+ghost use Rattle.std.specs.Prelude.{◌≡◌, ◌≤◌, List, ℕ, false, length, is_err, IfErr, IfNone, IfOk, IfSome, None};
+ghost use Rattle.std.specs.Prelude.{OnOk};
 ghost use Rattle.std.specs.Option.{option_map};
 ghost use Rattle.secure_log.specs.declared.log_entries.entry.TheConstants.{MAX_BODY};
 ghost use Rattle.stream_spec.specs.Streams.{StopsAfterRecords, TakesNothing};
+ghost use Rattle.gateway.specs.declared.links.fault.LinkFault.TheVariants.{Failed};
 ghost use Rattle.gateway.specs.Links.Exchanges.{Exchange};
 ghost use Rattle.gateway.specs.Serving.{IsAsked, LeavesOff, text_given};
 ghost use Rattle.remote.specs.Links.{call_fault};
-ghost use Rattle.remote_sharing.specs.Shared.{Exchanges, Fails, IsExchangedUnderLock, StopsCall, StopsUnderLock};
+ghost use Rattle.remote_sharing.specs.Shared.{BeginsNone, BeginsOne, Exchanges, Fails, IsAnswered};
+ghost use Rattle.remote_sharing.specs.Shared.{IsExchangedUnderLock, StopsCall, StopsUnderLock};
 
+use crate::caller::{Caller, Texts};
 use crate::client::SharedClient;
 use crate::flights::{Claim, Flights, Outcome, Part, Presence, Turn};
-use crate::rounds::{Locked, Texts, carry};
+use crate::rounds::carry;
 use nfs_items::Time;
 use nodes::{Clock, Gateway, Link, LinkFault, Served, StreamFault};
-use remote::{CallFault, Courier, CourierFault};
+use remote::{CallFault, Courier};
 use rpc::records::{Counting, RecordReader};
 use std::alloc::Global;
 use std::io::{Read, Write};
+use std::marker::Model;
 use std::sync::{Arc, Mutex, MutexGuard, Wait};
 
 /// A client under a lock, as a link: all the local programs are one client of the server. The client's lock is held
 /// where a call is begun and where its answer is taken, and not between the two. It keeps its runtime, so that who uses
-/// it as a link has none.
+/// it as a link has none. A clause sees how many ways to the server it has, and how many calls were begun for it.
 #[derive(Drop)]
 pub struct SharedRemote<'a, R: Wait, C: Courier + Drop, P: Presence> {
     rt: &'a R,
-    client: &'a Mutex<SharedClient>,
+    caller: Caller<'a, R>,
     /// Each is held while a call is carried by it.
     ways: &'a [Mutex<C>],
     flights: &'a Mutex<Flights<P>>,
@@ -34,6 +39,17 @@ pub struct SharedRemote<'a, R: Wait, C: Courier + Drop, P: Presence> {
     texts: Texts,
     last_fault: Option<CallFault>,
     last_sent: Option<u64>,
+}
+
+impl<'a, R: Wait, C: Courier + Drop, P: Presence> Model for SharedRemote<'a, R, C, P> {
+    ghost use Rattle.std.specs.Prelude.{length};
+    ghost use Rattle.remote_sharing.specs.Shared.{LinkParts, link_code};
+
+    ghost Value = { LinkParts };
+
+    ghost coded = { link_code };
+
+    ghost view = { λ d. record { ways = length d.ways.now; begun = d.caller.begun } };
 }
 
 impl<'a, R: Wait, C: Courier + Drop, P: Presence> SharedRemote<'a, R, C, P> {
@@ -47,10 +63,12 @@ impl<'a, R: Wait, C: Courier + Drop, P: Presence> SharedRemote<'a, R, C, P> {
         ways: &'a [Mutex<C>],
         flights: &'a Mutex<Flights<P>>,
         presence: Arc<P>,
-    ) -> SharedRemote<'a, R, C, P> {
+    ) -> SharedRemote<'a, R, C, P>
+        ensures { result ≡ record { ways = length ways.now; begun = 0 } }
+    {
         SharedRemote {
             rt,
-            client,
+            caller: Caller::new(rt, client),
             ways,
             flights,
             presence,
@@ -71,14 +89,14 @@ impl<'a, R: Wait, C: Courier + Drop, P: Presence> SharedRemote<'a, R, C, P> {
         self.last_sent
     }
 
-    /// Calls the server, and gives the reply that the client handed out, if one is owed. The call is carried three times
-    /// at most: again where what came back isn't its acknowledgement, or its reply lacks. A call whose connection has
-    /// ended, and that comes again on this one while it is in flight, is that call: it isn't made again.
+    /// Calls the server, and gives the reply that the client handed out, if one is owed. One call is begun, and carried
+    /// three times at most: again where what came back isn't its acknowledgement, or its reply lacks. A call whose
+    /// connection has ended, and that comes again on this one while it is in flight, is that call: none is begun.
     pub fn carry(&mut self, alloc: Global, bytes: &[u8]) -> Result<Option<Vec<u8>>, LinkFault>
         requires { length bytes.now ≤ MAX_BODY }
-        ensures exchanged { IfOk result (λ r.
-            IsExchangedUnderLock bytes.now (option_map (λ v. v.items) r)) }
-        ensures stops { IfErr result (λ f. StopsUnderLock bytes.now f) }
+        ensures answered { IfOk result (λ r.
+            IsAnswered self.old bytes.now (option_map (λ v. v.items) r) self.new) }
+        ensures stops { IfErr result (λ f. StopsUnderLock self.old bytes.now f self.new) }
         ensures size { IfOk result (λ r. IfSome r (λ v. length v.items ≤ MAX_BODY)) }
     {
         self.last_fault = None;
@@ -91,7 +109,7 @@ impl<'a, R: Wait, C: Courier + Drop, P: Presence> SharedRemote<'a, R, C, P> {
         match self.turn(part.claim) {
             Turn::Call => self.call(alloc, bytes, Some(part.claim)),
             Turn::Made(outcome) => take_reply(outcome, bytes),
-            Turn::Passed => Err(passed()),
+            Turn::Passed => Err(LinkFault::Failed),
         }
     }
 
@@ -117,13 +135,16 @@ impl<'a, R: Wait, C: Courier + Drop, P: Presence> SharedRemote<'a, R, C, P> {
         claim: Option<Claim>,
     ) -> Result<Option<Vec<u8>>, LinkFault>
         requires { length bytes.now ≤ MAX_BODY }
-        ensures exchanged { IfOk result (λ r.
-            IsExchangedUnderLock bytes.now (option_map (λ v. v.items) r)) }
-        ensures stops { IfErr result (λ f. StopsUnderLock bytes.now f) }
+        ensures answered { IfOk result (λ r.
+            IsAnswered self.old bytes.now (option_map (λ v. v.items) r) self.new) }
+        ensures stops { IfErr result (λ f. StopsUnderLock self.old bytes.now f self.new) }
         ensures size { IfOk result (λ r. IfSome r (λ v. length v.items ≤ MAX_BODY)) }
     {
         match self.call_once(alloc, bytes, flight_of(claim)) {
-            Ok(reply) => self.hand_out(alloc, bytes, claim, reply),
+            Ok(reply) => match self.settle(alloc, bytes, claim, reply) {
+                Some(reply) => Ok(reply),
+                None => Err(LinkFault::Failed),
+            },
             Err(fault) => Err(self.failed(claim, fault)),
         }
     }
@@ -138,62 +159,39 @@ impl<'a, R: Wait, C: Courier + Drop, P: Presence> SharedRemote<'a, R, C, P> {
         requires { length bytes.now ≤ MAX_BODY }
         ensures exchanged { IfOk result (λ r.
             IsExchangedUnderLock bytes.now (option_map (λ v. v.items) r)) }
-        ensures stops { IfErr result (λ f. StopsCall bytes.now f) }
+        ensures begun { OnOk result (BeginsOne self.old self.new) }
+        ensures stops { IfErr result (λ f. StopsCall self.old bytes.now f self.new) }
         ensures size { IfOk result (λ r. IfSome r (λ v. length v.items ≤ MAX_BODY)) }
     {
         let Some(mut courier) = free_way(self.rt, self.ways, number) else {
-            return Err(CallFault::Uncarried(CourierFault::Lost));
+            return Err(CallFault::NotBegun(LinkFault::Failed));
         };
-        let locked = Locked {
-            rt: self.rt,
-            client: self.client,
-        };
-        let pending = match locked.begin(alloc, bytes, &mut self.texts.call) {
-            Ok(pending) => pending,
+        let call = match self.caller.begin(alloc, bytes, &mut self.texts.call) {
+            Ok(call) => call,
             Err(fault) => return Err(CallFault::NotBegun(fault)),
         };
-        self.last_sent = Some(pending.number.get());
+        self.last_sent = Some(call.pending().number.get());
         let result = carry(
-            locked,
+            &mut self.caller,
             &mut *courier,
             &mut self.texts,
             alloc,
-            &pending,
+            &call,
             bytes,
         );
-        locked.end();
+        self.caller.end(call);
         result
     }
 
     /// Notes that its call has failed.
     fn failed(&mut self, claim: Option<Claim>, fault: CallFault) -> LinkFault
-        ensures { result ≡ call_fault fault }
+        ensures told { result ≡ call_fault fault }
+        ensures none { BeginsNone self.old self.new }
     {
         let told = link_fault_of(&fault);
         self.last_fault = Some(fault);
         self.fail(claim);
         told
-    }
-
-    /// The reply to its call, where that still belongs to this connection.
-    fn hand_out(
-        &self,
-        alloc: Global,
-        bytes: &[u8],
-        claim: Option<Claim>,
-        reply: Option<Vec<u8>>,
-    ) -> Result<Option<Vec<u8>>, LinkFault>
-        requires exchanged { IsExchangedUnderLock bytes.now (option_map (λ v. v.items) reply) }
-        requires size { IfSome reply (λ v. length v.items ≤ MAX_BODY) }
-        ensures exchanged { IfOk result (λ r.
-            IsExchangedUnderLock bytes.now (option_map (λ v. v.items) r)) }
-        ensures stops { IfErr result (λ f. StopsUnderLock bytes.now f) }
-        ensures size { IfOk result (λ r. IfSome r (λ v. length v.items ≤ MAX_BODY)) }
-    {
-        match self.settle(alloc, bytes, claim, reply) {
-            Some(reply) => Ok(reply),
-            None => Err(passed()),
-        }
     }
 
     /// The reply to its call, where that still belongs to this connection; else it is kept for the one that it
@@ -207,9 +205,7 @@ impl<'a, R: Wait, C: Courier + Drop, P: Presence> SharedRemote<'a, R, C, P> {
     ) -> Option<Option<Vec<u8>>>
         requires exchanged { IsExchangedUnderLock bytes.now (option_map (λ v. v.items) reply) }
         requires size { IfSome reply (λ v. length v.items ≤ MAX_BODY) }
-        ensures exchanged { IfSome result (λ r.
-            IsExchangedUnderLock bytes.now (option_map (λ v. v.items) r)) }
-        ensures size { IfSome result (λ r. IfSome r (λ v. length v.items ≤ MAX_BODY)) }
+        ensures reply { IfSome result (λ r. r ≡ reply) }
     {
         let Some(claim) = claim else {
             return Some(reply);
@@ -236,11 +232,9 @@ impl<'a, R: Wait, C: Courier + Drop, P: Presence> SharedRemote<'a, R, C, P> {
 }
 
 /// A way that is free, or else the one that the number tells, once it is: none where there are no ways.
-fn free_way<'w, R: Wait, C>(
-    rt: &R,
-    ways: &'w [Mutex<C>],
-    number: u64,
-) -> Option<MutexGuard<'w, C>> {
+fn free_way<'w, R: Wait, C>(rt: &R, ways: &'w [Mutex<C>], number: u64) -> Option<MutexGuard<'w, C>>
+    ensures { IfNone result (length ways.now ≡ 0) }
+{
     for way in ways {
         if let Some(free) = way.try_lock() {
             return Some(free);
@@ -261,20 +255,13 @@ fn flight_of(claim: Option<Claim>) -> u64 {
 /// The reply to a call that an earlier connection made.
 fn take_reply(outcome: Outcome, bytes: &[u8]) -> Result<Option<Vec<u8>>, LinkFault>
     ensures exchanged { IfOk result (λ r. IsExchangedUnderLock bytes.now (option_map (λ v. v.items) r)) }
-    ensures stops { IfErr result (λ f. StopsUnderLock bytes.now f) }
+    ensures failed { IfErr result (λ f. f ≡ Failed) }
     ensures size { IfOk result (λ r. IfSome r (λ v. length v.items ≤ MAX_BODY)) }
 {
     match outcome.reply_to(bytes) {
         Some(reply) => Ok(reply),
-        None => Err(passed()),
+        None => Err(LinkFault::Failed),
     }
-}
-
-/// The fault of a call that another connection made, or is to make.
-fn passed() -> LinkFault
-    ensures { (body : List ℕ) → StopsUnderLock body result }
-{
-    LinkFault::Failed
 }
 
 /// A call's fault, as one of the link.

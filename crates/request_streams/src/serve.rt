@@ -105,11 +105,12 @@ pub fn serve_requests<A: Answerer, R: Read + Drop, W: Write>(
         (R.remaining reader.old.reader.inner) (W.contents writer.old.inner)
         (R.remaining reader.new.reader.inner) (W.contents writer.new.inner) }
 {
-    let mut out = Vec::new(alloc);
     for _ in 0..u64::MAX {
         let Some(bytes) = reader.next(alloc, answerer)? else {
             return Ok(ServeEnd::AtEnd);
         };
+        // An answer may be long: its memory is let go once it is written.
+        let mut out = Vec::new(alloc);
         if !answer_one(alloc, answerer, &bytes, &mut out, writer)? {
             return Ok(ServeEnd::AtNoCall);
         }

@@ -1,15 +1,14 @@
 -- When a server's log was put back to an earlier one.
-use Rattle.std.specs.Prelude.{◌≡◌, ℕ, List, Ok, Some}
+use Rattle.std.specs.Prelude.{◌≡◌, ℕ, List, Ok}
 use Rattle.rpc.specs.Call.{message_at}
-use Rattle.authenticator.specs.Numbers.{number_in}
-use Rattle.authenticator.specs.Signed.{IsSignedIn, authenticator_value}
+use Rattle.authenticator.specs.Signed.{authenticator_value}
 use Rattle.authenticator.specs.declared.authenticator.Authenticator.{Authenticator}
-use Rattle.secure_log.specs.Log.{hash_at}
 use Rattle.peer_calls.specs.Calls.{Call, judged}
 use Rattle.peer_calls.specs.NodeRequests.{node_ask_at}
 use Rattle.peer_calls.specs.NodeRequests as asks
 use Rattle.peer_calls.specs.declared.call.TheConstants.{NODE_PROGRAM}
 use Rattle.node_logs.specs.Nodes.{NodeParts}
+use Rattle.nodes.specs.Lost.{IsLost}
 use Rattle.nodes.specs.Shareds.{HasNotStrayed}
 use Rattle.server_process.specs.declared.server.Ending.{Ending}
 use Rattle.server_process.specs.declared.server.Ending.TheVariants.{KeysUsedUp, PutBack, Stopped}
@@ -19,20 +18,6 @@ pub record Claims (bytes : List ℕ) (a : Authenticator) : Type 0 where
   pub call : Call
   pub is_call : judged NODE_PROGRAM (message_at bytes) ≡ Ok call
   pub is_asked : node_ask_at call.procedure call.arguments ≡ Ok (asks.Stands (authenticator_value a))
-
--- The number for which its word stands and its hash are a pair of the node's log.
-abbrev pub Stands : NodeParts → Authenticator → Type 0
-Stands n a = hash_at n.entries (number_in n.log_version a.word) ≡ Some a.hash
-
--- It names the node, and its signature is that of the node's key in the roster.
-abbrev pub IsOwn : NodeParts → Authenticator → Type 0
-IsOwn n a = (a.node ≡ n.node) × IsSignedIn n.roster a
-
--- The node signed it, at this number, and it doesn't stand in the log.
-pub record IsLost (n : NodeParts) (a : Authenticator) (number : ℕ) : Type 0 where
-  pub own : IsOwn n a
-  pub gone : Stands n a → ⊥
-  pub at : number ≡ number_in n.log_version a.word
 
 -- A record asks a node with its own signature whether what was signed stands in its log, and it doesn't: the node signed
 -- something at this number before its log was put back to an earlier one.

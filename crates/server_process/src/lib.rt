@@ -1,6 +1,7 @@
 //! The process of a server on a host of its own.
 #![tactic(auto)]
 
+mod checking;
 mod locked;
 mod put_back;
 mod server;

@@ -1,41 +1,65 @@
 //! A server under a lock, which answers the requests of a connection.
 
-ghost use Rattle.std.specs.Prelude.{◌≡◌, IfSome, IsSome};
+ghost use Rattle.std.specs.Prelude.{◌≡◌, ◌⊎◌, IfSome, IsSome, ℕ};
 ghost use Rattle.hosting.specs.Hosting.{IsAnsweredUnderLock};
 ghost use Rattle.request_streams.specs.Serving.{IsAnswerIf};
-ghost use Rattle.server_process.specs.PutBack.{IsPutBack};
+ghost use Rattle.server_process.specs.PutBack.{IsPutBack, WasSignedBefore};
 
+use crate::checking::Checking;
 use crate::put_back::{SignedBefore, signed_before};
 use crate::server::AddressKind;
 use crate::status::{Tally, audited_to};
+use authenticator::Roster;
 use frames::Bound;
-use hosting::{Host, answer_request};
+use hosting::{Host, Ready, answer_request};
 use nfs_items::Time;
 use nodes::{Clock, HonestServer};
-use peer_connections::{Phase, Seats, Standing, end_serving};
+use peer_connections::{
+    Output, Phase, Seats, SegmentTurns, Standing, Waiting, end_serving, is_serving,
+};
 use request_streams::{Answerer, Outcome};
 use secure_log::log_entries::Entry;
-use std::alloc::Global;
+use std::alloc::{AllocError, Global};
+use std::io::Write;
 use std::marker::Model;
+use std::net::IpAddr;
 use std::sync::{Mutex, Wait};
+use std::time::Duration;
 
 /// The keys that a call may take of a server.
 const KEYS_OF_A_CALL: u32 = 2;
 
-/// A server, and what shows that its log was put back to an earlier one, once somebody has shown it. It lies under a
-/// lock.
+/// SIGNED.
+const SIGNED: u32 = 4;
+
+/// SEGMENT.
+const SEGMENT: u32 = 5;
+
+/// BASE.
+const BASE: u32 = 7;
+
+/// How many milliseconds pass until it is looked again whether there is a turn.
+const PAUSE: u64 = 50;
+
+/// How often it is looked whether there is a turn: for a minute.
+const LOOKS: u64 = 1200;
+
+/// A server, and what shows that its log was put back to an earlier one, once somebody has shown it; and when it logs
+/// its state. It lies under a lock.
 #[derive(Drop)]
 pub(crate) struct Held {
     server: HonestServer,
     put_back: Option<SignedBefore>,
+    checking: Checking,
 }
 
 impl Held {
-    /// A server of which nothing was shown.
-    pub(crate) fn new(server: HonestServer) -> Held {
+    /// A server of which nothing was shown, and when it is to log its state.
+    pub(crate) fn new(server: HonestServer, checking: Checking) -> Held {
         Held {
             server,
             put_back: None,
+            checking,
         }
     }
 
@@ -69,50 +93,84 @@ impl Held {
         }
     }
 
-    /// Answers a record. Once it was shown that the log was put back nothing is done, and no answer is given: a key that
-    /// signed before the log was put back isn't to sign again.
-    fn answer(
+    /// Logs a CHECK where one is due, the log having had so many entries before the record that was answered last. Where
+    /// it is refused the log is as it was, and the line says why; the next is due after as many messages. Once it was shown
+    /// that the log was put back nothing is logged.
+    fn check(&mut self, alloc: Global, before: usize) -> Option<Result<String, AllocError>>
+        ensures ended { IsSome self.old.put_back → self.new ≡ self.old }
+    {
+        if self.put_back.is_some() || !is_received(self.entries(), before) {
+            return None;
+        }
+        if !self.checking.is_due() {
+            return None;
+        }
+        match self.server.checkpoint(alloc) {
+            Ok(_) => None,
+            Err(refusal) => {
+                Some(format!(in alloc; "nfsacc: the state isn't logged: {refusal}\n"))
+            }
+        }
+    }
+
+    /// Answers a record. One that shows that the log was put back is answered, too; once it was shown that, nothing is
+    /// done, and no answer is given: a key that signed before the log was put back isn't to sign again. Where memory is
+    /// refused for looking at what a record shows, nothing is done, and there is no answer.
+    fn answer<'r>(
         &mut self,
         alloc: Global,
         time: Time,
         host: &Host,
-        bytes: &[u8],
+        ready: Ready<'r>,
+        bytes: &'r [u8],
         out: &mut Vec<u8>,
     ) -> Outcome
         ensures answered { IsAnswerIf (IsAnsweredUnderLock host.now) bytes.now out.new.items result }
         ensures ended { IsSome self.old.put_back → (self.new ≡ self.old) × (result ≡ Outcome.NoCall) }
+        ensures shown { (number : ℕ) → WasSignedBefore self.old.server bytes.now number →
+            IsSome self.new.put_back ⊎ ((self.new ≡ self.old) × (result ≡ Outcome.NoMemory)) }
     {
         if self.put_back.is_some() {
             return Outcome::NoCall;
         }
-        let outcome = answer_request(&mut self.server, alloc, time, host, bytes, out);
-        self.put_back = signed_before(&self.server, alloc, bytes);
+        let Ok(put_back) = signed_before(&self.server, alloc, bytes) else {
+            return Outcome::NoMemory;
+        };
+        let outcome = answer_request(&mut self.server, alloc, time, host, ready, bytes, out);
+        self.put_back = put_back;
         outcome
     }
 }
 
-/// The place that a connection holds, and the clock by which it holds it.
+/// The place that a connection holds, with its peer's address, and the clock by which it holds it.
 #[derive(Drop)]
 pub(crate) struct Seat<'a, T> {
     pub(crate) seats: &'a Seats,
+    pub(crate) turns: &'a SegmentTurns,
     pub(crate) id: u64,
+    pub(crate) address: IpAddr,
     pub(crate) clock: &'a T,
     pub(crate) kind: AddressKind,
+    pub(crate) waiting: &'a Mutex<Waiting>,
 }
 
-/// A server under a lock, which others use too. The lock is held while one request is answered.
+/// A server under a lock, which others use too. The lock is held while one request is answered, and while a CHECK is
+/// logged after it; the request's signature is checked before that.
 #[derive(Drop)]
-pub(crate) struct LockedServer<'a, R, C, T> {
+pub(crate) struct LockedServer<'a, R, C, T, W, E> {
     rt: &'a R,
     held: &'a Mutex<Held>,
     clock: C,
     host: Host,
+    /// The server's roster, by which messages are checked before the lock is taken.
+    roster: &'a Roster,
     phase: &'a Mutex<Phase>,
     seat: Seat<'a, T>,
     tally: &'a Mutex<Tally>,
+    output: &'a Mutex<Output<W, E>>,
 }
 
-impl<'a, R, C, T> Model for LockedServer<'a, R, C, T> {
+impl<'a, R, C, T, W, E> Model for LockedServer<'a, R, C, T, W, E> {
     ghost use Rattle.hosting.specs.declared.host.Host.{Host};
 
     ghost Value = { Host };
@@ -120,31 +178,35 @@ impl<'a, R, C, T> Model for LockedServer<'a, R, C, T> {
     ghost view = { λ l. l.host };
 }
 
-impl<'a, R: Wait, C: Clock, T: std::time::Clock> LockedServer<'a, R, C, T> {
+impl<'a, R: Wait, C: Clock, T: std::time::Clock, W, E> LockedServer<'a, R, C, T, W, E> {
     /// The server that lies under a lock, as it answers at an address.
     pub(crate) fn new(
         rt: &'a R,
         held: &'a Mutex<Held>,
         clock: C,
         host: Host,
+        roster: &'a Roster,
         phase: &'a Mutex<Phase>,
         seat: Seat<'a, T>,
         tally: &'a Mutex<Tally>,
-    ) -> LockedServer<'a, R, C, T> {
+        output: &'a Mutex<Output<W, E>>,
+    ) -> LockedServer<'a, R, C, T, W, E> {
         LockedServer {
             rt,
             held,
             clock,
             host,
+            roster,
             phase,
             seat,
             tally,
+            output,
         }
     }
 }
 
 /// A node takes no long record.
-impl<'a, R, C, T> Bound for LockedServer<'a, R, C, T> {
+impl<'a, R, C, T, W, E> Bound for LockedServer<'a, R, C, T, W, E> {
     ghost most = { λ l front. 0 };
 
     fn most(&self, _front: &[u8]) -> u32 {
@@ -153,16 +215,24 @@ impl<'a, R, C, T> Bound for LockedServer<'a, R, C, T> {
 }
 
 /// Each answer is that of a server that lay under the lock. Where it has fewer keys left than a call takes, or was shown
-/// that its log was put back, the serving ends.
-impl<'a, R: Wait, C: Clock, T: std::time::Clock> Answerer for LockedServer<'a, R, C, T> {
+/// that its log was put back, the serving ends. Segments and bases are made for two connections at a time, and for one of
+/// an address, until they are written: who has no turn within a minute gets no answer.
+impl<'a, R: Wait, C: Clock, T: std::time::Clock, W: Write, E: Write> Answerer
+    for LockedServer<'a, R, C, T, W, E> {
     ghost answers = { λ l bytes text. IsAnsweredUnderLock l bytes text };
 
     fn answer(&mut self, alloc: Global, bytes: &[u8], out: &mut Vec<u8>) -> Outcome {
+        self.seat.waiting.lock(self.rt).begin_answer();
+        if is_long(bytes) && !self.seat.await_turn(self.rt, self.phase) {
+            return Outcome::NoCall;
+        }
+        let ready = Ready::of(alloc, self.roster, bytes);
         let time = self.clock.now();
         let mut held = self.held.lock(self.rt);
         let before = held.entries().len();
-        let outcome = held.answer(alloc, time, &self.host, bytes, out);
+        let outcome = held.answer(alloc, time, &self.host, ready, bytes, out);
         let standing = shown(held.entries(), before, bytes, self.seat.kind);
+        let unchecked = held.check(alloc, before);
         if let Some(reason) = held.end() {
             end_serving(self.rt, self.phase, reason);
         }
@@ -173,11 +243,28 @@ impl<'a, R: Wait, C: Clock, T: std::time::Clock> Answerer for LockedServer<'a, R
         if let Some(last) = audited_to(alloc, bytes, out) {
             self.tally.lock(self.rt).audited(last);
         }
+        if let Some(line) = unchecked {
+            self.output.lock(self.rt).say(line);
+        }
         outcome
     }
 }
 
 impl<'a, T: std::time::Clock> Seat<'a, T> {
+    /// Waits for a turn at having a segment or a base made and written: whether it has one.
+    fn await_turn<R: Wait>(&self, rt: &R, phase: &Mutex<Phase>) -> bool {
+        for _ in 0..LOOKS {
+            if self.turns.take(rt, self.id, self.address) {
+                return true;
+            }
+            if !is_serving(rt, phase) {
+                return false;
+            }
+            self.clock.sleep(Duration::from_millis(PAUSE));
+        }
+        false
+    }
+
     /// The connection takes another place.
     fn show<R: Wait>(&self, rt: &R, standing: Standing) {
         self.seats.show(rt, self.clock, self.id, standing);
@@ -195,10 +282,29 @@ fn shown(entries: &[Entry], before: usize, bytes: &[u8], kind: AddressKind) -> O
     }
 }
 
-/// Whether the bytes of a call are of SIGNED or of SEGMENT: their sixth word is the procedure's number.
+/// Whether a new message was received, where the log had so many entries before.
+fn is_received(entries: &[Entry], before: usize) -> bool {
+    matches!(entries.get(before), Some(Entry::Recv { .. }))
+}
+
+/// Whether the bytes of a call ask for what witnesses ask for.
 fn is_audit(bytes: &[u8]) -> bool {
-    match bytes.get(20..24) {
-        Some(word) => word == [0, 0, 0, 4].as_slice() || word == [0, 0, 0, 5].as_slice(),
+    match procedure_of(bytes) {
+        Some(procedure) => procedure == SIGNED || procedure == SEGMENT || procedure == BASE,
         None => false,
     }
+}
+
+/// Whether the bytes of a call ask for a segment or a base, of which some have many bytes.
+fn is_long(bytes: &[u8]) -> bool {
+    match procedure_of(bytes) {
+        Some(procedure) => procedure == SEGMENT || procedure == BASE,
+        None => false,
+    }
+}
+
+/// The procedure of a call, by its bytes: their sixth word (RFC 5531, section 9).
+fn procedure_of(bytes: &[u8]) -> Option<u32> {
+    let word = bytes.get(20..24)?.first_chunk::<4>()?;
+    Some(u32::from_be_bytes(*word))
 }

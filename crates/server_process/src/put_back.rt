@@ -1,16 +1,15 @@
 //! A server that is shown by its own signature that its log was put back to an earlier one.
 
-ghost use Rattle.std.specs.Prelude.{◌≡◌, ◌↔◌, IfSome, IsTrue};
-ghost use Rattle.server_process.specs.PutBack.{Claims, IsLost, IsOwn, IsPutBack, Stands, WasSignedBefore};
+ghost use Rattle.std.specs.Prelude.{◌≡◌, IfNone, IfOk, IfSome, ℕ};
+ghost use Rattle.authenticator.specs.declared.authenticator.Authenticator.{Authenticator};
+ghost use Rattle.server_process.specs.PutBack.{Claims, IsPutBack, WasSignedBefore};
 
-use authenticator::{Authenticator, is_same_hash, is_signed_by};
-use nodes::{HonestServer, ServerNode};
+use authenticator::Authenticator;
+use nodes::HonestServer;
 use peer_calls::{NODE_PROGRAM, NodeRequest, judge_call, read_node_request};
-use std::alloc::Global;
+use rpc::ReplyBody;
+use std::alloc::{AllocError, Global};
 use std::marker::Model;
-
-/// STANDS.
-const STANDS: u32 = 6;
 
 /// The number of something that a server signed and that its log lacks. Its type keeps that the server was asked with it
 /// whether it stands in the log.
@@ -41,65 +40,47 @@ impl SignedBefore {
 }
 
 /// What a call shows a server that it signed, and that its log lacks: the call is STANDS with an authenticator of this
-/// server, signed by its key in the roster, whose number and hash are no pair of the log.
-#[tactic(auto, using(crate::proofs::OfPutBack::signed_before))]
+/// server, signed by its key in the roster, whose number and hash are no pair of the log. None exactly where it shows
+/// nothing of the kind. `AllocError` comes only where a growth was refused.
 pub(crate) fn signed_before(
     server: &HonestServer,
     alloc: Global,
     bytes: &[u8],
-) -> Option<SignedBefore>
-    ensures { IfSome result (λ number. WasSignedBefore server.now bytes.now number) }
+) -> Result<Option<SignedBefore>, AllocError>
+    ensures shown { IfOk result (λ o. IfSome o (λ number. WasSignedBefore server.now bytes.now number)) }
+    ensures none { IfOk result (λ o. IfNone o ((number : ℕ) → ¬ WasSignedBefore server.now bytes.now number)) }
 {
-    let authenticator = claimed(alloc, bytes)?;
-    let number = lost(server.server(), &authenticator)?;
-    Some(SignedBefore { number })
+    match claimed(alloc, bytes)? {
+        Some(authenticator) => Ok(lost(server, bytes, &authenticator)),
+        None => Ok(None),
+    }
 }
 
-/// The authenticator of a call that is STANDS. Its signature isn't looked at.
-fn claimed(alloc: Global, bytes: &[u8]) -> Option<Authenticator>
-    ensures { IfSome result (Claims bytes.now) }
+/// What the authenticator of a call that is STANDS shows a server that it signed, and that its log lacks.
+#[tactic(auto, using(crate::proofs::OfPutBack::signed_before))]
+fn lost(server: &HonestServer, bytes: &[u8], authenticator: &Authenticator) -> Option<SignedBefore>
+    requires { Claims bytes.now authenticator.now }
+    ensures shown { IfSome result (λ number. WasSignedBefore server.now bytes.now number) }
+    ensures none { IfNone result ((number : ℕ) → ¬ WasSignedBefore server.now bytes.now number) }
 {
-    let asked = judge_call(NODE_PROGRAM, bytes).ok()?;
-    if asked.procedure != STANDS {
-        return None;
-    }
+    let number = server.server().lost(authenticator)?;
+    Some(SignedBefore {
+        number: number.get(),
+    })
+}
+
+/// The authenticator of a call that is STANDS: None exactly where it is none. Its signature isn't looked at.
+/// `AllocError` comes only where a growth was refused.
+fn claimed(alloc: Global, bytes: &[u8]) -> Result<Option<Authenticator>, AllocError>
+    ensures claims { IfOk result (λ o. IfSome o (Claims bytes.now)) }
+    ensures none { IfOk result (λ o. IfNone o ((a : Authenticator) → ¬ Claims bytes.now a)) }
+{
+    let Ok(asked) = judge_call(NODE_PROGRAM, bytes) else {
+        return Ok(None);
+    };
     match read_node_request(alloc, asked.procedure, asked.arguments) {
-        Ok(NodeRequest::Stands(authenticator)) => Some(authenticator),
-        _ => None,
-    }
-}
-
-/// The number of an authenticator, where the server signed it and its log lacks it.
-fn lost(server: &ServerNode, authenticator: &Authenticator) -> Option<u64>
-    ensures { IfSome result (IsLost server.now authenticator.now) }
-{
-    if stands(server, authenticator) || !is_own(server, authenticator) {
-        return None;
-    }
-    let number = authenticator.word.number(server.log_version());
-    Some(number.get())
-}
-
-/// Whether the number and the hash of an authenticator are a pair of the log.
-fn stands(server: &ServerNode, authenticator: &Authenticator) -> bool
-    ensures { IsTrue result ↔ Stands server.now authenticator.now }
-{
-    let number = authenticator.word.number(server.log_version());
-    match server.node().log().hash_at(number.get()) {
-        Some(hash) => is_same_hash(&hash, &authenticator.hash),
-        None => false,
-    }
-}
-
-/// Whether an authenticator names this server, and its signature is that of the server's key in the roster.
-fn is_own(server: &ServerNode, authenticator: &Authenticator) -> bool
-    ensures { IsTrue result ↔ IsOwn server.now authenticator.now }
-{
-    if authenticator.node != server.number() {
-        return false;
-    }
-    match server.node().roster().member(authenticator.node) {
-        Some(member) => is_signed_by(&member, authenticator),
-        None => false,
+        Ok(NodeRequest::Stands(authenticator)) => Ok(Some(authenticator)),
+        Err(ReplyBody::SystemError) => Err(AllocError),
+        Ok(_) | Err(_) => Ok(None),
     }
 }

@@ -2,14 +2,16 @@
 
 ghost use Rattle.server_process.specs.PutBack.{IsEnding};
 
+use crate::checking::Checking;
 use crate::locked::{Held, LockedServer, Seat};
 use crate::status::{ServerTeller, Tally, count_received};
+use authenticator::Roster;
 use frames::FrameReader;
 use hosting::Host;
 use nodes::HonestServer;
 use peer_connections::{
-    Accepting, Commands, Output, PeerStream, Phase, Place, Seats, Standing, Waiting, attend,
-    set_timeouts,
+    Accepting, Commands, Output, PeerStream, Phase, Place, Seats, SegmentTurns, ServeFailure,
+    Standing, Waiting, attend, set_timeouts,
 };
 use request_streams::{ServeEnd, ServeFault, serve_requests};
 use rpc::records::Counting;
@@ -29,6 +31,8 @@ const READ_AHEAD: usize = 65536;
 pub struct ServerOrder<'a, L> {
     /// The server, with its keys.
     pub server: HonestServer,
+    /// Its roster, by which signatures are checked before the server is at hand.
+    pub roster: Roster,
     /// The digest of its roster's text.
     pub digest: [u8; 32],
     /// The epoch of that roster.
@@ -39,6 +43,8 @@ pub struct ServerOrder<'a, L> {
     pub audits: Option<L>,
     /// Where the process can be told to stop, and asked how it is.
     pub control: Option<Commands<'a>>,
+    /// After how many new messages the server logs a CHECK of its state, if it does; 0 counts as 1.
+    pub check_every: Option<u64>,
 }
 
 /// Why a server no longer serves.
@@ -58,9 +64,11 @@ struct Context<'a, R, T, W, E> {
     alloc: Global,
     clock: &'a T,
     held: &'a Mutex<Held>,
+    roster: &'a Roster,
     phase: &'a Mutex<Phase>,
     output: &'a Mutex<Output<W, E>>,
     seats: &'a Seats,
+    turns: &'a SegmentTurns,
     tally: &'a Mutex<Tally>,
     digest: [u8; 32],
 }
@@ -93,13 +101,15 @@ where
 {
     let ServerOrder {
         server,
+        roster,
         digest,
         epoch,
         listener,
         audits,
         control,
+        check_every,
     } = order;
-    let held = Mutex::new(Held::new(server));
+    let held = Mutex::new(Held::new(server, Checking::new(check_every)));
     let phase = Mutex::new(Phase::Serving);
     let tally = Mutex::new(Tally::new(epoch));
     serve_until_end(
@@ -109,6 +119,7 @@ where
         &phase,
         output,
         &held,
+        &roster,
         &tally,
         digest,
         &listener,
@@ -143,6 +154,7 @@ fn serve_until_end<'a, R, T, L, W, E>(
     phase: &'a Mutex<Phase>,
     output: &'a Mutex<Output<W, E>>,
     held: &'a Mutex<Held>,
+    roster: &'a Roster,
     tally: &'a Mutex<Tally>,
     digest: [u8; 32],
     first: &'a L,
@@ -166,14 +178,17 @@ where
         second,
     };
     let seats = Seats::new(alloc, clock);
+    let turns = SegmentTurns::new(alloc);
     let context = Context {
         rt,
         alloc,
         clock,
         held,
+        roster,
         phase,
         output,
         seats: &seats,
+        turns: &turns,
         tally,
         digest,
     };
@@ -282,11 +297,12 @@ where
         return;
     };
     context.tally.lock(context.rt).opened();
-    let served = serve_records(context, &stream, kind, id);
+    let served = serve_records(context, &stream, address, kind, id);
     context.tally.lock(context.rt).closed();
+    context.turns.give_back(context.rt, id);
     context.seats.leave(context.rt, id);
-    if let Err(fault) = served {
-        let line = format!(in context.alloc; "nfsacc: {address}: {fault}\n");
+    if let Err(failure) = served {
+        let line = format!(in context.alloc; "nfsacc: {address}: {failure}\n");
         context.output.lock(context.rt).say(line);
     }
 }
@@ -295,9 +311,10 @@ where
 fn serve_records<R, T, W, E>(
     context: Context<'_, R, T, W, E>,
     stream: &TcpStream,
+    address: SocketAddr,
     kind: AddressKind,
     id: u64,
-) -> Result<ServeEnd, ServeFault>
+) -> Result<ServeEnd, ServeFailure>
 where
     R: Threads + Wait + Sync,
     T: std::time::Clock,
@@ -310,15 +327,16 @@ where
         clock,
         phase,
         seats,
+        turns,
         ..
     } = context;
     // Where it can't be set, replies come later, and nothing else changes.
     let _ = stream.set_nodelay(true);
     set_timeouts(stream);
     let waiting = Mutex::new(Waiting::new());
-    let input = PeerStream::new(rt, clock, stream, phase, &waiting).among(seats, id);
+    let input = PeerStream::new(rt, clock, stream, phase, &waiting).among(seats, turns, id);
     let Ok(input) = BufReader::with_capacity(alloc, READ_AHEAD, input) else {
-        return Err(ServeFault::NoMemory);
+        return Err(ServeFailure::from(ServeFault::NoMemory));
     };
     let mut reader = FrameReader::new(Counting::new(input));
     let mut writer = Counting::new(PeerStream::new(rt, clock, stream, phase, &waiting));
@@ -328,11 +346,30 @@ where
     };
     let seat = Seat {
         seats,
+        turns,
         id,
+        address: address.ip(),
         clock,
         kind,
+        waiting: &waiting,
     };
     let (held, times) = (context.held, SystemClock::new(clock));
-    let mut locked = LockedServer::new(rt, held, times, host, phase, seat, context.tally);
-    serve_requests(alloc, &mut locked, &mut reader, &mut writer)
+    let mut locked = LockedServer::new(
+        rt,
+        held,
+        times,
+        host,
+        context.roster,
+        phase,
+        seat,
+        context.tally,
+        context.output,
+    );
+    match serve_requests(alloc, &mut locked, &mut reader, &mut writer) {
+        Ok(end) => Ok(end),
+        Err(fault) => {
+            let read = reader.get_ref().get_ref().get_ref().last();
+            Err(ServeFailure::new(fault, read.or(writer.get_ref().last())))
+        }
+    }
 }

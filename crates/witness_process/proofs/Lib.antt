@@ -1,3 +1,4 @@
 pub mod UnderLock
 pub mod OfLines
+pub mod OfRosters
 mod OfListed

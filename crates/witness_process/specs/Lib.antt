@@ -1,3 +1,4 @@
 pub mod Answered
 pub mod Lines
 pub mod Opened
+pub mod Rosters

@@ -3,10 +3,10 @@
 use crate::context::Context;
 use hex::encode;
 use peer_calls::ResultsFault;
-use peer_connections::CallFault;
+use peer_connections::{CallFault, Output};
 use std::alloc::{AllocError, Global};
 use std::io::{self, Write};
-use std::sync::Wait;
+use std::sync::{Mutex, Wait};
 use std::time::Clock;
 use thiserror::Error;
 
@@ -97,6 +97,17 @@ impl LastSaid {
         W: Write,
         E: Write,
     {
+        self.say_at(context.rt, context.alloc, context.output, line);
+    }
+
+    /// The same at an output.
+    pub(crate) fn say_at<R: Wait, W: Write, E: Write>(
+        &mut self,
+        rt: &R,
+        alloc: Global,
+        output: &Mutex<Output<W, E>>,
+        line: Result<String, AllocError>,
+    ) {
         let Ok(line) = line else {
             return;
         };
@@ -105,21 +116,9 @@ impl LastSaid {
                 return;
             }
         }
-        say_error(context, &line);
+        output.lock(rt).say(String::from_str(alloc, &line));
         self.line = Some(line);
     }
-}
-
-/// Says a line on the errors.
-fn say_error<R, T, W, E, S>(context: Context<'_, R, T, W, E, S>, line: &str)
-where
-    R: Wait,
-    T: Clock,
-    W: Write,
-    E: Write,
-{
-    let line = String::from_str(context.alloc, line);
-    context.output.lock(context.rt).say(line);
 }
 
 /// Why a server can't be audited.
@@ -135,6 +134,19 @@ pub(crate) fn server_line(
         }
         cause => format!(in alloc; "nfsacc: server {node} at {address}: {cause}\n"),
     }
+}
+
+/// That a server goes by a roster that the witness doesn't know, with the digest of that.
+pub(crate) fn unknown_line(
+    alloc: Global,
+    node: u32,
+    address: &str,
+    digest: &[u8; 32],
+) -> Result<String, AllocError> {
+    let digest = encode(alloc, digest.as_slice())?;
+    format!(in alloc;
+        "nfsacc: server {node} at {address}: it goes by a roster that isn't known, sha256:{digest}\n"
+    )
 }
 
 /// That another witness goes by another roster, with the digest of that.

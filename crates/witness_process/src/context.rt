@@ -1,8 +1,10 @@
 //! What all threads of a witness are handed.
 
+use crate::elsewhere::{Elsewhere, Told};
+use crate::orders::KnownRoster;
 use crate::watch::Watch;
 use authenticator::Roster;
-use peer_connections::{Output, Phase, is_serving};
+use peer_connections::{Output, Phase, end_serving, is_serving};
 use std::alloc::{AllocError, Global};
 use std::sync::{Mutex, MutexGuard, Wait};
 use std::time::{Clock, Duration};
@@ -18,6 +20,8 @@ pub(crate) struct Context<'a, R, T, W, E, S> {
     pub(crate) roster: &'a Roster,
     pub(crate) digest: [u8; 32],
     pub(crate) epoch: u32,
+    pub(crate) known: &'a [KnownRoster],
+    pub(crate) elsewhere: &'a Mutex<Elsewhere>,
     pub(crate) watch: &'a Mutex<Watch>,
     pub(crate) phase: &'a Mutex<Phase>,
     pub(crate) output: &'a Mutex<Output<W, E>>,
@@ -56,12 +60,28 @@ impl<'a, R: Wait, T: Clock, W, E, S> Context<'a, R, T, W, E, S> {
 
     /// Waits for some seconds, at least 1. Says whether the process still serves.
     pub(crate) fn wait(&self, seconds: u32) -> bool {
-        for _ in 0..u64::from(seconds.max(1)) * (1000 / PAUSE) {
-            if !self.is_serving() {
-                return false;
-            }
-            self.pause();
-        }
-        self.is_serving()
+        wait_for(self.rt, self.clock, self.phase, seconds)
     }
+
+    /// A server goes by a roster of a later epoch: the process is to end.
+    pub(crate) fn end_by(&self, told: Told) {
+        self.elsewhere.lock(self.rt).note(told);
+        end_serving(self.rt, self.phase, Phase::Stopping);
+    }
+}
+
+/// Waits for some seconds, at least 1, or until a process no longer serves. Says whether it still serves.
+pub(crate) fn wait_for<R: Wait, T: Clock>(
+    rt: &R,
+    clock: &T,
+    phase: &Mutex<Phase>,
+    seconds: u32,
+) -> bool {
+    for _ in 0..u64::from(seconds.max(1)) * (1000 / PAUSE) {
+        if !is_serving(rt, phase) {
+            return false;
+        }
+        clock.sleep(Duration::from_millis(PAUSE));
+    }
+    is_serving(rt, phase)
 }

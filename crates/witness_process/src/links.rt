@@ -2,10 +2,11 @@
 
 use crate::causes::{Cause, LastSaid, server_line};
 use crate::context::Context;
+use crate::elsewhere::{Told, later_with, told_in};
 use crate::orders::WatchedServer;
 use crate::printing::say_line;
 use hex::encode;
-use peer_calls::{Greeted, Greeting, NodeRequest, read_greeted, read_shown, read_stands};
+use peer_calls::{Greeting, NodeRequest, read_shown, read_stands};
 use peer_connections::PeerCaller;
 use std::alloc::{AllocError, Global};
 use std::io::Write;
@@ -14,7 +15,7 @@ use std::sync::Wait;
 use std::time::Clock;
 
 /// The most bytes of the answers to GREET and STANDS.
-const MOST_GREETED: u32 = 60;
+pub(crate) const MOST_GREETED: u32 = 60;
 
 const MOST_STANDS: u32 = 28;
 
@@ -74,31 +75,36 @@ impl Link<'_> {
             Ok(caller) => caller,
             Err(error) => return Err(Cause::NoConnection(error)),
         };
-        match greet(context.alloc, context.digest, &mut caller)? {
-            Greeted::Same => {
+        match greet(context.alloc, context.digest, self.node, &mut caller)? {
+            None => {
                 self.other = None;
                 test_standing(context, self.node, &mut caller)?;
                 Ok(Some(caller))
             }
-            Greeted::Other(digest) => {
-                self.note_other(context, digest);
+            Some(told) => {
+                self.note_other(context, told);
                 Ok(None)
             }
         }
     }
 
-    /// Says that the server goes by another roster, once until it goes by yet another.
-    fn note_other<R, T, W, E, S>(&mut self, context: Context<'_, R, T, W, E, S>, digest: [u8; 32])
+    /// The server goes by another roster. Where that is of a later epoch the process is to end; else it is said, once until
+    /// the server goes by yet another.
+    fn note_other<R, T, W, E, S>(&mut self, context: Context<'_, R, T, W, E, S>, told: Told)
     where
         R: Wait,
         T: Clock,
         W: Write,
         E: Write,
     {
+        let digest = told.other().digest;
         if self.other == Some(digest) {
             return;
         }
         self.other = Some(digest);
+        if later_with(context.known, context.epoch, &digest).is_some() {
+            return context.end_by(told);
+        }
         say_line(context, other_line(context.alloc, self.node, &digest));
     }
 
@@ -119,11 +125,16 @@ impl Link<'_> {
     }
 }
 
-/// Greets a server.
-fn greet(alloc: Global, digest: [u8; 32], caller: &mut PeerCaller) -> Result<Greeted, Cause> {
+/// Greets a server with this number: what it tells, where it goes by another roster than that with this digest.
+fn greet(
+    alloc: Global,
+    digest: [u8; 32],
+    node: u32,
+    caller: &mut PeerCaller,
+) -> Result<Option<Told>, Cause> {
     let greeting = Greeting { digest, node: 0 };
     let answer = caller.ask_node(&NodeRequest::Greet(greeting), MOST_GREETED)?;
-    Ok(read_greeted(alloc, answer.results())?)
+    Ok(told_in(alloc, node, answer.results())?)
 }
 
 /// Asks a server whether what it showed last stands in its log: `PutBack` where it says that it doesn't.

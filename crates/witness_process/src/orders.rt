@@ -12,6 +12,15 @@ pub struct WatchedServer<'a> {
     pub address: &'a str,
 }
 
+/// A roster that a witness knows.
+#[derive(Clone, Copy, Debug, PartialEq, Eq)]
+pub struct KnownRoster {
+    /// The digest of its text.
+    pub digest: [u8; 32],
+    /// Its epoch.
+    pub epoch: u32,
+}
+
 /// What a witness watches.
 #[derive(Drop)]
 pub struct WitnessOrder<'a, L, S> {
@@ -21,6 +30,8 @@ pub struct WitnessOrder<'a, L, S> {
     pub digest: [u8; 32],
     /// The epoch of the roster.
     pub epoch: u32,
+    /// The rosters that the witness knows: where a server goes by one of a later epoch, the witness ends.
+    pub known: &'a [KnownRoster],
     /// The servers that are audited.
     pub servers: &'a [WatchedServer<'a>],
     /// Where other witnesses listen, as HOST:PORT.
@@ -48,4 +59,6 @@ pub enum Ending {
     Stopped,
     /// Memory was refused for its books or its rounds, or for a replay that was to go back to the books.
     NoMemory,
+    /// A server goes by a roster of this epoch, which is later than that of the witness.
+    EpochBegun { node: u32, epoch: u32 },
 }

@@ -1,9 +1,12 @@
 //! A witness: it audits servers, and answers connections as they come, each in a thread of its own.
 
+ghost use Rattle.witness_process.specs.Rosters.{IsEnding};
+
 use crate::answering::LockedWatch;
 use crate::context::Context;
+use crate::elsewhere::Elsewhere;
 use crate::meetings::keep_meeting;
-use crate::orders::{Ending, WatchedServer, WitnessOrder};
+use crate::orders::{Ending, KnownRoster, WatchedServer, WitnessOrder};
 use crate::rounds::{catch_up, go_round, keep_up};
 use crate::status::WitnessTeller;
 use crate::times::seconds_now;
@@ -11,7 +14,8 @@ use crate::watch::Watch;
 use authenticator::Roster;
 use frames::FrameReader;
 use peer_connections::{
-    Accepting, Commands, Output, PeerStream, Phase, Waiting, attend, end_serving, set_timeouts,
+    Accepting, Commands, Output, PeerStream, Phase, ServeFailure, Waiting, attend, end_serving,
+    set_timeouts,
 };
 use request_streams::{ServeEnd, ServeFault, serve_requests};
 use rpc::records::Counting;
@@ -36,7 +40,7 @@ struct Peers<'a> {
 }
 
 /// Audits the servers round by round, meets other witnesses, and answers whoever connects, until the process is told to
-/// stop or the listener fails. What the books say of each member is said by a line whenever it has changed; other lines,
+/// stop, the listener fails, or a server goes by a known roster of a later epoch. What the books say of each member is said by a line whenever it has changed; other lines,
 /// as of a server that can't be reached, go to the errors. Gives why it ended. `NoMemory` comes where a growth was
 /// refused for the books or the rounds, before anything was done, where a replay couldn't be put back into the books, or
 /// for the last lines. It may take half a minute to stop, or as long as the system takes to give a connection up.
@@ -54,11 +58,13 @@ where
     S: Shelf + Drop + Send,
     W: Write + Send,
     E: Write + Send,
+    ensures { IsEnding order.known.now order.epoch result }
 {
     let WitnessOrder {
         roster,
         digest,
         epoch,
+        known,
         servers,
         witnesses,
         every,
@@ -74,6 +80,7 @@ where
     };
     let watch = Mutex::new(watch);
     let phase = Mutex::new(Phase::Serving);
+    let elsewhere = Mutex::new(Elsewhere::nobody());
     let shelf = Mutex::new(shelf);
     let context = Context {
         rt,
@@ -82,6 +89,8 @@ where
         roster: &roster,
         digest,
         epoch,
+        known,
+        elsewhere: &elsewhere,
         watch: &watch,
         phase: &phase,
         output,
@@ -93,7 +102,9 @@ where
     };
     let peers = Peers { servers, witnesses };
     run_until_end(context, peers, &listener, control);
-    end_of(context)
+    let ending = end_of(context, known, epoch);
+    say_begun(context, ending);
+    ending
 }
 
 /// New books, with a copy of the roster.
@@ -258,20 +269,38 @@ where
     end_serving(context.rt, context.phase, Phase::Stopping);
 }
 
-/// What the last steps have changed is said. Why the process no longer runs.
-fn end_of<R, T, W, E, S>(context: Context<'_, R, T, W, E, S>) -> Ending
+/// What the last steps have changed is said. Why the process no longer runs, which knows these rosters, and whose epoch
+/// this is.
+fn end_of<R, T, W, E, S>(
+    context: Context<'_, R, T, W, E, S>,
+    known: &[KnownRoster],
+    epoch: u32,
+) -> Ending
 where
     R: Threads + Wait + Sync,
     T: std::time::Clock,
     W: Write,
     E: Write,
     S: Shelf,
+    ensures { IsEnding known.now epoch result }
 {
     let caught_up = catch_up(context);
     if context.lock().is_lost() || caught_up.is_err() {
-        Ending::NoMemory
-    } else {
-        Ending::Stopped
+        return Ending::NoMemory;
+    }
+    context.elsewhere.lock(context.rt).ending(known, epoch)
+}
+
+/// Says that a server began another epoch, where the process ends for that.
+fn say_begun<R, T, W, E, S>(context: Context<'_, R, T, W, E, S>, ending: Ending)
+where
+    R: Wait,
+    W: Write,
+    E: Write,
+{
+    if let Ending::EpochBegun { node, epoch } = ending {
+        let line = format!(in context.alloc; "nfsacc: server {node} began epoch {epoch}\n");
+        context.output.lock(context.rt).say(line);
     }
 }
 
@@ -312,8 +341,8 @@ where
     W: Write,
     E: Write,
 {
-    if let Err(fault) = serve_records(context, &stream) {
-        let line = format!(in context.alloc; "nfsacc: {address}: {fault}\n");
+    if let Err(failure) = serve_records(context, &stream) {
+        let line = format!(in context.alloc; "nfsacc: {address}: {failure}\n");
         context.output.lock(context.rt).say(line);
     }
 }
@@ -322,7 +351,7 @@ where
 fn serve_records<R, T, W, E, S>(
     context: Context<'_, R, T, W, E, S>,
     stream: &TcpStream,
-) -> Result<ServeEnd, ServeFault>
+) -> Result<ServeEnd, ServeFailure>
 where
     R: Threads + Wait + Sync,
     T: std::time::Clock,
@@ -340,10 +369,16 @@ where
     let waiting = Mutex::new(Waiting::new());
     let input = PeerStream::new(rt, clock, stream, phase, &waiting);
     let Ok(input) = BufReader::with_capacity(alloc, READ_AHEAD, input) else {
-        return Err(ServeFault::NoMemory);
+        return Err(ServeFailure::from(ServeFault::NoMemory));
     };
     let mut reader = FrameReader::new(Counting::new(input));
     let mut writer = Counting::new(PeerStream::new(rt, clock, stream, phase, &waiting));
     let mut locked = LockedWatch::new(rt, alloc, clock, context.watch, context.digest);
-    serve_requests(alloc, &mut locked, &mut reader, &mut writer)
+    match serve_requests(alloc, &mut locked, &mut reader, &mut writer) {
+        Ok(end) => Ok(end),
+        Err(fault) => {
+            let read = reader.get_ref().get_ref().get_ref().last();
+            Err(ServeFailure::new(fault, read.or(writer.get_ref().last())))
+        }
+    }
 }

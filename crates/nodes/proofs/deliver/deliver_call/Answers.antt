@@ -1,4 +1,4 @@
-use Rattle.std.proofs.Common.{List, ℕ, subst}
+use Rattle.std.proofs.Common.{List, ℕ, subst, ◌∙◌}
 use Rattle.nodes.specs.Delivery.{MayReceive}
 use Rattle.nodes.proofs.OfExchanges.Reached.{call_found}
 use Rattle.nodes.proofs.Handed.{envelope_written}
@@ -8,12 +8,13 @@ pub returns-clause-receives : goal.returns-clause-receives
 returns-clause-receives c e h =
     c.receive.ensures.receives e
     (call_found c.args.client.now c.node.result.now c.args.server.now _ c.args.number e _ _ c.node.ensures.node
-    c.in_ok-write_envelope.ensures.sender c.in_ok-write_envelope.ensures.written c.deref.ensures.value h)
+    c.in_ok-write_envelope.ensures.sender c.in_ok-write_envelope.ensures.written
+    (c.envelope-incoming.ensures ∙ c.deref.ensures.value) h)
 
 pub returns-clause-told : goal.returns-clause-told
 returns-clause-told c e h =
     subst (λ (b : List ℕ). MayReceive c.args.server.now c.args.time b e c.receive.result c.receive.new.server)
-    c.deref.ensures.value
+    (c.envelope-incoming.ensures ∙ c.deref.ensures.value)
     (c.receive.ensures.told e
     (envelope_written c.args.client.now c.node.result.now c.args.number e _ _ c.node.ensures.node
-    c.in_ok-write_envelope.ensures.written c.deref.ensures.value h))
+    c.in_ok-write_envelope.ensures.written (c.envelope-incoming.ensures ∙ c.deref.ensures.value) h))

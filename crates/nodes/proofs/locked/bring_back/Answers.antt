@@ -1,4 +1,4 @@
-use Rattle.std.proofs.Common.{subst, sym}
+use Rattle.std.proofs.Common.{subst, sym, ◌∙◌}
 use Rattle.nodes.specs.Sides.{IsEnvelopeText}
 use Rattle.nodes.proofs.UnderLock.{handed, returned_or_stops}
 use Rattle.nodes.proofs.locked.bring_back.Goals as goal
@@ -9,7 +9,7 @@ returns-in-Ok-clause-returned g c e text =
     c.receive_reply.new.client c.deref_mut.result.now c.take_awaited.new.self c.take_awaited.result
     (c.in-Ok.ensures.received e (subst (IsEnvelopeText e) (sym c.deref.ensures.value) text))
     c.take_awaited.ensures.straight c.take_awaited.ensures.stays
-    (handed c.deref-in-Ok.result.now c.receive_reply.new.ack.items c.deref-in-Ok.ensures.value
+    (handed c.ack-incoming.result c.receive_reply.new.ack.items (c.ack-incoming.ensures ∙ c.deref-in-Ok.ensures.value)
     c.take_awaited.ensures.told)).0
 
 pub returns-in-Ok-clause-stops : goal.returns-in-Ok-clause-stops
@@ -18,5 +18,5 @@ returns-in-Ok-clause-stops g c e text =
     c.receive_reply.new.client c.deref_mut.result.now c.take_awaited.new.self c.take_awaited.result
     (c.in-Ok.ensures.received e (subst (IsEnvelopeText e) (sym c.deref.ensures.value) text))
     c.take_awaited.ensures.straight c.take_awaited.ensures.stays
-    (handed c.deref-in-Ok.result.now c.receive_reply.new.ack.items c.deref-in-Ok.ensures.value
+    (handed c.ack-incoming.result c.receive_reply.new.ack.items (c.ack-incoming.ensures ∙ c.deref-in-Ok.ensures.value)
     c.take_awaited.ensures.told)).1
