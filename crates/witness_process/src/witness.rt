@@ -12,6 +12,8 @@ use crate::rounds::{catch_up, go_round, keep_up};
 use crate::status::WitnessTeller;
 use crate::times::seconds_now;
 use crate::watch::Watch;
+use authenticator::{Checked, Roster};
+use challenge::Base;
 use frames::FrameReader;
 use peer_connections::{
     Accepting, Commands, Output, PeerStream, Phase, ServeFailure, Waiting, attend, end_serving,
@@ -76,15 +78,10 @@ where
         workers,
         join,
     } = order;
-    let joining = Joining {
-        rt,
-        alloc,
-        roster: &roster,
-        digest,
-        output,
+    let Ok(bases) = bases_of(rt, alloc, &roster, digest, servers, join, output) else {
+        return Ending::NoMemory;
     };
-    let joined = if join { servers } else { &[] };
-    let Ok(watch) = open_watch(clock, &joining, joined) else {
+    let Ok(watch) = open_watch(alloc, clock, &roster, bases, digest) else {
         return Ending::NoMemory;
     };
     let watch = Mutex::new(watch);
@@ -116,22 +113,44 @@ where
     ending
 }
 
-/// New books, with a copy of the roster, and from the bases that servers give.
-fn open_watch<R, T, W, E>(
-    clock: &T,
-    joining: &Joining<'_, R, W, E>,
+/// The bases that servers give, where they are to be asked for them; else none.
+fn bases_of<R, W, E>(
+    rt: &R,
+    alloc: Global,
+    roster: &Roster,
+    digest: [u8; 32],
     servers: &[WatchedServer<'_>],
-) -> Result<Watch, AllocError>
+    join: bool,
+    output: &Mutex<Output<W, E>>,
+) -> Result<Vec<Checked<Base>>, AllocError>
 where
     R: Wait + Net<Listener = TcpListener, Stream = TcpStream>,
-    T: std::time::Clock,
     W: Write,
     E: Write,
 {
-    let alloc = joining.alloc;
-    let bases = joining.bases(servers)?;
-    let roster = joining.roster.try_clone(alloc)?;
-    Watch::open(alloc, roster, bases, joining.digest, seconds_now(clock, 0))
+    if !join {
+        return Ok(Vec::new(alloc));
+    }
+    let joining = Joining {
+        rt,
+        alloc,
+        roster,
+        digest,
+        output,
+    };
+    joining.bases(servers)
+}
+
+/// New books, with a copy of the roster, from these bases.
+fn open_watch<T: std::time::Clock>(
+    alloc: Global,
+    clock: &T,
+    roster: &Roster,
+    bases: Vec<Checked<Base>>,
+    digest: [u8; 32],
+) -> Result<Watch, AllocError> {
+    let roster = roster.try_clone(alloc)?;
+    Watch::open(alloc, roster, bases, digest, seconds_now(clock, 0))
 }
 
 /// Runs until the process is to end, and all threads have ended.
