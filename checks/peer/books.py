@@ -3,7 +3,8 @@
 import time
 from dataclasses import dataclass, field
 
-from verifier.evidence import (NO_ENTRY, Charge, Fork, Link, Mark, Replay, Showing, chain, numbers_from, words_from)
+from verifier.evidence import (NO_ENTRY, Base, Based, Charge, Fork, Link, Mark, Replay, Showing, chain, numbers_from,
+                               state_of_base, words_from)
 from verifier.keys import ZEROS, Authenticator, Member, Roster, digest
 from verifier.log import ACK, RECV, Entry, hash_after, message_hash, recv_content
 from verifier.replay import State, fault_of, opening_state, step
@@ -16,7 +17,7 @@ MAX_MESSAGES = 16
 MAX_ASKED = 4096
 MAX_AUDITED = 65536
 TAKEN, BEFORE = 0, 10
-KEPT_FULL, MESSAGES_FULL, NOT_ASKED = 20, 21, 26
+KEPT_FULL, MESSAGES_FULL, NOT_ASKED, BELOW_BASE = 20, 21, 26, 31
 TRUSTED, SUSPECTED, EXPOSED = 1, 2, 3
 
 
@@ -65,9 +66,20 @@ class Book:
     skips: list[int] = field(default_factory=list)
     charge: Charge | None = None
     last_shown: Authenticator | None = None
+    base: Base | None = None
 
     def __post_init__(self):
         self.state = opening_state(self.member.node, self.member.kind)
+
+    def begin_at(self, base: Base):
+        """The audit is to begin at a base, if that is a good one of this node: then what it shows up to there is known."""
+        state = state_of_base(self.roster, self.member.node, base)
+        if state is None:
+            return
+        showing = base.showing
+        marks = marks_of(showing.first, showing.opening, showing.links)
+        self.marks = {number: (mark, showing) for number, mark in marks.items() if number <= base.at}
+        self.base, self.state, self.end = base, state, base.at
 
     # ---- what is handed in; all of it is signed
 
@@ -75,6 +87,8 @@ class Book:
         number = self.place(claim)
         if self.charge is not None:
             return TAKEN
+        if number < min(self.marks):
+            return BELOW_BASE
         known = self.marks.get(number)
         if known is not None and known[0] == claim.hash:
             return BEFORE
@@ -118,7 +132,8 @@ class Book:
     def open_audit(self):
         """Asks for the log up to what is known of it, where that is more than was audited and nothing is asked for."""
         if self.audit is None and self.charge is None:
-            near = [number for number in self.kept if self.end < number <= min(self.end + MAX_ASKED, MAX_AUDITED)]
+            most = MAX_AUDITED + (self.base.at if self.base else 0)
+            near = [number for number in self.kept if self.end < number <= min(self.end + MAX_ASKED, most)]
             if near:
                 self.audit, self.audit_since = (self.end + 1, max(near)), time.monotonic()
 
@@ -141,8 +156,7 @@ class Book:
         hashes = chain(segment.opening, segment.first, links)
         for entry, entry_word, before in zip(segment.entries, words_from(segment.first, links), hashes):
             if fault_of(self.state, self.roster, entry) is not None:
-                self.charge = Replay(self.member.node, 1, ZEROS, self.entries, segment.closing, self.member.log,
-                                     tuple(self.skips))
+                self.charge = self.replayed(segment.closing)
                 return []
             claim = shown_by(self.state, entry)
             if claim is not None:
@@ -151,6 +165,12 @@ class Book:
         self.end = number_in(self.member.log, segment.closing.word)
         self.kept = {number: claim for number, claim in self.kept.items() if number > self.end}
         return shown
+
+    def replayed(self, closing: Authenticator) -> Charge:
+        """The entries from where the audit began, closed so."""
+        first, opening = (self.base.at + 1, self.marks[self.base.at][0]) if self.base else (1, ZEROS)
+        replay = Replay(self.member.node, first, opening, self.entries, closing, self.member.log, tuple(self.skips))
+        return Based(self.base, replay) if self.base else replay
 
     # ---- what is told
 

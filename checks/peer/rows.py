@@ -4,12 +4,12 @@ import socket
 
 from verifier.xdr import hyper, opaque, word
 
-from .wire import (ACKNOWLEDGE, CASE, DELIVER, GREET, MAX_FRAGMENTS, MOST, NODE, NULL, SEGMENT, SHOWN, SIGNED, STANDS,
-                   TOLD, WANTED, WITNESS, Address, Broken, RecordReader, call_text, record)
+from .wire import (ACKNOWLEDGE, BASE, CASE, DELIVER, GREET, MAX_FRAGMENTS, MOST, NODE, NULL, SEGMENT, SHOWN, SIGNED,
+                   STANDS, TOLD, WANTED, WITNESS, Address, Broken, RecordReader, call_text, record)
 
 XID = 5
 PATIENCE = 20
-UNSERVED = {NODE: 7, WITNESS: 7}
+UNSERVED = {NODE: 8, WITNESS: 8}
 LAST = 1 << 31
 ANSWER = word(XID, 1)
 DONE = ANSWER + word(0, 0, 0, 0)
@@ -77,10 +77,20 @@ def of_node() -> list[Row]:
 
 
 def of_audits() -> list[Row]:
-    """Calls of SEGMENT, of a node whose log is empty."""
-    rows = [(hyper(1) * 2, DONE + word(1)), (hyper(0) * 2, DONE + word(1)), (hyper(2**64 - 1) * 2, DONE + word(1)),
-            (hyper(1), GARBAGE_ARGS)]
-    return [(call(NODE, SEGMENT, arguments), owed) for arguments, owed in rows]
+    """Calls of SEGMENT and of BASE, of a node whose log is empty."""
+    rows = [
+        (SEGMENT, hyper(1) * 2, DONE + word(1)), (SEGMENT, hyper(0) * 2, DONE + word(1)),
+        (SEGMENT, hyper(2**64 - 1) * 2, DONE + word(1)), (SEGMENT, hyper(1), GARBAGE_ARGS),
+    ]
+    return [(call(NODE, procedure, arguments), owed) for procedure, arguments, owed in rows + no_bases()]
+
+
+def no_bases() -> list[tuple[int, bytes, bytes]]:
+    """Calls of BASE where there is none."""
+    return [
+        (BASE, word(1) + hyper(0), DONE + word(1)), (BASE, word(9) + hyper(2**64 - 1), DONE + word(1)),
+        (BASE, hyper(0), GARBAGE_ARGS), (BASE, word(1) + hyper(0) + word(0), GARBAGE_ARGS),
+    ]
 
 
 def of_witness() -> list[Row]:
@@ -93,7 +103,7 @@ def of_witness() -> list[Row]:
         (CASE, word(9), DONE + word(0)), (CASE, word(1, 1), GARBAGE_ARGS),
     ]
     long = [(call(WITNESS, DELIVER, word(kind, node) + bytes(MOST)), None) for kind, node in [(3, 1), (5, 9), (1, 1)]]
-    return [(call(WITNESS, procedure, arguments), owed) for procedure, arguments, owed in rows] + long
+    return [(call(WITNESS, procedure, arguments), owed) for procedure, arguments, owed in rows + no_bases()] + long
 
 
 def try_rows(address: Address, rows: list[Row]):

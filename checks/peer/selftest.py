@@ -22,14 +22,14 @@ from peer.lies import (Fork, HidesLog, NoReply, OldReply, OtherAck, OtherMember,
 from peer.node import Node  # noqa: E402
 from peer.server import Server  # noqa: E402
 from peer.wire import ACKNOWLEDGE, DELIVER, MOST, NODE, WITNESS, Caller, call_text, record  # noqa: E402
-from peer.witness import Witness  # noqa: E402
+from peer.witness import Witness, base_of  # noqa: E402
 from serve.calls import Calls  # noqa: E402
 from serve.client import ROOT, call  # noqa: E402
 from verifier.evidence import judge  # noqa: E402
 from verifier.keys import CLIENT, SERVER, digest, roster_text  # noqa: E402
 from verifier.mount import World  # noqa: E402
 from verifier.nfs import Files  # noqa: E402
-from verifier.packets import ENVELOPE  # noqa: E402
+from verifier.packets import AUTHENTICATOR, ENVELOPE  # noqa: E402
 from verifier.replay import Fault  # noqa: E402
 from verifier.rpc import reply_to  # noqa: E402
 from verifier.words import LOG_1, LOG_2  # noqa: E402
@@ -458,6 +458,32 @@ def check_fork_of_a_client():
     print("a client's fork: the server's log exposes it")
 
 
+def check_bases():
+    """A witness that begins at a base: what it audits is the log after it, and a lie there is exposed from the base."""
+    cast = Cast()
+    server = WrongReply(cast.server, cast.roster, at=5)
+    server.check_every = 2
+    gateway, late = cast.gateway(2, server), Witness(cast.roster)
+    for _ in range(3):
+        gateway.exchange(ATTRIBUTES)
+    gateway.finish()
+    late.join({1: server.address})
+    at = late.books[1].base.at
+    assert late.round({1: server.address}) == {} and ask(late.address, 1).end > at
+    callers = Caller(server.address, NODE), Caller(late.address, WITNESS)
+    assert base_of(callers[0], 1) == base_of(callers[1], 1) == base_of(callers[0], 1, at - 1)
+    assert [base_of(each, 1, at) for each in callers] == [base_of(each, 2) for each in callers] == [None, None]
+    claim = server.node.signed[min(server.node.signed)]
+    assert handed(callers[1], word(AUTHENTICATOR) + authenticator_text(claim)) == 31
+    for _ in range(2):
+        gateway.exchange(ATTRIBUTES)
+    gateway.finish()
+    assert late.round({1: server.address}) == {}
+    assert caught(late)[0] == Fault.WRONG_REPLY
+    close(server, *callers, late)
+    print('a witness that begins at a base: a lie after it is exposed')
+
+
 def check_secrets():
     """Lines of members, by the secret's bytes, the node and the epoch."""
     keys = Keys(7, CLIENT, master_of_epoch(bytes(range(32)), 7, 3), 1)
@@ -468,7 +494,7 @@ def check_secrets():
 CHECKS = [check_example, check_calls, check_bounds, check_honest, check_gaps, check_again, check_stands,
           check_keys_used_up, check_signed_lies, check_shown_lies, check_old_reply, check_open_message,
           check_other_member, check_swapped, check_silent, check_hidden_log, check_fork, check_fork_at_two_witnesses,
-          check_fork_after_audit, check_twice, check_fork_of_a_client, check_secrets]
+          check_fork_after_audit, check_twice, check_fork_of_a_client, check_bases, check_secrets]
 
 
 def main():

@@ -3,7 +3,7 @@
 import threading
 import time
 
-from generator.texts import authenticator_text
+from generator.texts import authenticator_text, base_text
 from verifier.keys import Roster, digest, read_authenticator, roster_text
 from verifier.nfs import Time
 from verifier.packets import ACKNOWLEDGEMENT, AUTHENTICATOR, ENVELOPE
@@ -12,8 +12,8 @@ from verifier.xdr import Reader, word
 from .keys import Keys
 from .node import Node, NoSegment, Refused, TooLong
 from .texts import Envelope, text_of_packet, whole
-from .wire import (ACKNOWLEDGE, DELIVER, GREET, NODE, NULL, SEGMENT, SIGNED, STANDS, Listener, Procedure, greeting,
-                   no_arguments, optional_packet)
+from .wire import (ACKNOWLEDGE, BASE, DELIVER, GREET, NODE, NULL, SEGMENT, SIGNED, STANDS, Listener, Procedure,
+                   base_answer, greeting, no_arguments, optional_packet, read_base_after)
 
 LOGGED, ALREADY = 0, 10
 OUT_OF_RANGE, TOO_LONG = 1, 2
@@ -26,7 +26,10 @@ def system_time() -> Time:
 
 
 class Server:
-    """Answers calls until it is closed; with an address of its own for audits, as an option."""
+    """Answers calls until it is closed; with an address of its own for audits, as an option. After each `check_every` new
+    messages it logs a CHECK, if that isn't 0."""
+
+    check_every = 0
 
     def __init__(self, keys: Keys, roster: Roster, audits_apart: bool = False):
         self.node = Node(keys, roster)
@@ -35,14 +38,15 @@ class Server:
         listened = self.procedures()
         self.audits = Listener(NODE, listened) if audits_apart else None
         if self.audits:
-            listened = {number: each for number, each in listened.items() if number != SEGMENT}
+            listened = {number: each for number, each in listened.items() if number not in (SEGMENT, BASE)}
         self.listener = Listener(NODE, listened)
         self.address = self.listener.address
         self.audit_address = self.audits.address if self.audits else self.address
 
     def procedures(self) -> dict[int, Procedure]:
         return {NULL: no_arguments, GREET: greeting(self.roster_digest), DELIVER: self.deliver,
-                ACKNOWLEDGE: self.acknowledge, SIGNED: self.signed, SEGMENT: self.segment, STANDS: self.stands}
+                ACKNOWLEDGE: self.acknowledge, SIGNED: self.signed, SEGMENT: self.segment, STANDS: self.stands,
+                BASE: self.base}
 
     def close(self):
         self.listener.close()
@@ -55,10 +59,19 @@ class Server:
     def deliver(self, arguments: bytes) -> bytes:
         text = text_of_packet(arguments, ENVELOPE)
         with self.lock:
+            before = len(self.node.received)
             try:
-                return self.receive(text)
+                answer = self.receive(text)
             except Refused as refused:
                 return word(refused.refusal)
+            self.check_after(before)
+        return answer
+
+    def check_after(self, before: int):
+        """Logs a CHECK where one is due, so many messages having been received before."""
+        after = len(self.node.received)
+        if self.check_every and after > before and after % self.check_every == 0:
+            self.node.checkpoint()
 
     def receive(self, text: bytes) -> bytes:
         """What an envelope gets."""
@@ -103,6 +116,12 @@ class Server:
         claim = whole(read_authenticator, text_of_packet(arguments, AUTHENTICATOR))
         with self.lock:
             return word(STANDING if self.node.has_pair(claim) else NOT_STANDING)
+
+    def base(self, arguments: bytes) -> bytes:
+        node, after = read_base_after(arguments)
+        with self.lock:
+            base = self.node.base(after) if node == self.node.number else None
+        return base_answer(None if base is None else base_text(base))
 
 
 def received(ack: bytes, reply: bytes | None) -> bytes:

@@ -7,13 +7,14 @@ from dataclasses import dataclass
 
 from verifier.rpc import (AUTH_ERROR, AUTH_NONE, CALL, GARBAGE_ARGS, MAX_AUTH, PROC_UNAVAIL, PROG_MISMATCH,
                           PROG_UNAVAIL, REJECTEDCRED, REPLY, RPC_MISMATCH, RPC_VERSION, SUCCESS, accepted, denied)
-from verifier.xdr import Reader, Undecodable, word
+from verifier.xdr import Reader, Undecodable, opaque, word
 
 NODE, WITNESS = 0x2acc0001, 0x2acc0002
 VERSION = 1
 NULL, GREET, DELIVER = 0, 1, 2
 ACKNOWLEDGE, SIGNED, SEGMENT, STANDS = 3, 4, 5, 6
 WANTED, TOLD, SHOWN, CASE = 3, 4, 5, 6
+BASE = 7
 
 MAX_FRAGMENTS = 16384
 LAST_FRAGMENT = 0x80000000
@@ -22,10 +23,12 @@ FRONT = 48
 MOST = 29288
 MOST_WITH_SEGMENT = 119833232
 ANSWERS = {
-    NODE: {NULL: 24, GREET: 60, DELIVER: 46340, ACKNOWLEDGE: 28, SIGNED: 16980, SEGMENT: 119833220, STANDS: 28},
-    WITNESS: {NULL: 24, GREET: 60, DELIVER: 28, WANTED: 468016, TOLD: 48, SHOWN: 16980, CASE: 4194336},
+    NODE: {NULL: 24, GREET: 60, DELIVER: 46340, ACKNOWLEDGE: 28, SIGNED: 16980, SEGMENT: 119833220, STANDS: 28,
+           BASE: 67306132},
+    WITNESS: {NULL: 24, GREET: 60, DELIVER: 28, WANTED: 468016, TOLD: 48, SHOWN: 16980, CASE: 4194336, BASE: 67306132},
 }
 MAX_CASE = 4194304
+MAX_BASE = 67306100
 PATIENCE = 20
 
 Address = tuple[str, int]
@@ -262,6 +265,18 @@ def greet(caller: Caller, digest: bytes, node: int) -> bytes | None:
 
 def optional_packet(kind: int, text: bytes | None) -> bytes:
     return word(0) if text is None else word(1, kind) + text
+
+
+def read_base_after(arguments: bytes) -> tuple[int, int]:
+    """The arguments of BASE: a node, and the number above which its base is asked for."""
+    reader = Reader(arguments)
+    asked = reader.word(), reader.hyper()
+    reader.end()
+    return asked
+
+
+def base_answer(base: bytes | None) -> bytes:
+    return word(1) if base is None else word(0) + opaque(base)
 
 
 def greeting(digest: bytes) -> Procedure:

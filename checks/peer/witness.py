@@ -2,8 +2,8 @@
 
 import threading
 
-from generator.texts import authenticator_text, evidence_text
-from verifier.evidence import read_segment
+from generator.texts import authenticator_text, base_text, evidence_text
+from verifier.evidence import read_base, read_segment
 from verifier.keys import Roster, digest, read_authenticator, roster_text
 from verifier.packets import (ACKNOWLEDGEMENT, AUTHENTICATOR, ENVELOPE, MAX_SEGMENT, SEGMENT, SEGMENT_2, refusal)
 from verifier.words import LOG_1, LOG_2
@@ -12,9 +12,9 @@ from verifier.xdr import Reader, Undecodable, array, hyper, opaque, word
 from .books import NOT_ASKED, Book
 from .gateway import OtherRoster, greet_or_fail, last_shown, read_delivered
 from .texts import read_acknowledgement, read_envelope, whole
-from .wire import (CASE, DELIVER, GREET, MAX_CASE, MOST, MOST_WITH_SEGMENT, NODE, NULL, SHOWN, SIGNED, TOLD, WANTED,
-                   WITNESS, Address, Broken, Caller, Listener, Unserved, call_text, greeting, no_arguments,
-                   optional_packet)
+from .wire import (BASE, CASE, DELIVER, GREET, MAX_BASE, MAX_CASE, MOST, MOST_WITH_SEGMENT, NODE, NULL, SHOWN, SIGNED,
+                   TOLD, WANTED, WITNESS, Address, Broken, Caller, Listener, Unserved, base_answer, call_text, greeting,
+                   no_arguments, optional_packet, read_base_after)
 from .wire import SEGMENT as ASK_SEGMENT
 
 REFUSED = 16
@@ -30,7 +30,8 @@ class Witness:
         self.lock = threading.Lock()
         self.books = {node: Book(member, roster) for node, member in roster.items()}
         procedures = {NULL: no_arguments, GREET: greeting(digest(roster_text(roster))), DELIVER: self.deliver,
-                      WANTED: self.wanted, TOLD: self.told, SHOWN: self.last_shown, CASE: self.case}
+                      WANTED: self.wanted, TOLD: self.told, SHOWN: self.last_shown, CASE: self.case,
+                      BASE: self.base}
         self.listener = Listener(WITNESS, procedures, self.longer)
         self.address = self.listener.address
 
@@ -105,7 +106,25 @@ class Witness:
             return word(NO_CASE)
         return word(HERE) + opaque(file) if len(file) <= MAX_CASE else word(TOO_LARGE) + hyper(len(file))
 
+    def base(self, arguments: bytes) -> bytes:
+        node, after = read_base_after(arguments)
+        with self.lock:
+            base = self.books[node].base if node in self.books else None
+        return base_answer(None if base is None or base.at <= after else base_text(base))
+
     # ---- what it does by itself
+
+    def join(self, servers: dict[int, Address]):
+        """Begins the books of servers at the bases that they give, where these are good."""
+        for node, address in servers.items():
+            caller = Caller(address, NODE)
+            try:
+                greet_or_fail(caller, self.roster, 0)
+                text = base_of(caller, node)
+            finally:
+                caller.close()
+            if text is not None:
+                self.books[node].begin_at(whole(read_base, text))
 
     def round(self, servers: dict[int, Address]) -> dict[int, str]:
         """Audits servers and asks others for their logs: of each server that can't be audited now, why."""
@@ -171,6 +190,14 @@ class Witness:
         """The file of evidence against a node, if there is evidence."""
         charge = self.books[node].charge
         return None if charge is None else roster_text(self.roster) + evidence_text(node, charge)
+
+
+def base_of(caller: Caller, node: int, after: int = 0) -> bytes | None:
+    """The base of a node above a number, as a node or a witness gives it."""
+    answer = caller.ask(BASE, word(node) + hyper(after))
+    base = None if answer.word_among(0, 1) else answer.opaque(MAX_BASE)
+    answer.end()
+    return base
 
 
 def one_word(arguments: bytes) -> int:

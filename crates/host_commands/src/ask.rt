@@ -236,6 +236,7 @@ fn as_told(node: u32, told: &Told) -> Result<Option<NodeTold>, CallFault> {
         node,
         indication,
         open: told.open as usize,
+        from: None,
         end: told.end,
     }))
 }

@@ -5,7 +5,7 @@ use Rattle.std.specs.Prelude.{Result, Ok, Err}
 use Rattle.rpc.specs.declared.reply.ReplyBody.{ReplyBody}
 use Rattle.rpc.specs.declared.reply.ReplyBody.TheVariants.{SystemError}
 use Rattle.peer_calls.specs.Calls.{success_text}
-use Rattle.peer_calls.specs.WitnessRequests.{WitnessAsk, Null, Greet, Deliver, Wanted, Told, Shown, Case}
+use Rattle.peer_calls.specs.WitnessRequests.{WitnessAsk, Null, Greet, Deliver, Wanted, Told, Shown, Case, Base}
 use Rattle.watching.specs.Shown.{StandingParts}
 use Rattle.watching.specs.Answers.{Answers, Done, NoMemory, AnswersRead, Does, IsWritten, MayDo, RepliesTo}
 use Rattle.watching.specs.Answers.{without_results}
@@ -32,6 +32,7 @@ undone s s' (Wanted node) same = asked_none s s' node same
 undone s s' (Told node) same = asked_none s s' node same
 undone s s' (Shown node) same = same
 undone s s' (Case node) same = asked_none s s' node same
+undone s s' (Base node after) same = same
 
 -- it was done, and its results follow SUCCESS
 pub is_done : (h : Host) (s : StandingParts) (xid : ℕ) (a : WitnessAsk) (text : List ℕ) (s' : StandingParts)

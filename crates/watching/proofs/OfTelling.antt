@@ -10,6 +10,7 @@ use Rattle.witness_spec.specs.Contract.{StepsTo}
 use Rattle.witness_spec.specs.Events.{ItsChallenges}
 use Rattle.witness_books.specs.node_book.Replies.{indication_in}
 use Rattle.witness_books.specs.Books.{BooksParts, beginning_of, parts_in}
+use Rattle.watching.specs.BaseGiving.{began_from}
 use Rattle.watching.specs.Ends.{end_in, ends_of}
 use Rattle.watching.specs.Telling.{Lists, Steps, Tells}
 use Rattle.watching.specs.declared.told.NodeTold.{NodeTold}
@@ -19,9 +20,10 @@ pub tells_is : (old mid new : BooksParts) (told : NodeTold) (challenges : List C
     → Steps old (Ask told.node ItsIndication) (replies.Told (indication_in told.indication)) mid
     → beginning_of mid ≡ beginning_of old → Lists mid told.node challenges new
     → beginning_of new ≡ beginning_of mid → length challenges ≡ told.open
-    → n ≡ end_in new.roster told.node (ends_of (parts_in new)) → n ≡ Some told.end
+    → told.from ≡ began_from old told.node → n ≡ end_in new.roster told.node (ends_of (parts_in new))
+    → n ≡ Some told.end
     → Tells old told.node told new
-tells_is old mid new told challenges n first began second began' count end_is some = record {
+tells_is old mid new told challenges n first began second began' count from_is end_is some = record {
   is_of = refl;
   between = parts_in mid;
   indicates = first;
@@ -29,6 +31,7 @@ tells_is old mid new told challenges n first began second began' count end_is so
   lists = subst (λ (g : Beginning). StepsTo g (parts_in mid) (Ask told.node ItsChallenges)
       (replies.OpenList challenges) (parts_in new)) began second;
   count = count;
+  from_is = from_is;
   end_is = ap (λ (g : Beginning). end_in g.roster told.node (ends_of (parts_in new))) (sym (began' ∙ began))
       ∙ (sym end_is ∙ some);
 }

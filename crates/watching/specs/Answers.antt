@@ -15,7 +15,7 @@ use Rattle.packets.specs.Packet.{SendChallenge, packet_text}
 use Rattle.peer_calls.specs.Answers.{NodeCase, NoCase, Here, TooLarge, case_text, message_value, shown_text, told_item}
 use Rattle.peer_calls.specs.Answers.{wanted_item}
 use Rattle.peer_calls.specs.Calls.{Call, success_text}
-use Rattle.peer_calls.specs.WitnessRequests.{WitnessAsk, Null, Greet, Deliver, Wanted, Told, Shown, Case}
+use Rattle.peer_calls.specs.WitnessRequests.{WitnessAsk, Null, Greet, Deliver, Wanted, Told, Shown, Case, Base}
 use Rattle.peer_calls.specs.WitnessRequests.{witness_ask_at}
 use Rattle.peer_calls.specs.declared.cases.TheConstants.{MAX_CASE}
 use Rattle.peer_calls.specs.declared.call.Asked.{Asked}
@@ -25,6 +25,7 @@ use Rattle.witness_spec.specs.Replies.{Challenge, AuditOf, SendOf, Indication, T
 use Rattle.witness_books.specs.node_book.Replies.{indication_in}
 use Rattle.challenge.specs.Cases.{case_item}
 use Rattle.witness_spec.specs.evidence_spec.Evidence.{EvidenceParts, evidence_value}
+use Rattle.watching.specs.BaseGiving.{based_results}
 use Rattle.watching.specs.Shown.{MayNote, Notes, StandingParts, last_shown}
 use Rattle.watching.specs.Telling.{IsDelivered, ListsIf, MayBeDelivered, ShowsIf, TellsIf, WereAsked}
 use Rattle.watching.specs.Telling.{delivered_number}
@@ -128,6 +129,7 @@ Does h s (Shown node) results s' = (results ≡ shown_results (last_shown s node
 Does h s (Case node) results s' =
     (evidence : Option EvidenceParts) × ShowsIf s.books node evidence s'.books × (s'.shown ≡ s.shown)
     × (results ≡ case_results s.books.roster evidence)
+Does h s (Base node after) results s' = (results ≡ based_results s.books node after) × (s' ≡ s)
 
 -- Memory was refused while it was done, or for its results: the books may have been led on by it, and by
 -- nothing else.
@@ -139,6 +141,7 @@ MayDo s (Wanted node) s' = WereAsked s.books node s'.books × (s'.shown ≡ s.sh
 MayDo s (Told node) s' = WereAsked s.books node s'.books × (s'.shown ≡ s.shown)
 MayDo s (Shown node) s' = s' ≡ s
 MayDo s (Case node) s' = WereAsked s.books node s'.books × (s'.shown ≡ s.shown)
+MayDo s (Base node after) s' = s' ≡ s
 
 -- ---- what is answered
 

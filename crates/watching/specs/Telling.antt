@@ -15,6 +15,7 @@ use Rattle.witness_books.specs.node_book.Replies.{indication_in, refusal_in}
 use Rattle.witness_books.specs.Books.{BooksParts, beginning_of, parts_in}
 use Rattle.witness_calls.specs.Telling.{IsSaid, indication_word}
 use Rattle.witness_calls.specs.declared.said.Said.TheVariants as said
+use Rattle.watching.specs.BaseGiving.{began_from}
 use Rattle.watching.specs.Ends.{end_in, ends_of}
 use Rattle.watching.specs.declared.deliver.Delivered.{Delivered}
 use Rattle.watching.specs.declared.deliver.Delivered.TheVariants as d
@@ -65,6 +66,8 @@ pub record Tells (old : BooksParts) (node : ℕ) (told : NodeTold) (new : BooksP
   pub lists : StepsTo (beginning_of old) between (Ask node ItsChallenges) (replies.OpenList challenges)
       (parts_in new)
   pub count : length challenges ≡ told.open
+  -- where its audit began, if not at its log's first entry
+  pub from_is : told.from ≡ began_from old node
   -- the last number that was filed sound
   pub end_is : end_in old.roster node (ends_of (parts_in new)) ≡ Some told.end
 
@@ -73,13 +76,18 @@ abbrev pub TellsIf : (old : BooksParts) → (node : ℕ) → Option NodeTold →
 TellsIf old node None new = (member_of old.roster node ≡ None) × (new ≡ old)
 TellsIf old node (Some told) new = Tells old node told new
 
--- the line of a node: its number, its indication, the count of its open challenges, and up to where it was
--- audited
+-- up to where a node was audited, and from where, if from a base
+abbrev pub audited_words : (from : Option ℕ) → (end : ℕ) → List ℕ
+audited_words None end = codes " to " ++ decimal end
+audited_words (Some number) end = codes " from " ++ (decimal number ++ (codes " to " ++ decimal end))
+
+-- the line of a node: its number, its indication, the count of its open challenges, and up to where it was audited,
+-- and from where, if from a base
 abbrev pub told_line : NodeTold → List ℕ
 told_line t =
     decimal t.node
     ++ (codes " " ++ (indication_word t.indication
-    ++ (codes " " ++ (decimal t.open ++ (codes " to " ++ decimal t.end)))))
+    ++ (codes " " ++ (decimal t.open ++ audited_words t.from t.end))))
 
 -- ---- packets
 

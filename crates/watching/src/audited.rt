@@ -10,22 +10,25 @@ ghost use Rattle.witness_spec.specs.Replies.{EvidenceIs, Told};
 ghost use Rattle.witness_spec.specs.Starting.{from_the_first};
 ghost use Rattle.witness_books.specs.Books.{beginning_of, is_refusal, parts_in};
 ghost use Rattle.witness_books.specs.Headline.{KeepsHeadline};
+ghost use Rattle.witness_books.specs.Starts.{MayStart, StartFails, handed};
+ghost use Rattle.witness_books.specs.node_book.Rows.{known_in};
 ghost use Rattle.watching.specs.Ends.{end_in, ends_of};
 ghost use Rattle.watching.specs.Telling.{IsDelivered, Lists, ListsIf, MayBeDelivered, ShowsIf, Steps};
 ghost use Rattle.watching.specs.Telling.{TellsIf, WereAsked};
 
+use crate::bases::{began_from, first_ends};
 use crate::deliver::Delivered;
 use crate::ends::{end_of, filed_end, put_end, sound_end, zeros};
 use crate::laws::steps_move_ends;
 use crate::told::NodeTold;
-use authenticator::Roster;
-use challenge::{Challenge, Evidence};
+use authenticator::{Checked, Roster};
+use challenge::{Base, Challenge, Evidence};
 use std::alloc::{AllocError, AllocFailed, Global};
 use std::marker::Model;
 use std::sync::Arc;
 use witness_book_laws::what_leaves_books;
 use witness_books::laws::spelled_is_taken;
-use witness_books::{Books, Event, EventOf, Indication, Question, Reply, ReplyOf};
+use witness_books::{Books, Event, EventOf, Indication, Question, Reply, ReplyOf, StartFault};
 use witness_calls::{Said, SignatureCache, admit};
 
 /// A witness's books, from their first step on, without a journal of the steps: what it takes of memory is
@@ -65,6 +68,27 @@ impl AuditedBooks {
             return Err(AllocFailed { value: roster });
         };
         let books = Books::new(alloc, roster)?;
+        Ok(AuditedBooks { books, ends })
+    }
+
+    /// The books of a roster's members before any step, each from its base if it has one among these, as
+    /// `Books::start`. After a fault nothing comes back.
+    #[tactic(auto, using(crate::proofs::OfOpening::start_ends))]
+    pub fn start(
+        alloc: Global,
+        roster: Roster,
+        bases: Vec<Checked<Base>>,
+    ) -> Result<AuditedBooks, StartFault>
+        ensures roster { IfOk result (λ s. s.roster ≡ roster) }
+        ensures bases { IfOk result (λ s. s.bases ≡ map (λ c. known_in c.value) bases.items) }
+        ensures opening { IfOk result (λ s. parts_in s ≡ starting_books (beginning_of s)) }
+        ensures ok { IfOk result (λ _. MayStart roster (map (λ c. handed c.value c.member) bases.items)) }
+        ensures fault { IfErr result (StartFails roster (map (λ c. handed c.value c.member) bases.items)) }
+    {
+        let books = Books::start(alloc, roster, bases)?;
+        let Ok(ends) = first_ends(alloc, books.roster().members(), books.bases()) else {
+            return Err(StartFault::NoMemory);
+        };
         Ok(AuditedBooks { books, ends })
     }
 
@@ -177,6 +201,7 @@ impl AuditedBooks {
         if self.books.roster().member(node).is_none() {
             return Ok(None);
         }
+        let from = began_from(self.books(), node);
         let indication = self.indication(alloc, node)?;
         let open = self.challenges(alloc, node)?.len();
         match self.end(node) {
@@ -184,6 +209,7 @@ impl AuditedBooks {
                 node,
                 indication,
                 open,
+                from,
                 end,
             })),
             None => Err(AllocError),

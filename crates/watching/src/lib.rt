@@ -3,6 +3,7 @@
 
 mod answer;
 mod audited;
+mod bases;
 mod bound;
 mod deliver;
 mod ends;
@@ -18,4 +19,5 @@ pub use deliver::Delivered;
 pub use results::{Host, Opened};
 pub use standing::Standing;
 pub use told::NodeTold;
+pub use witness_books::StartFault;
 pub use witness_calls::{Said, Shelf, packet_texts, write_case};

@@ -13,6 +13,7 @@ ghost use Rattle.watching.specs.Answers.{Does, IsGreeted, MayDo, audit_of, case_
 ghost use Rattle.watching.specs.Answers.{message_text, messages_of, messages_text, seconds_of, shown_results};
 ghost use Rattle.watching.specs.Answers.{standing_number, told_results, wanted_results};
 
+use crate::bases::add_based;
 use crate::standing::Standing;
 use crate::told::NodeTold;
 use authenticator::{Authenticator, Roster};
@@ -94,6 +95,7 @@ pub(crate) fn add_results(
             let evidence = standing.evidence(alloc, asked.node)?;
             add_case(alloc, standing.books().roster(), evidence, out)
         }
+        WitnessRequest::Base(asked) => add_based(standing.books(), alloc, asked, out),
     }
 }
 

@@ -9,6 +9,8 @@ ghost use Rattle.witness_spec.specs.Contract.{starting_books};
 ghost use Rattle.witness_spec.specs.Starting.{from_the_first};
 ghost use Rattle.witness_books.specs.Books.{beginning_of, is_refusal, parts_in};
 ghost use Rattle.witness_books.specs.Headline.{KeepsHeadline};
+ghost use Rattle.witness_books.specs.Starts.{MayStart, StartFails, handed};
+ghost use Rattle.witness_books.specs.node_book.Rows.{known_in};
 ghost use Rattle.watching.specs.Ends.{end_in, ends_of};
 ghost use Rattle.watching.specs.Shown.{Notes, last_shown, with_packet};
 ghost use Rattle.watching.specs.Telling.{IsDelivered, ListsIf, MayBeDelivered, ShowsIf, Steps, TellsIf};
@@ -18,13 +20,13 @@ use crate::audited::AuditedBooks;
 use crate::deliver::Delivered;
 use crate::shown::{note_shown, nothing_shown, shown_of};
 use crate::told::NodeTold;
-use authenticator::{Authenticator, Roster};
-use challenge::{Challenge, Evidence};
+use authenticator::{Authenticator, Checked, Roster};
+use challenge::{Base, Challenge, Evidence};
 use peer_calls::read_shown;
 use std::alloc::{AllocError, AllocFailed, Global};
 use std::marker::Model;
 use std::sync::Arc;
-use witness_books::{Books, Event, Reply};
+use witness_books::{Books, Event, Reply, StartFault};
 use witness_calls::SignatureCache;
 
 /// A witness's books, from their first step on, without a journal of the steps, and of each member the
@@ -65,6 +67,28 @@ impl Standing {
             return Err(AllocFailed { value: roster });
         };
         let audited = AuditedBooks::open(alloc, roster)?;
+        Ok(Standing { audited, shown })
+    }
+
+    /// The books of a roster's members before any step: of a member that has a base among these from that base, of
+    /// each other one from its log's first entry; nothing was shown. The faults are those of `Books::start`, and
+    /// after one nothing comes back.
+    pub fn start(
+        alloc: Global,
+        roster: Roster,
+        bases: Vec<Checked<Base>>,
+    ) -> Result<Standing, StartFault>
+        ensures roster { IfOk result (λ s. s.books.roster ≡ roster) }
+        ensures bases { IfOk result (λ s. s.books.bases ≡ map (λ c. known_in c.value) bases.items) }
+        ensures opening { IfOk result (λ s. parts_in s.books ≡ starting_books (beginning_of s.books)) }
+        ensures shown { IfOk result (λ s. s.shown ≡ replicate (length roster) None) }
+        ensures ok { IfOk result (λ _. MayStart roster (map (λ c. handed c.value c.member) bases.items)) }
+        ensures fault { IfErr result (StartFails roster (map (λ c. handed c.value c.member) bases.items)) }
+    {
+        let Ok(shown) = nothing_shown(alloc, roster.members().len()) else {
+            return Err(StartFault::NoMemory);
+        };
+        let audited = AuditedBooks::start(alloc, roster, bases)?;
         Ok(Standing { audited, shown })
     }
 

@@ -90,6 +90,7 @@ fn is_same_told(one: &NodeTold, other: &NodeTold) -> bool
     one.node == other.node
         && one.indication == other.indication
         && one.open == other.open
+        && one.from == other.from
         && one.end == other.end
 }
 
