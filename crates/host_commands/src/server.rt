@@ -119,6 +119,7 @@ where
         listener: first,
         audits,
         control: Some(commands),
+        check_every: order.check_every,
     };
     let ending = host_server(rt, alloc, rt, asked, &output);
     let line = last_line(alloc, ending);
