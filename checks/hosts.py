@@ -36,12 +36,13 @@ from peer.keys import Keys  # noqa: E402
 from peer.lies import (Fork, HidesLog, Liar, NoReply, OldReply, OtherAck, OtherMember, ReceivesTwice,  # noqa: E402
                        Silent, Slow, Swapped, UnsignedAck, UnsignedReply, WrongReply, WrongXid)
 from peer.server import Server  # noqa: E402
+from peer.texts import whole  # noqa: E402
 from peer.wire import (DELIVER, GREET, NODE, SEGMENT, WITNESS, Address, Caller, call_text,  # noqa: E402
                        optional_packet)
-from peer.witness import REFUSED, Witness  # noqa: E402
+from peer.witness import REFUSED, Witness, base_of  # noqa: E402
 from serve.calls import Calls  # noqa: E402
 from serve.client import ROOT, Connection, call, record  # noqa: E402
-from verifier.evidence import judge  # noqa: E402
+from verifier.evidence import judge, read_base  # noqa: E402
 from verifier.keys import CLIENT, SERVER, Authenticator, Roster, digest, roster_text  # noqa: E402
 from verifier.log import ACK, RECV, SEND  # noqa: E402
 from verifier.mount import World  # noqa: E402
@@ -167,10 +168,10 @@ def check_lie(program: str):
     print('a server that lies: it is exposed, and the evidence is taken under the roster')
 
 
-def watched(hosts: Hosts, server: Server) -> tuple[Party, Path]:
+def watched(hosts: Hosts, server: Server, *more: str) -> tuple[Party, Path]:
     """A witness of a server, and the folder for its evidence."""
     cases = hosts.state('cases')
-    return hosts.witness({1: server.address}, '--evidence', str(cases)), cases
+    return hosts.witness({1: server.address}, '--evidence', str(cases), *more), cases
 
 
 def exposed(hosts: Hosts, witness: Party, cases: Path) -> tuple[int, int] | None:
@@ -184,7 +185,7 @@ def exposed(hosts: Hosts, witness: Party, cases: Path) -> tuple[int, int] | None
 
 def exposed_alone(hosts: Hosts, witness: Party, cases: Path) -> tuple[int, int] | None:
     """The same, whatever is said of others."""
-    found = witness.wait_for(r'\S+Z 1 exposed \d+ to \d+: (.*)')
+    found = witness.wait_for(r'\S+Z 1 exposed \d+ (?:from \d+ )?to \d+: (.*)')
     evidence = cases / 'node-1.evidence'
     assert found[1] == str(evidence), found[1]
     assert_exposes(hosts, evidence)
@@ -203,6 +204,59 @@ def assert_exposes(hosts: Hosts, evidence: Path):
 
 def words_of(told: dict[int, tuple]) -> dict[int, str]:
     return {node: word for node, (word, _, _) in told.items()}
+
+
+FROM_BASE = r'\S+Z 1 trusted 0 from (\d+) to (\d+)'
+
+
+def check_late(program: str):
+    """A server that logs its state, and witnesses that begin there: ours, which hands the base on, and the other program's."""
+    with Hosts(program) as hosts:
+        usual(hosts)
+        server = hosts.server('one', '--check-every', '2')
+        address, state = server.address(), hosts.state()
+        caller = Caller(address, NODE)
+        assert base_of(caller, 1) is None
+        gateway = hosts.gateway('two', '2-2', address)
+        connection = Connection(gateway.address()[1])
+        for _ in range(5):
+            assert connection.ask(ATTRIBUTES) == owed(ATTRIBUTES)
+        base = base_of(caller, 1)
+        at = whole(read_base, base).at
+        assert base_of(caller, 1, at - 1) == base and base_of(caller, 1, at) is None and base_of(caller, 2) is None
+        late = hosts.witness({1: address}, '--join', state=state)
+        found = late.wait_for(FROM_BASE)
+        assert int(found[1]) == at <= int(found[2]), found[0]
+        assert hosts.status_of(state)['node'][0].startswith(f'1 trusted 0 from {at} to ')
+        of_witness = Caller(late.address(), WITNESS)
+        assert base_of(of_witness, 1) == base and base_of(of_witness, 1, at) is None and base_of(of_witness, 2) is None
+        peer = hosts.keep(Witness(hosts.roster()))
+        peer.join({1: address})
+        assert peer.round({1: address}) == {} and peer.books[1].base.at == at
+        assert ask(peer.address, 1).indication == 'trusted' and ask(peer.address, 1).end > at
+        early = hosts.witness({1: address})
+        early.wait_for(r'\S+Z 1 trusted 0 to \d+')
+        caller.close()
+        of_witness.close()
+    print('a witness that begins late, at a base: its lines say from where')
+
+
+def check_late_lie(program: str):
+    """A server lies after the base at which a witness began. The evidence is taken under the roster."""
+    with Hosts(program) as hosts:
+        usual(hosts)
+        server = hosts.keep(WrongReply(hosts.keys('one', 1, SERVER, 7), hosts.roster(), at=6))
+        server.check_every = 2
+        gateway = hosts.gateway('two', '2-2', server.address)
+        connection = Connection(gateway.address()[1])
+        for _ in range(5):
+            assert connection.ask(ATTRIBUTES) == owed(ATTRIBUTES)
+        witness, cases = watched(hosts, server, '--join')
+        witness.wait_for(FROM_BASE)
+        assert connection.ask(ATTRIBUTES) != owed(ATTRIBUTES)
+        fault = exposed_alone(hosts, witness, cases)
+        assert fault is not None and fault[0] == Fault.WRONG_REPLY, fault
+    print('a server that lies after the base at which a witness began: it is exposed, and the evidence is taken')
 
 
 def check_fork(program: str):
@@ -1439,7 +1493,7 @@ def check_assured(program: str):
     print('a gateway says up to which reply each witness answers: not before it has taken what was signed, nor of a liar')
 
 
-CHECKS = [check_meeting, check_bad_meetings, check_put_back, check_slow_readers, check_ask_many, check_server, check_strangers, check_assured, check_server_keys, check_three, check_rows, check_lie, check_fork, check_none, check_other_calls, check_suspected,
+CHECKS = [check_late, check_late_lie, check_meeting, check_bad_meetings, check_put_back, check_slow_readers, check_ask_many, check_server, check_strangers, check_assured, check_server_keys, check_three, check_rows, check_lie, check_fork, check_none, check_other_calls, check_suspected,
           check_other_witness, check_lives, check_second_roster, check_keys_used_up, check_ask,
           check_calls, check_breaks, check_garbage, check_same_call, check_in_flight, check_gateway_put_back, check_open_message, check_rough,
           check_round_trips, check_away, check_give_up, check_next_epoch, check_witness_epoch, check_witness_next_epoch,

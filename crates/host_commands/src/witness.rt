@@ -202,6 +202,7 @@ where
         listener,
         control: search.control,
         workers: WORKERS,
+        join: order.join,
     };
     let ending = watch_servers(rt, alloc, rt, asked, output);
     Ok(status_said(rt, output, ending))

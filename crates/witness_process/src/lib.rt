@@ -11,6 +11,7 @@ mod due;
 mod elsewhere;
 mod evidence;
 mod filing;
+mod joining;
 mod links;
 mod meetings;
 mod opened;

@@ -50,6 +50,8 @@ pub struct WitnessOrder<'a, L, S> {
     pub control: Option<Commands<'a>>,
     /// How many threads replay at once, 1 to 16; another number counts as the nearest of these.
     pub workers: usize,
+    /// Whether the servers are asked first for the bases from which their logs are audited, in place of the beginning.
+    pub join: bool,
 }
 
 /// Why a witness no longer runs.

@@ -10,8 +10,8 @@ use crate::brought::{brought_by, brought_in};
 use crate::due::Saying;
 use crate::rows::Row;
 use crate::times::seconds_now;
-use authenticator::{Authenticator, Roster};
-use challenge::{Challenge, Evidence};
+use authenticator::{Authenticator, Checked, Roster};
+use challenge::{Base, Challenge, Evidence};
 use peer_calls::Numbers;
 use request_streams::Outcome;
 use std::alloc::{AllocError, Global};
@@ -46,15 +46,17 @@ pub(crate) struct Watch {
 }
 
 impl Watch {
-    /// New books of a roster's members, at a time in seconds. `AllocError` comes only where a growth was refused.
+    /// New books of a roster's members, at a time in seconds: each from its base, if it has one among these. They were
+    /// checked under this roster, and no two are of one node. `AllocError` comes only where a growth was refused.
     pub(crate) fn open(
         alloc: Global,
         roster: Roster,
+        bases: Vec<Checked<Base>>,
         digest: [u8; 32],
         time: u64,
     ) -> Result<Watch, AllocError> {
         let nodes = nodes_of(alloc, &roster)?;
-        let Ok(mut standing) = Standing::open(alloc, roster) else {
+        let Ok(mut standing) = Standing::start(alloc, roster, bases) else {
             return Err(AllocError);
         };
         let rows = open_rows(alloc, &mut standing, &nodes)?;

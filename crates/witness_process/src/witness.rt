@@ -5,13 +5,13 @@ ghost use Rattle.witness_process.specs.Rosters.{IsEnding};
 use crate::answering::LockedWatch;
 use crate::context::Context;
 use crate::elsewhere::Elsewhere;
+use crate::joining::Joining;
 use crate::meetings::keep_meeting;
 use crate::orders::{Ending, KnownRoster, WatchedServer, WitnessOrder};
 use crate::rounds::{catch_up, go_round, keep_up};
 use crate::status::WitnessTeller;
 use crate::times::seconds_now;
 use crate::watch::Watch;
-use authenticator::Roster;
 use frames::FrameReader;
 use peer_connections::{
     Accepting, Commands, Output, PeerStream, Phase, ServeFailure, Waiting, attend, end_serving,
@@ -74,8 +74,17 @@ where
         listener,
         control,
         workers,
+        join,
     } = order;
-    let Ok(watch) = open_watch(alloc, clock, &roster, digest) else {
+    let joining = Joining {
+        rt,
+        alloc,
+        roster: &roster,
+        digest,
+        output,
+    };
+    let joined = if join { servers } else { &[] };
+    let Ok(watch) = open_watch(clock, &joining, joined) else {
         return Ending::NoMemory;
     };
     let watch = Mutex::new(watch);
@@ -107,15 +116,22 @@ where
     ending
 }
 
-/// New books, with a copy of the roster.
-fn open_watch<T: std::time::Clock>(
-    alloc: Global,
+/// New books, with a copy of the roster, and from the bases that servers give.
+fn open_watch<R, T, W, E>(
     clock: &T,
-    roster: &Roster,
-    digest: [u8; 32],
-) -> Result<Watch, AllocError> {
-    let roster = roster.try_clone(alloc)?;
-    Watch::open(alloc, roster, digest, seconds_now(clock, 0))
+    joining: &Joining<'_, R, W, E>,
+    servers: &[WatchedServer<'_>],
+) -> Result<Watch, AllocError>
+where
+    R: Wait + Net<Listener = TcpListener, Stream = TcpStream>,
+    T: std::time::Clock,
+    W: Write,
+    E: Write,
+{
+    let alloc = joining.alloc;
+    let bases = joining.bases(servers)?;
+    let roster = joining.roster.try_clone(alloc)?;
+    Watch::open(alloc, roster, bases, joining.digest, seconds_now(clock, 0))
 }
 
 /// Runs until the process is to end, and all threads have ended.
