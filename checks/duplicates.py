@@ -25,7 +25,6 @@ ALIKE = {
     ("nodes/src/locked.rt", "nodes/src/locked.rt"): CONTRACT,
     ("remote_sharing/src/caller.rt", "remote_sharing/src/caller.rt"): CONTRACT,
     ("replay/src/steps.rt", "replay/src/steps.rt"): CONTRACT,
-    ("remote_sharing/src/caller.rt", "remote_sharing/src/caller.rt"): CONTRACT,
     ("explain/src/comparison.rt", "explain/src/entry.rt"): FIELDS,
     ("envelopes/src/checks.rt", "witness_service/src/checking.rt"): ORDER,
     ("witness_books/proofs/books/noted_step_of/Answers.antt", "witness_books/proofs/books/step_of/Answers.antt"): SHAPE,
