@@ -20,6 +20,7 @@ const MOST_GREETED: u32 = 60;
 const MOST_BASE: u32 = 67_306_132;
 
 /// Who asks servers for bases.
+#[derive(Drop)]
 pub(crate) struct Joining<'a, R, W, E> {
     pub(crate) rt: &'a R,
     pub(crate) alloc: Global,
