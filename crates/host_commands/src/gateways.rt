@@ -105,6 +105,7 @@ where
         every: order.every,
         reserve: order.reserve,
         give_up: order.give_up.map(u64::from),
+        progress: order.progress,
         listener,
         control: Some(commands),
     };

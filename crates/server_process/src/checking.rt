@@ -28,9 +28,8 @@ impl Checking {
         let Some(every) = self.every else {
             return false;
         };
-        let received = self.since.saturating_add(1);
-        if received < every {
-            self.since = received;
+        if self.since < every.saturating_sub(1) {
+            self.since += 1;
             return false;
         }
         self.since = 0;
