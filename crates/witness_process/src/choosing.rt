@@ -133,7 +133,7 @@ where
         thread::scope_env(),
         looking.rt,
         |scope| -> Option<KnownRoster>
-            ensures { IfSome result (IsChosen known.now) }
+            ensures { IfSome result (IsChosen known.entry.now) }
         {
             attend_control(looking, control, scope);
             let chosen = look(looking, known, servers);

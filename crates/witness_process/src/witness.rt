@@ -60,7 +60,7 @@ where
     S: Shelf + Drop + Send,
     W: Write + Send,
     E: Write + Send,
-    ensures { IsEnding order.known.now order.epoch result }
+    ensures { IsEnding order.entry.known.now order.entry.epoch result }
 {
     let WitnessOrder {
         roster,
