@@ -215,7 +215,10 @@ fn say_keys<R>(rt: &R, output: &Mutex<PartyOutput<'_, R>>, epoch: u32, height: u
 where
     R: Files<File = File> + Print + Eprint + AllocGlobal + Clock + Wait,
 {
-    let keys = 1u64 << height.min(MAX_HEIGHT);
+    if height > MAX_HEIGHT {
+        return;
+    }
+    let keys = 1u64 << height;
     let line = format!(in rt.alloc(); "nfsacc: epoch {epoch}: making {keys} keys\n");
     output.lock(rt).say(line);
 }
