@@ -1,9 +1,13 @@
 #!/usr/bin/env python3
 """Calls through one program and through three, one after the other by one connection: GETATTR of `hello`.
 
-usage: bench/hosts.py PROGRAM CALLS MILLISECONDS..    a way to the server of so long, each way, for each number
+usage: bench/hosts.py PROGRAM DIGESTS CALLS MILLISECONDS..    a way to the server of so long, each way, for each number
+
+DIGESTS is the program that bench/digests.rs makes.
 """
 
+import os
+import subprocess
 import sys
 import threading
 import time
@@ -25,6 +29,16 @@ HELLO = word(1, 2) + bytes(24)
 GETATTR = call(7, 1, HELLO)
 REPLY_BYTES = 96
 PAUSE = 0.1
+
+# The compressions of SHA-256 that a call costs its server, which signs the receipt and the reply, and checks the call and
+# the acknowledgement of the reply. A signature has a secret for each of 256 bits and a hash for the other value, whose
+# secret is made, too. A check hashes 256 secrets, the leaf's text of 16,385 bytes, and a text of 65 bytes a level. The
+# texts of three signatures are digested whole for the log: of the call's, the reply's and the acknowledgement's.
+SIGNING = 3 * 256
+CHECK = 256 + 257
+LEVEL = 2
+SIGNATURE_TEXT = 258
+TICKS = os.sysconf('SC_CLK_TCK')
 
 
 def height(calls: int) -> int:
@@ -57,6 +71,37 @@ def peak_of(process: int) -> int:
         if line.startswith('VmHWM:'):
             return int(line.split()[1]) // 1024
     raise ValueError('no VmHWM')
+
+
+def compressions(levels: int) -> int:
+    """How many compressions a call costs its server, where the client's keys have so many levels."""
+    return 2 * SIGNING + 2 * (CHECK + LEVEL * levels) + 3 * SIGNATURE_TEXT
+
+
+def processor_time(process: int) -> float:
+    """The seconds of a processor that a process took, and the system for it."""
+    fields = Path(f'/proc/{process}/stat').read_text().rsplit(')', 1)[1].split()
+    return sum(map(int, fields[11:13])) / TICKS
+
+
+def seconds_of(digests: str, count: int) -> float:
+    """The seconds of a processor that so many digests of one block take."""
+    return float(subprocess.run([digests, str(count)], check=True, stdout=subprocess.PIPE, text=True).stdout)
+
+
+def server_alone(program: str, digests: str, calls: int):
+    """What a call costs its server beside the digests that it can't do without: nobody audits."""
+    with Hosts(program) as hosts:
+        levels = height(calls)
+        hosts.rosters(hosts.member('one', 1, SERVER, levels), hosts.member('two', 2, CLIENT, levels))
+        server = hosts.server('one')
+        gateway = hosts.gateway('two', '2-2', server.address())
+        before = processor_time(server.process.pid)
+        call_times(gateway.address()[1], calls)
+        took = (processor_time(server.process.pid) - before) / calls
+        count = compressions(levels)
+        plain = seconds_of(digests, calls * count) / calls
+    print(f'a server alone: {1000 * took:.2f} ms of a processor for a call, {took / plain:.2f} of {count} digests')
 
 
 def by_one(program: str, calls: int):
@@ -129,9 +174,10 @@ def print_peaks(parties: dict[str, Party]):
 
 
 def main():
-    program, calls = sys.argv[1], int(sys.argv[2])
+    program, digests, calls = sys.argv[1], sys.argv[2], int(sys.argv[3])
     by_one(program, calls)
-    for milliseconds in 0, *map(float, sys.argv[3:]):
+    server_alone(program, digests, calls)
+    for milliseconds in 0, *map(float, sys.argv[4:]):
         by_three(program, min(calls, int(10000 / milliseconds)) if milliseconds else calls, milliseconds)
 
 
