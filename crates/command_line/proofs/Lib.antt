@@ -6,3 +6,4 @@ pub mod KeysAsked
 pub mod HostsAsked
 pub mod Items
 pub mod Named
+pub mod RulesMore

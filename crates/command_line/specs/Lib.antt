@@ -3,6 +3,7 @@ pub mod ServeOrders
 pub mod Keys
 pub mod Hosts
 pub mod CommandLine
+pub mod Arguments
 pub mod Examples
 pub mod CheckNumbers
 pub mod MemberOrders

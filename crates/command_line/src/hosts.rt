@@ -10,8 +10,9 @@ ghost use Rattle.command_line.specs.CommandLine.{asked_by, asked_in, commands, i
 ghost use Rattle.command_line.specs.Hosts.{ask_command, gateway_command, hosts_names, server_command};
 ghost use Rattle.command_line.specs.Hosts.{status_command, stop_command, witness_command};
 
-use crate::request::{Request, flag, flag_of, text_of};
-use crate::serve::{needed_option, word_argument, word_of, word_option};
+use crate::arguments::{flag, needed, place, with_rows, word};
+use crate::request::{Request, flag_of, text_of};
+use crate::serve::word_of;
 use clap::{ArgMatches, Command};
 use std::alloc::{AllocError, Global};
 
@@ -227,92 +228,119 @@ Statuses: 0 done, 2 the command line, 3 no memory, 4 nobody answers";
 pub(crate) fn server_command<'a>(alloc: Global) -> Result<Command<'a>, AllocError>
     ensures { IfOk result (λ c. app_of c ≡ server_command) }
 {
-    Command::new(alloc, "server")
-        .about("Serves the files of a node to gateways, and its log to witnesses")
-        .after_help(STATUSES)
-        .arg(needed_option(alloc, "secret", "FILE", SERVER_SECRET_HELP))?
-        .arg(needed_option(alloc, "rosters", "DIR", SERVER_ROSTERS_HELP))?
-        .arg(needed_option(alloc, "state", "DIR", SERVER_STATE_HELP))?
-        .arg(needed_option(alloc, "node", "N", SERVER_NODE_HELP))?
-        .arg(needed_option(alloc, "listen", "ADDRESS:PORT", SERVER_LISTEN_HELP))?
-        .arg(word_option(alloc, "audit", "ADDRESS:PORT", SERVER_AUDIT_HELP))?
-        .arg(word_option(alloc, "check-every", "N", SERVER_CHECK_EVERY_HELP))?
-        .arg(flag(alloc, "progress", SERVER_PROGRESS_HELP))?
-        .arg(word_option(alloc, "log-file", "FILE", LOG_FILE_HELP))
+    with_rows(
+        alloc,
+        Command::new(alloc, "server")
+            .about("Serves the files of a node to gateways, and its log to witnesses")
+            .after_help(STATUSES),
+        &[
+            needed("secret", "FILE", SERVER_SECRET_HELP),
+            needed("rosters", "DIR", SERVER_ROSTERS_HELP),
+            needed("state", "DIR", SERVER_STATE_HELP),
+            needed("node", "N", SERVER_NODE_HELP),
+            needed("listen", "ADDRESS:PORT", SERVER_LISTEN_HELP),
+            word("audit", "ADDRESS:PORT", SERVER_AUDIT_HELP),
+            word("check-every", "N", SERVER_CHECK_EVERY_HELP),
+            flag("progress", SERVER_PROGRESS_HELP),
+            word("log-file", "FILE", LOG_FILE_HELP),
+        ],
+    )
 }
 
 /// The subcommand `gateway`.
 pub(crate) fn gateway_command<'a>(alloc: Global) -> Result<Command<'a>, AllocError>
     ensures { IfOk result (λ c. app_of c ≡ gateway_command) }
 {
-    Command::new(alloc, "gateway")
-        .about("Lets the programs of this machine use a server by NFS, as nodes of its user")
-        .after_help(STATUSES)
-        .arg(needed_option(alloc, "secret", "FILE", GATEWAY_SECRET_HELP))?
-        .arg(needed_option(alloc, "nodes", "A-B", GATEWAY_NODES_HELP))?
-        .arg(needed_option(alloc, "server", "N=HOST:PORT", GATEWAY_SERVER_HELP))?
-        .arg(needed_option(alloc, "rosters", "DIR", GATEWAY_ROSTERS_HELP))?
-        .arg(needed_option(alloc, "state", "DIR", GATEWAY_STATE_HELP))?
-        .arg(word_option(alloc, "witness", "LIST", GATEWAY_WITNESS_HELP))?
-        .arg(word_option(alloc, "listen", "ADDRESS:PORT", GATEWAY_LISTEN_HELP))?
-        .arg(word_option(alloc, "every", "SECONDS", GATEWAY_EVERY_HELP))?
-        .arg(word_option(alloc, "reserve", "CALLS", GATEWAY_RESERVE_HELP))?
-        .arg(word_option(alloc, "give-up", "SECONDS", GATEWAY_GIVE_UP_HELP))?
-        .arg(flag(alloc, "progress", GATEWAY_PROGRESS_HELP))?
-        .arg(word_option(alloc, "log-file", "FILE", LOG_FILE_HELP))
+    with_rows(
+        alloc,
+        Command::new(alloc, "gateway")
+            .about("Lets the programs of this machine use a server by NFS, as nodes of its user")
+            .after_help(STATUSES),
+        &[
+            needed("secret", "FILE", GATEWAY_SECRET_HELP),
+            needed("nodes", "A-B", GATEWAY_NODES_HELP),
+            needed("server", "N=HOST:PORT", GATEWAY_SERVER_HELP),
+            needed("rosters", "DIR", GATEWAY_ROSTERS_HELP),
+            needed("state", "DIR", GATEWAY_STATE_HELP),
+            word("witness", "LIST", GATEWAY_WITNESS_HELP),
+            word("listen", "ADDRESS:PORT", GATEWAY_LISTEN_HELP),
+            word("every", "SECONDS", GATEWAY_EVERY_HELP),
+            word("reserve", "CALLS", GATEWAY_RESERVE_HELP),
+            word("give-up", "SECONDS", GATEWAY_GIVE_UP_HELP),
+            flag("progress", GATEWAY_PROGRESS_HELP),
+            word("log-file", "FILE", LOG_FILE_HELP),
+        ],
+    )
 }
 
 /// The subcommand `witness`.
 pub(crate) fn witness_command<'a>(alloc: Global) -> Result<Command<'a>, AllocError>
     ensures { IfOk result (λ c. app_of c ≡ witness_command) }
 {
-    Command::new(alloc, "witness")
-        .about("Audits servers and gateways, and says what it knows of them")
-        .after_help(STATUSES)
-        .arg(needed_option(alloc, "rosters", "DIR", WITNESS_ROSTERS_HELP))?
-        .arg(needed_option(alloc, "at", "LIST", WITNESS_AT_HELP))?
-        .arg(needed_option(alloc, "listen", "ADDRESS:PORT", WITNESS_LISTEN_HELP))?
-        .arg(word_option(alloc, "witness", "LIST", WITNESS_OTHERS_HELP))?
-        .arg(word_option(alloc, "every", "SECONDS", WITNESS_EVERY_HELP))?
-        .arg(word_option(alloc, "patience", "SECONDS", WITNESS_PATIENCE_HELP))?
-        .arg(word_option(alloc, "evidence", "DIR", WITNESS_EVIDENCE_HELP))?
-        .arg(word_option(alloc, "epoch", "E", WITNESS_EPOCH_HELP))?
-        .arg(flag(alloc, "join", WITNESS_JOIN_HELP))?
-        .arg(word_option(alloc, "state", "DIR", WITNESS_STATE_HELP))?
-        .arg(word_option(alloc, "log-file", "FILE", LOG_FILE_HELP))
+    with_rows(
+        alloc,
+        Command::new(alloc, "witness")
+            .about("Audits servers and gateways, and says what it knows of them")
+            .after_help(STATUSES),
+        &[
+            needed("rosters", "DIR", WITNESS_ROSTERS_HELP),
+            needed("at", "LIST", WITNESS_AT_HELP),
+            needed("listen", "ADDRESS:PORT", WITNESS_LISTEN_HELP),
+            word("witness", "LIST", WITNESS_OTHERS_HELP),
+            word("every", "SECONDS", WITNESS_EVERY_HELP),
+            word("patience", "SECONDS", WITNESS_PATIENCE_HELP),
+            word("evidence", "DIR", WITNESS_EVIDENCE_HELP),
+            word("epoch", "E", WITNESS_EPOCH_HELP),
+            flag("join", WITNESS_JOIN_HELP),
+            word("state", "DIR", WITNESS_STATE_HELP),
+            word("log-file", "FILE", LOG_FILE_HELP),
+        ],
+    )
 }
 
 /// The subcommand `ask`.
 pub(crate) fn ask_command<'a>(alloc: Global) -> Result<Command<'a>, AllocError>
     ensures { IfOk result (λ c. app_of c ≡ ask_command) }
 {
-    Command::new(alloc, "ask")
-        .about("Asks witnesses what they know of nodes")
-        .after_help(ASK_NOTES)
-        .arg(word_option(alloc, "rosters", "DIR", ASK_ROSTERS_HELP))?
-        .arg(word_option(alloc, "nodes", "A-B", ASK_NODES_HELP))?
-        .arg(word_option(alloc, "evidence", "DIR", ASK_EVIDENCE_HELP))?
-        .arg(word_option(alloc, "state", "DIR", ASK_STATE_HELP))?
-        .arg(word_argument(alloc, "witness", "LIST", ASK_WITNESS_HELP))
+    with_rows(
+        alloc,
+        Command::new(alloc, "ask")
+            .about("Asks witnesses what they know of nodes")
+            .after_help(ASK_NOTES),
+        &[
+            word("rosters", "DIR", ASK_ROSTERS_HELP),
+            word("nodes", "A-B", ASK_NODES_HELP),
+            word("evidence", "DIR", ASK_EVIDENCE_HELP),
+            word("state", "DIR", ASK_STATE_HELP),
+            place("witness", "LIST", ASK_WITNESS_HELP),
+        ],
+    )
 }
 
 /// The subcommand `stop`.
 pub(crate) fn stop_command<'a>(alloc: Global) -> Result<Command<'a>, AllocError>
     ensures { IfOk result (λ c. app_of c ≡ stop_command) }
 {
-    Command::new(alloc, "stop")
-        .about("Ends the server, the gateway or the witness of a state folder in order")
-        .arg(word_argument(alloc, "state", "DIR", STOP_STATE_HELP))
+    with_rows(
+        alloc,
+        Command::new(alloc, "stop").about(
+            "Ends the server, the gateway or the witness of a state folder in order",
+        ),
+        &[place("state", "DIR", STOP_STATE_HELP)],
+    )
 }
 
 /// The subcommand `status`.
 pub(crate) fn status_command<'a>(alloc: Global) -> Result<Command<'a>, AllocError>
     ensures { IfOk result (λ c. app_of c ≡ status_command) }
 {
-    Command::new(alloc, "status")
-        .about("Says how the server, the gateway or the witness of a state folder is")
-        .after_help(STATUS_NOTES)
-        .arg(word_argument(alloc, "state", "DIR", STATUS_STATE_HELP))
+    with_rows(
+        alloc,
+        Command::new(alloc, "status")
+            .about("Says how the server, the gateway or the witness of a state folder is")
+            .after_help(STATUS_NOTES),
+        &[place("state", "DIR", STATUS_STATE_HELP)],
+    )
 }
 
 /// What `server` is asked.

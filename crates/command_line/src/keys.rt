@@ -9,8 +9,9 @@ ghost use Rattle.clap.specs.Words.{app_of, subcommand_name_of, subcommand_of, su
 ghost use Rattle.command_line.specs.CommandLine.{asked_by, asked_in, commands, rows_in};
 ghost use Rattle.command_line.specs.Keys.{keys_names, member_command, rosters_command, secret_command};
 
+use crate::arguments::{needed, place, with_rows, word};
 use crate::request::{Request, text_of};
-use crate::serve::{needed_option, word_argument, word_of, word_option};
+use crate::serve::word_of;
 use clap::{ArgMatches, Command};
 use std::alloc::{AllocError, Global};
 
@@ -79,35 +80,49 @@ Statuses: 0 done, 1 a fault in the lines, 2 the command line, 3 no memory, 4 a d
 pub(crate) fn secret_command<'a>(alloc: Global) -> Result<Command<'a>, AllocError>
     ensures { IfOk result (λ c. app_of c ≡ secret_command) }
 {
-    Command::new(alloc, "secret")
-        .about("Makes a file of 32 random bytes, of which all keys of one party are made")
-        .arg(word_argument(alloc, "file", "FILE", SECRET_FILE_HELP))
+    with_rows(
+        alloc,
+        Command::new(alloc, "secret").about(
+            "Makes a file of 32 random bytes, of which all keys of one party are made",
+        ),
+        &[place("file", "FILE", SECRET_FILE_HELP)],
+    )
 }
 
 /// The subcommand `member`.
 pub(crate) fn member_command<'a>(alloc: Global) -> Result<Command<'a>, AllocError>
     ensures { IfOk result (λ c. app_of c ≡ member_command) }
 {
-    Command::new(alloc, "member")
-        .about("Says the keys of a node, a line for each epoch")
-        .after_help(MEMBER_NOTES)
-        .arg(needed_option(alloc, "secret", "FILE", MEMBER_SECRET_HELP))?
-        .arg(needed_option(alloc, "node", "N", MEMBER_NODE_HELP))?
-        .arg(needed_option(alloc, "kind", "KIND", MEMBER_KIND_HELP))?
-        .arg(word_option(alloc, "height", "H", MEMBER_HEIGHT_HELP))?
-        .arg(word_option(alloc, "epochs", "A-B", MEMBER_EPOCHS_HELP))?
-        .arg(word_option(alloc, "log-version", "V", MEMBER_LOG_VERSION_HELP))
+    with_rows(
+        alloc,
+        Command::new(alloc, "member")
+            .about("Says the keys of a node, a line for each epoch")
+            .after_help(MEMBER_NOTES),
+        &[
+            needed("secret", "FILE", MEMBER_SECRET_HELP),
+            needed("node", "N", MEMBER_NODE_HELP),
+            needed("kind", "KIND", MEMBER_KIND_HELP),
+            word("height", "H", MEMBER_HEIGHT_HELP),
+            word("epochs", "A-B", MEMBER_EPOCHS_HELP),
+            word("log-version", "V", MEMBER_LOG_VERSION_HELP),
+        ],
+    )
 }
 
 /// The subcommand `rosters`.
 pub(crate) fn rosters_command<'a>(alloc: Global) -> Result<Command<'a>, AllocError>
     ensures { IfOk result (λ c. app_of c ≡ rosters_command) }
 {
-    Command::new(alloc, "rosters")
-        .about("Makes the roster of each epoch of the parties' member lines")
-        .after_help(ROSTERS_NOTES)
-        .arg(needed_option(alloc, "out", "DIR", ROSTERS_OUT_HELP))?
-        .arg(word_argument(alloc, "file", "FILE", ROSTERS_FILE_HELP))
+    with_rows(
+        alloc,
+        Command::new(alloc, "rosters")
+            .about("Makes the roster of each epoch of the parties' member lines")
+            .after_help(ROSTERS_NOTES),
+        &[
+            needed("out", "DIR", ROSTERS_OUT_HELP),
+            place("file", "FILE", ROSTERS_FILE_HELP),
+        ],
+    )
 }
 
 /// What `member` is asked.

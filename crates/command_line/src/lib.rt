@@ -1,6 +1,7 @@
 //! The command line of `nfsacc`.
 #![tactic(auto)]
 
+mod arguments;
 mod check_numbers;
 mod examples;
 mod host_numbers;

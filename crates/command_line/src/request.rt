@@ -6,7 +6,7 @@ ghost use Rattle.std.specs.Prelude.{ℕ, List, [], true, false, unwrap_or, optio
 ghost use Rattle.clap.specs.Faults.{fault_of};
 ghost use Rattle.clap.specs.Kinds.{FailsBy};
 ghost use Rattle.clap.specs.Walk.{first_of};
-ghost use Rattle.clap.specs.Words.{App, app_of, kind_of, rule_of, subcommand_name_of, subcommand_of};
+ghost use Rattle.clap.specs.Words.{App, app_of, kind_of, subcommand_name_of, subcommand_of};
 ghost use Rattle.clap.specs.Words.{subcommand_rows_of, with_subcommand};
 ghost use Rattle.std.specs.List.{AllByRecursion};
 ghost use Rattle.command_line.specs.CommandLine.{commands, base_command, check_command, first_commands};
@@ -14,10 +14,10 @@ ghost use Rattle.command_line.specs.CommandLine.{keys_commands, roster_command};
 ghost use Rattle.command_line.specs.Keys.{keys_names};
 ghost use Rattle.command_line.specs.Hosts.{hosts_names};
 ghost use Rattle.command_line.specs.CommandLine.{run_command};
-ghost use Rattle.command_line.specs.CommandLine.{asked_by, asked_in, file_argument, file_option, flag};
-ghost use Rattle.command_line.specs.CommandLine.{number_option};
+ghost use Rattle.command_line.specs.CommandLine.{asked_by, asked_in};
 ghost use Rattle.command_line.specs.CommandLine.{is_set, is_told, rows_in};
 
+use crate::arguments::{flag, place, with_rows, word};
 use crate::hosts::{
     AskRequest, GatewayRequest, ServerRequest, WitnessRequest, ask_command, gateway_command,
     hosts_request_in, server_command, status_command, stop_command, witness_command,
@@ -27,7 +27,7 @@ use crate::keys::{
 };
 use crate::serve::{ServeRequest, serve_command, serve_request};
 use clap::error::ErrorKind;
-use clap::{Arg, ArgAction, ArgMatches, Command, Error};
+use clap::{ArgMatches, Command, Error};
 use shown_names::VERSION;
 use std::alloc::{AllocError, Global};
 
@@ -148,106 +148,74 @@ const BASE_OUT_HELP: &str =
 const BASE_IN_HELP: &str =
     "Lets the first witness begin at the base in this file, which stands after a roster there";
 
-/// A file that must be named.
-fn file_argument<'a>(alloc: Global, help: &'a str) -> Arg<'a>
-    ensures rule { rule_of result ≡ file_argument }
-    ensures local { result.global ≡ false }
-{
-    Arg::new(alloc, "file")
-        .value_name("FILE")
-        .help(help)
-        .required(true)
-}
-
-/// A flag.
-pub(crate) fn flag<'a>(alloc: Global, name: &'a str, help: &'a str) -> Arg<'a>
-    ensures rule { rule_of result ≡ flag name.now }
-    ensures local { result.global ≡ false }
-{
-    Arg::new(alloc, name)
-        .long(name)
-        .help(help)
-        .action(ArgAction::SetTrue)
-}
-
-/// An option with the name of a file.
-fn file_option<'a>(alloc: Global, name: &'a str, help: &'a str) -> Arg<'a>
-    ensures rule { rule_of result ≡ file_option name.now }
-    ensures local { result.global ≡ false }
-{
-    Arg::new(alloc, name)
-        .long(name)
-        .value_name("FILE")
-        .help(help)
-}
-
-/// An option with what the names of files begin with.
-fn prefix_option<'a>(alloc: Global, name: &'a str, help: &'a str) -> Arg<'a>
-    ensures rule { rule_of result ≡ file_option name.now }
-    ensures local { result.global ≡ false }
-{
-    Arg::new(alloc, name)
-        .long(name)
-        .value_name("PREFIX")
-        .help(help)
-}
-
-/// An option with a number.
-fn number_option<'a>(alloc: Global, name: &'a str, value: &'a str, help: &'a str) -> Arg<'a>
-    ensures rule { rule_of result ≡ number_option name.now }
-    ensures local { result.global ≡ false }
-{
-    Arg::new(alloc, name)
-        .long(name)
-        .value_name(value)
-        .help(help)
-}
-
 /// The subcommand `check`.
 fn check_command<'a>(alloc: Global) -> Result<Command<'a>, AllocError>
     ensures { IfOk result (λ c. app_of c ≡ check_command) }
 {
-    Command::new(alloc, "check")
-        .about("Says whether a file is evidence that its roster accepts")
-        .after_help(CHECK_NOTES)
-        .arg(flag(alloc, "explain", "Says what the file shows, too"))?
-        .arg(flag(alloc, "entries", ENTRIES_HELP))?
-        .arg(number_option(alloc, "state", "K", STATE_HELP))?
-        .arg(flag(alloc, "json", "Says all of it as one JSON object"))?
-        .arg(file_option(alloc, "roster", TRUSTED_HELP))?
-        .arg(file_argument(alloc, CHECKED_HELP))
+    with_rows(
+        alloc,
+        Command::new(alloc, "check")
+            .about("Says whether a file is evidence that its roster accepts")
+            .after_help(CHECK_NOTES),
+        &[
+            flag("explain", "Says what the file shows, too"),
+            flag("entries", ENTRIES_HELP),
+            word("state", "K", STATE_HELP),
+            flag("json", "Says all of it as one JSON object"),
+            word("roster", "FILE", TRUSTED_HELP),
+            place("file", "FILE", CHECKED_HELP),
+        ],
+    )
 }
 
 /// The subcommand `roster`.
 fn roster_command<'a>(alloc: Global) -> Result<Command<'a>, AllocError>
     ensures { IfOk result (λ c. app_of c ≡ roster_command) }
 {
-    Command::new(alloc, "roster")
-        .about("Says whose keys a roster has, and the digest of its text")
-        .arg(file_argument(alloc, ROSTER_HELP))
+    with_rows(
+        alloc,
+        Command::new(alloc, "roster").about(
+            "Says whose keys a roster has, and the digest of its text",
+        ),
+        &[place("file", "FILE", ROSTER_HELP)],
+    )
 }
 
 /// The subcommand `base`.
 fn base_command<'a>(alloc: Global) -> Result<Command<'a>, AllocError>
     ensures { IfOk result (λ c. app_of c ≡ base_command) }
 {
-    Command::new(alloc, "base")
-        .about("Says whether a file has a base that is good under its roster")
-        .after_help(BASE_NOTES)
-        .arg(file_argument(alloc, BASE_HELP))
+    with_rows(
+        alloc,
+        Command::new(alloc, "base")
+            .about("Says whether a file has a base that is good under its roster")
+            .after_help(BASE_NOTES),
+        &[place("file", "FILE", BASE_HELP)],
+    )
 }
 
 /// The subcommand `run`.
 fn run_command<'a>(alloc: Global) -> Result<Command<'a>, AllocError>
     ensures { IfOk result (λ c. app_of c ≡ run_command) }
 {
-    Command::new(alloc, "run")
-        .about("Runs a script of nodes, lies, forks and audits; `-` reads it from standard input")
-        .after_help(RUN_EXAMPLE)
-        .arg(file_option(alloc, "roster-out", ROSTER_OUT_HELP))?
-        .arg(prefix_option(alloc, "base-out", BASE_OUT_HELP))?
-        .arg(file_option(alloc, "base", BASE_IN_HELP))?
-        .arg(file_argument(alloc, "The script; `-` reads it from standard input"))
+    with_rows(
+        alloc,
+        Command::new(alloc, "run")
+            .about(
+                "Runs a script of nodes, lies, forks and audits; `-` reads it from standard input",
+            )
+            .after_help(RUN_EXAMPLE),
+        &[
+            word("roster-out", "FILE", ROSTER_OUT_HELP),
+            word("base-out", "PREFIX", BASE_OUT_HELP),
+            word("base", "FILE", BASE_IN_HELP),
+            place(
+                "file",
+                "FILE",
+                "The script; `-` reads it from standard input",
+            ),
+        ],
+    )
 }
 
 /// A command with one subcommand more.

@@ -2,13 +2,13 @@
 
 ghost use Rattle.std.specs.Prelude.{◌≡◌, codes, IfOk, [], true, false, option_map, unwrap_or};
 ghost use Rattle.clap.specs.Walk.{first_of};
-ghost use Rattle.clap.specs.Words.{app_of, rule_of};
+ghost use Rattle.clap.specs.Words.{app_of};
 ghost use Rattle.command_line.specs.CommandLine.{is_set, is_told, rows_in};
-ghost use Rattle.command_line.specs.Serve.{needed_option, serve_command, serve_options, word_argument};
-ghost use Rattle.command_line.specs.Serve.{word_option};
+ghost use Rattle.command_line.specs.Serve.{serve_command};
 
-use crate::request::{flag, flag_of, text_of};
-use clap::{Arg, ArgMatches, Command};
+use crate::arguments::{flag, place, with_rows, word};
+use crate::request::{flag_of, text_of};
+use clap::{ArgMatches, Command};
 use std::alloc::{AllocError, Global};
 
 /// What `nfsacc serve` is asked, word by word. `serve_order` reads the numbers among them.
@@ -122,83 +122,32 @@ nobody but its owner may use it. A signal ends the run at once, and nobody is au
 
 Statuses: 0 done, 1 a fault in the input, 2 the command line, 3 no memory, 4 a device";
 
-/// An option with a word after it.
-pub(crate) fn word_option<'a>(
-    alloc: Global,
-    name: &'a str,
-    value: &'a str,
-    help: &'a str,
-) -> Arg<'a>
-    ensures rule { rule_of result ≡ word_option name.now }
-    ensures local { result.global ≡ false }
-{
-    Arg::new(alloc, name)
-        .long(name)
-        .value_name(value)
-        .help(help)
-}
-
-/// An option that must be given, with a word after it.
-pub(crate) fn needed_option<'a>(
-    alloc: Global,
-    name: &'a str,
-    value: &'a str,
-    help: &'a str,
-) -> Arg<'a>
-    ensures rule { rule_of result ≡ needed_option name.now }
-    ensures local { result.global ≡ false }
-{
-    Arg::new(alloc, name)
-        .long(name)
-        .value_name(value)
-        .help(help)
-        .required(true)
-}
-
-/// A word that must be given.
-pub(crate) fn word_argument<'a>(
-    alloc: Global,
-    name: &'a str,
-    value: &'a str,
-    help: &'a str,
-) -> Arg<'a>
-    ensures rule { rule_of result ≡ word_argument name.now }
-    ensures local { result.global ≡ false }
-{
-    Arg::new(alloc, name)
-        .value_name(value)
-        .help(help)
-        .required(true)
-}
-
-/// The options of `serve`.
-fn serve_options<'a>(alloc: Global) -> Result<Command<'a>, AllocError>
-    ensures { IfOk result (λ c. app_of c ≡ serve_options) }
-{
-    Command::new(alloc, "serve")
-        .about("Serves clients over TCP, and audits each of them")
-        .after_help(SERVE_HELP)
-        .arg(word_option(alloc, "address", "ADDRESS", ADDRESS_HELP))?
-        .arg(word_option(alloc, "server-height", "H", SERVER_HEIGHT_HELP))?
-        .arg(word_option(alloc, "client-height", "H", CLIENT_HEIGHT_HELP))?
-        .arg(word_option(alloc, "master", "FILE", MASTER_HELP))?
-        .arg(word_option(alloc, "roster-out", "FILE", ROSTER_OUT_HELP))?
-        .arg(word_option(alloc, "evidence", "DIR", EVIDENCE_HELP))?
-        .arg(word_option(alloc, "control", "DIR", CONTROL_HELP))?
-        .arg(word_option(alloc, "idle", "SECONDS", IDLE_HELP))?
-        .arg(word_option(alloc, "log-version", "V", LOG_VERSION_HELP))?
-        .arg(word_option(alloc, "base-out", "DIR", BASE_OUT_HELP))?
-        .arg(word_option(alloc, "check-every", "N", CHECK_EVERY_HELP))?
-        .arg(flag(alloc, "progress", PROGRESS_HELP))
-}
-
 /// The subcommand `serve`.
 pub(crate) fn serve_command<'a>(alloc: Global) -> Result<Command<'a>, AllocError>
     ensures { IfOk result (λ c. app_of c ≡ serve_command) }
 {
-    serve_options(alloc)?
-        .arg(word_argument(alloc, "port", "PORT", PORT_HELP))?
-        .arg(word_argument(alloc, "count", "COUNT", COUNT_HELP))
+    with_rows(
+        alloc,
+        Command::new(alloc, "serve")
+            .about("Serves clients over TCP, and audits each of them")
+            .after_help(SERVE_HELP),
+        &[
+            word("address", "ADDRESS", ADDRESS_HELP),
+            word("server-height", "H", SERVER_HEIGHT_HELP),
+            word("client-height", "H", CLIENT_HEIGHT_HELP),
+            word("master", "FILE", MASTER_HELP),
+            word("roster-out", "FILE", ROSTER_OUT_HELP),
+            word("evidence", "DIR", EVIDENCE_HELP),
+            word("control", "DIR", CONTROL_HELP),
+            word("idle", "SECONDS", IDLE_HELP),
+            word("log-version", "V", LOG_VERSION_HELP),
+            word("base-out", "DIR", BASE_OUT_HELP),
+            word("check-every", "N", CHECK_EVERY_HELP),
+            flag("progress", PROGRESS_HELP),
+            place("port", "PORT", PORT_HELP),
+            place("count", "COUNT", COUNT_HELP),
+        ],
+    )
 }
 
 /// What `serve` is asked.

@@ -1,25 +1,19 @@
-use Rattle.std.proofs.Common.{◌≡◌, ◌∙◌, ap₂, codes, rules}
+use Rattle.std.proofs.Common.{◌≡◌, ◌∙◌, ◌∷◌, ap₂, codes, refl, rules}
 use Rattle.std.proofs.lemmas.Result.{IfOk-weaker}
-use Rattle.clap.specs.Words.{app_of, new_app, with_rule}
-use Rattle.command_line.specs.Serve.{needed_option}
+use Rattle.clap.specs.Words.{app_of, new_app}
+use Rattle.command_line.specs.Arguments.{with_rules}
 use Rattle.command_line.proofs.keys.member_command.Goals as goal
 
--- step by step it is the command that the specification has
+-- row by row it is the command that the specification has
 pub returns : goal.returns
 returns c =
     let empty : app_of c.after_help.result ≡ new_app (codes "member") =
     search (rules, c.after_help.ensures, c.about.ensures, c.new.ensures.app) in
-    let with_secret : app_of c.in_ok-arg.field-0
-    ≡ with_rule (new_app (codes "member")) (needed_option (codes "secret")) =
-    c.in_ok-arg.ensures.shape (search rules) ∙ ap₂ with_rule empty c.needed_option.ensures.rule in
-    let with_node =
-    c.in_ok-arg-2.ensures.shape (search rules) ∙ ap₂ with_rule with_secret c.needed_option-2.ensures.rule in
-    let with_kind =
-    c.in_ok-arg-3.ensures.shape (search rules) ∙ ap₂ with_rule with_node c.needed_option-3.ensures.rule in
-    let with_height =
-    c.in_ok-arg-4.ensures.shape (search rules) ∙ ap₂ with_rule with_kind c.word_option.ensures.rule in
-    let with_epochs =
-    c.in_ok-arg-5.ensures.shape (search rules) ∙ ap₂ with_rule with_height c.word_option-2.ensures.rule in
-    IfOk-weaker c.arg-6.result _ _
-    (λ r added. added.shape (search rules)
-    ∙ ap₂ with_rule with_epochs c.word_option-3.ensures.rule) c.arg-6.ensures
+    let rows = ap₂ ◌∷◌ c.needed.ensures
+    (ap₂ ◌∷◌ c.needed-2.ensures
+    (ap₂ ◌∷◌ c.needed-3.ensures
+    (ap₂ ◌∷◌ c.word.ensures
+    (ap₂ ◌∷◌ c.word-2.ensures
+    (ap₂ ◌∷◌ c.word-3.ensures
+    refl))))) in
+    IfOk-weaker c.with_rows.result _ _ (λ r is. is ∙ ap₂ with_rules empty rows) c.with_rows.ensures

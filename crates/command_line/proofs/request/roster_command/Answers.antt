@@ -1,11 +1,14 @@
-use Rattle.std.proofs.Common.{◌≡◌, ◌∙◌, ap₂, codes, rules}
+use Rattle.std.proofs.Common.{◌≡◌, ◌∙◌, ◌∷◌, ap₂, codes, refl, rules}
 use Rattle.std.proofs.lemmas.Result.{IfOk-weaker}
-use Rattle.clap.specs.Words.{app_of, new_app, with_rule}
+use Rattle.clap.specs.Words.{app_of, new_app}
+use Rattle.command_line.specs.Arguments.{with_rules}
 use Rattle.command_line.proofs.request.roster_command.Goals as goal
 
--- step by step it is the command that the specification has
+-- row by row it is the command that the specification has
 pub returns : goal.returns
 returns c =
-    let empty : app_of c.about.result ≡ new_app (codes "roster") = search rules in
-    IfOk-weaker c.arg.result _ _
-    (λ r added. added.shape (search rules) ∙ ap₂ with_rule empty c.file_argument.ensures.rule) c.arg.ensures
+    let empty : app_of c.about.result ≡ new_app (codes "roster") =
+    search (rules, c.about.ensures, c.new.ensures.app) in
+    let rows = ap₂ ◌∷◌ c.place.ensures
+    refl in
+    IfOk-weaker c.with_rows.result _ _ (λ r is. is ∙ ap₂ with_rules empty rows) c.with_rows.ensures

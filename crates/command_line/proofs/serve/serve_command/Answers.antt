@@ -1,14 +1,27 @@
-use Rattle.std.proofs.Common.{◌≡◌, ◌∙◌, ap₂, codes, rules}
+use Rattle.std.proofs.Common.{◌≡◌, ◌∙◌, ◌∷◌, ap₂, codes, refl, rules}
 use Rattle.std.proofs.lemmas.Result.{IfOk-weaker}
-use Rattle.clap.specs.Words.{app_of, with_rule}
-use Rattle.command_line.specs.Serve.{serve_options, word_argument}
+use Rattle.clap.specs.Words.{app_of, new_app}
+use Rattle.command_line.specs.Arguments.{with_rules}
 use Rattle.command_line.proofs.serve.serve_command.Goals as goal
 
--- step by step it is the command that the specification has
+-- row by row it is the command that the specification has
 pub returns : goal.returns
 returns c =
-    let one : app_of c.in_ok-arg.field-0 ≡ with_rule serve_options (word_argument (codes "port")) =
-    c.in_ok-arg.ensures.shape (search rules)
-    ∙ ap₂ with_rule c.in_ok-serve_options.ensures c.word_argument.ensures.rule in
-    IfOk-weaker c.arg-2.result _ _
-    (λ r added. added.shape (search rules) ∙ ap₂ with_rule one c.word_argument-2.ensures.rule) c.arg-2.ensures
+    let empty : app_of c.after_help.result ≡ new_app (codes "serve") =
+    search (rules, c.after_help.ensures, c.about.ensures, c.new.ensures.app) in
+    let rows = ap₂ ◌∷◌ c.word.ensures
+    (ap₂ ◌∷◌ c.word-2.ensures
+    (ap₂ ◌∷◌ c.word-3.ensures
+    (ap₂ ◌∷◌ c.word-4.ensures
+    (ap₂ ◌∷◌ c.word-5.ensures
+    (ap₂ ◌∷◌ c.word-6.ensures
+    (ap₂ ◌∷◌ c.word-7.ensures
+    (ap₂ ◌∷◌ c.word-8.ensures
+    (ap₂ ◌∷◌ c.word-9.ensures
+    (ap₂ ◌∷◌ c.word-10.ensures
+    (ap₂ ◌∷◌ c.word-11.ensures
+    (ap₂ ◌∷◌ c.flag.ensures
+    (ap₂ ◌∷◌ c.place.ensures
+    (ap₂ ◌∷◌ c.place-2.ensures
+    refl))))))))))))) in
+    IfOk-weaker c.with_rows.result _ _ (λ r is. is ∙ ap₂ with_rules empty rows) c.with_rows.ensures
