@@ -257,7 +257,7 @@ def begun_below(hosts: Hosts, state: Path) -> tuple[Party, Party, Address, int]:
     way.off()
     way.on(late.address())
     wait_assured(hosts, state, way.address, lambda to: to == replies[0] - 1)
-    assert [number for number in replies if number < at]
+    assert replies[0] < at - 1
     return gateway, early, server.address(), at
 
 
@@ -270,7 +270,7 @@ def check_below_base(program: str):
         calls = log_of(server, hosts.roster()).calls
         numbers = {each.number + more for each in calls for more in (0, 2)}
         kept = state / 'below-base'
-        wanted = {f'epoch-1-node-1-{number}' for number in numbers if number < at}
+        wanted = {f'epoch-1-node-1-{number}' for number in numbers if number < at - 1}
         assert {each.name for each in kept.iterdir()} == wanted, (list(kept.iterdir()), wanted)
         caller = Caller(early.address(), WITNESS)
         for each in kept.iterdir():
