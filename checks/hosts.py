@@ -240,6 +240,52 @@ def check_late(program: str):
     print('a witness that begins late, at a base: its lines say from where')
 
 
+def begun_below(hosts: Hosts, state: Path) -> tuple[Party, Party, Address, int]:
+    """A gateway with five replies, the witness that it reported them to, the address at which it now finds one that began at
+    a base, and the number of that base."""
+    usual(hosts)
+    server = hosts.server('one', '--check-every', '2')
+    early = hosts.witness({1: server.address()})
+    way = hosts.keep(Switch(early.address()))
+    gateway = hosts.gateway('two', '2-2', server.address(), way.address, state=state)
+    connection = Connection(gateway.address()[1])
+    for _ in range(5):
+        assert connection.ask(ATTRIBUTES) == owed(ATTRIBUTES)
+    late = hosts.witness({1: server.address()}, '--join')
+    at = int(late.wait_for(FROM_BASE)[1])
+    replies = [each.number + 2 for each in log_of(server.address(), hosts.roster()).calls]
+    way.off()
+    way.on(late.address())
+    wait_assured(hosts, state, way.address, lambda to: to == replies[0] - 1)
+    assert replies[0] < at - 1
+    return gateway, early, server.address(), at
+
+
+def check_below_base(program: str):
+    """What a server signed below the base at which a witness began isn't assured by that witness. The gateway keeps it: each
+    in a file, a packet that another witness takes. Where it can't, one line says so."""
+    with Hosts(program) as hosts:
+        state = hosts.state('gateway')
+        gateway, early, server, at = begun_below(hosts, state)
+        calls = log_of(server, hosts.roster()).calls
+        numbers = {each.number + more for each in calls for more in (0, 2)}
+        kept = state / 'below-base'
+        wanted = {f'epoch-1-node-1-{number}' for number in numbers if number < at - 1}
+        assert {each.name for each in kept.iterdir()} == wanted, (list(kept.iterdir()), wanted)
+        caller = Caller(early.address(), WITNESS)
+        for each in kept.iterdir():
+            assert handed(caller, each.read_bytes()) in (0, 10), each
+        caller.close()
+        assert 'kept' not in gateway.said()
+    with Hosts(program) as hosts:
+        state = hosts.state('gateway')
+        (state / 'below-base').write_bytes(b'')
+        gateway, _, _, _ = begun_below(hosts, state)
+        said = re.findall(r"nfsacc: witness \S+: number \d+ is below its base, and isn't kept: ", gateway.said())
+        assert len(said) == 1, gateway.said()
+    print('a gateway keeps what a witness refuses that began at a base above it')
+
+
 def check_late_lie(program: str):
     """A server lies after the base at which a witness began. The evidence is taken under the roster."""
     with Hosts(program) as hosts:
@@ -1484,7 +1530,7 @@ def check_assured(program: str):
     print('a gateway says up to which reply each witness answers: not before it has taken what was signed, nor of a liar')
 
 
-CHECKS = [check_late, check_late_lie, check_meeting, check_bad_meetings, check_put_back, check_slow_readers, check_ask_many, check_server, check_strangers, check_assured, check_server_keys, check_three, check_rows, check_lie, check_fork, check_none, check_other_calls, check_suspected,
+CHECKS = [check_late, check_late_lie, check_below_base, check_meeting, check_bad_meetings, check_put_back, check_slow_readers, check_ask_many, check_server, check_strangers, check_assured, check_server_keys, check_three, check_rows, check_lie, check_fork, check_none, check_other_calls, check_suspected,
           check_other_witness, check_lives, check_second_roster, check_keys_used_up, check_ask,
           check_calls, check_breaks, check_garbage, check_same_call, check_in_flight, check_gateway_put_back, check_open_message, check_rough,
           check_round_trips, check_away, check_give_up, check_next_epoch, check_witness_epoch, check_witness_next_epoch,

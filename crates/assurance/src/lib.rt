@@ -2,5 +2,16 @@
 #![tactic(auto)]
 
 mod assured;
+mod exchanges;
+mod keeper;
+mod learned;
+mod link;
+mod replies;
+mod shown;
 
 pub use assured::Assurance;
+pub use exchanges::{Exchanges, Seen};
+pub use keeper::Keeper;
+pub use learned::Learned;
+pub use link::{LinkFault, Told, WitnessLink};
+pub use shown::ShownOf;

@@ -4,19 +4,18 @@
 mod cause;
 mod context;
 mod desk;
-mod learned;
 mod local_programs;
 mod local_stream;
 mod news;
 mod own_log;
 mod receipts;
-mod replies;
 mod reporter;
 mod run;
 mod status;
 mod tcp_courier;
 mod trouble;
 mod watch;
+mod witness_caller;
 mod witness_peer;
 
 pub use run::{Ending, GatewayOrder, run_gateway};

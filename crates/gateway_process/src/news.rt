@@ -2,6 +2,7 @@
 
 ghost use Rattle.std.specs.Prelude.{◌≡◌, drop};
 
+use assurance::ShownOf;
 use authenticator::{Authenticator, Word};
 use envelopes::{Envelope, EnvelopeRef};
 use nodes::ClientNode;
@@ -28,19 +29,10 @@ pub(crate) struct Progress {
     pub(crate) unanswered: usize,
 }
 
-/// What a server signed, as an entry of its client's log shows it.
-#[derive(Clone, Copy)]
-pub(crate) enum ShownOf {
-    /// The acknowledgement of a call by this node, which has the call with this number in its log.
-    Receipt { by: u32, number: u64 },
-    /// A message of this node, with this number in its log: a reply, if it is the server that is called.
-    Reply { from: u32, number: u64 },
-}
-
-/// A packet that shows what a server signed.
+/// What a node signed, as an entry of its client's log shows it.
 #[derive(Drop)]
 pub(crate) struct Shown {
-    pub(crate) packet: Vec<u8>,
+    pub(crate) signed: Authenticator,
     pub(crate) of: ShownOf,
     /// How many entries stand before the one that shows it.
     pub(crate) before: usize,
@@ -121,22 +113,15 @@ fn add_shown(
     entry: &Entry,
     shown: &mut Vec<Shown>,
 ) -> Result<(), AllocError> {
-    let Some(authenticator) = shown_by(alloc, client, entry)? else {
+    let Some(signed) = shown_by(alloc, client, entry)? else {
         return Ok(());
     };
+    let number = number_of(client, signed.node, signed.word);
     let of = match entry {
-        Entry::Recv { from, seq, .. } => ShownOf::Reply {
-            from: *from,
-            number: number_of(client, *from, *seq),
-        },
-        _ => ShownOf::Receipt {
-            by: authenticator.node,
-            number: number_of(client, authenticator.node, authenticator.word),
-        },
+        Entry::Recv { .. } => ShownOf::Reply { number },
+        _ => ShownOf::Receipt { number },
     };
-    let mut packet = Vec::new(alloc);
-    write_learn(&authenticator, &mut packet)?;
-    shown.push(Shown { packet, of, before })?;
+    shown.push(Shown { signed, of, before })?;
     Ok(())
 }
 

@@ -4,6 +4,7 @@ use crate::context::{Context, Shared};
 use crate::run::Ending;
 use crate::trouble::{Trouble, spelled_digest};
 use crate::witness_peer::WitnessPeer;
+use assurance::Keeper;
 use peer_connections::Phase;
 use std::alloc::{AllocError, Global};
 use std::io::Write;
@@ -21,31 +22,35 @@ const KEYS_OF_A_CALL: u32 = 2;
 
 /// Reports to witnesses.
 #[derive(Drop)]
-pub(crate) struct Reporter {
+pub(crate) struct Reporter<K> {
     witnesses: Vec<WitnessPeer>,
     /// How many seconds pass between two reports.
     every: u32,
     /// How many messages that witnesses ask for may still be received.
     reserve: u32,
+    /// Who keeps what a witness refuses as below its base.
+    keeper: K,
 }
 
-impl Reporter {
+impl<K: Keeper + Drop> Reporter<K> {
     /// Reports to witnesses at these addresses, every so many seconds. At most `reserve` messages are received for
-    /// them.
+    /// them. What one refuses as below its base goes to the keeper.
     pub(crate) fn new(
         alloc: Global,
         addresses: Vec<String>,
         every: u32,
         reserve: u32,
-    ) -> Result<Reporter, AllocError> {
+        keeper: K,
+    ) -> Result<Reporter<K>, AllocError> {
         let mut witnesses = Vec::new(alloc);
         for address in addresses {
-            witnesses.push(WitnessPeer::new(alloc, address))?;
+            witnesses.push(WitnessPeer::new(address))?;
         }
         Ok(Reporter {
             witnesses,
             every,
             reserve,
+            keeper,
         })
     }
 
@@ -75,7 +80,7 @@ impl Reporter {
         E: Write,
     {
         for witness in &mut self.witnesses {
-            report_to(shared, witness, &mut self.reserve);
+            report_to(shared, witness, &mut self.reserve, &mut self.keeper);
         }
     }
 }
@@ -117,18 +122,20 @@ where
 }
 
 /// Reports to a witness, and says what goes wrong; and which replies it answers for, where that is to be said.
-fn report_to<R, T, W, E>(
+fn report_to<R, T, W, E, K>(
     shared: Shared<'_, R, T, W, E>,
     witness: &mut WitnessPeer,
     reserve: &mut u32,
+    keeper: &mut K,
 )
 where
     R: Wait + Net<Listener = TcpListener, Stream = TcpStream>,
     T: std::time::Clock,
     W: Write,
     E: Write,
+    K: Keeper,
 {
-    let Err(trouble) = witness.report(shared, reserve) else {
+    let Err(trouble) = witness.report(shared, reserve, keeper) else {
         witness.has_failed = false;
         if shared.context.progress {
             witness.say_progress(shared.context);

@@ -6,6 +6,7 @@ use crate::local_programs::serve_program;
 use crate::reporter::Reporter;
 use crate::status::GatewayTeller;
 use crate::tcp_courier::TcpCourier;
+use assurance::Keeper;
 use nodes::ClientNode;
 use peer_calls::Greeting;
 use peer_connections::{Accepting, Commands, Output, Phase, attend};
@@ -22,7 +23,7 @@ const WAYS: usize = 4;
 
 /// What a gateway serves.
 #[derive(Drop)]
-pub struct GatewayOrder<'a, L> {
+pub struct GatewayOrder<'a, L, K> {
     /// The node, with its keys.
     pub client: ClientNode,
     /// The digest of its roster's text.
@@ -44,6 +45,8 @@ pub struct GatewayOrder<'a, L> {
     /// Whether a line says, after a report, up to which number the witness answers for the replies, where that has
     /// changed.
     pub progress: bool,
+    /// Who keeps what the server signed and a witness never takes, since it began at a base above it.
+    pub keeper: K,
     /// Where local programs connect.
     pub listener: L,
     /// Where the process can be told to stop, and asked how it is.
@@ -66,11 +69,11 @@ pub enum Ending {
 /// Serves local programs until the process is told to stop, keys are used up, or the server is found to go by another
 /// roster: then the calls in hand are answered first, and witnesses get a last report. Lines go to the output. Gives
 /// why it ended.
-pub fn run_gateway<'a, R, T, L, W, E>(
+pub fn run_gateway<'a, R, T, L, W, E, K>(
     rt: &'a R,
     alloc: Global,
     clock: &'a T,
-    order: GatewayOrder<'a, L>,
+    order: GatewayOrder<'a, L, K>,
     output: &'a Mutex<Output<W, E>>,
 ) -> Ending
 where
@@ -79,6 +82,7 @@ where
     L: OpenListener<Stream = TcpStream> + Drop + Sync,
     W: Write + Send,
     E: Write + Send,
+    K: Keeper + Drop + Send,
 {
     let phase = Mutex::new(Phase::Serving);
     let ending = Mutex::new(Ending::Stopped);
@@ -120,13 +124,17 @@ fn end_of<R: Wait>(rt: &R, phase: &Mutex<Phase>, ending: &Mutex<Ending>) -> Endi
 
 /// Reports, so that no call is begun with a log that was put back, and serves what is ordered until the process is to
 /// end.
-fn serve_order<'a, R, T, L, W, E>(context: Context<'a, R, T, W, E>, order: GatewayOrder<'a, L>)
+fn serve_order<'a, R, T, L, W, E, K>(
+    context: Context<'a, R, T, W, E>,
+    order: GatewayOrder<'a, L, K>,
+)
 where
     R: Threads + Wait + Sync + Net<Listener = TcpListener, Stream = TcpStream>,
     T: std::time::Clock + Sync,
     L: OpenListener<Stream = TcpStream> + Drop + Sync,
     W: Write + Send,
     E: Write + Send,
+    K: Keeper + Drop + Send,
 {
     let GatewayOrder {
         client,
@@ -135,6 +143,7 @@ where
         witnesses,
         every,
         reserve,
+        keeper,
         listener,
         control,
         ..
@@ -148,7 +157,7 @@ where
     };
     let client = Mutex::new(client);
     let (Ok(reporter), Ok(ways)) = (
-        Reporter::new(alloc, witnesses, every, reserve),
+        Reporter::new(alloc, witnesses, every, reserve, keeper),
         ways_to(context, &client, address),
     ) else {
         context.say(format!(in alloc; "nfsacc: out of memory\n"));
@@ -190,11 +199,11 @@ fn ways_to<'a, R, T, W, E>(
 }
 
 /// Serves until the process is to end and all connections have ended, and reports for the last time.
-fn serve_until_end<'s, R, T, L, W, E, C>(
+fn serve_until_end<'s, R, T, L, W, E, C, K>(
     context: Context<'s, R, T, W, E>,
     client: &'s Mutex<SharedClient>,
     ways: &'s [Mutex<C>],
-    reporter: &'s Mutex<Reporter>,
+    reporter: &'s Mutex<Reporter<K>>,
     listener: &'s L,
     control: Option<Commands<'s>>,
 )
@@ -205,6 +214,7 @@ where
     W: Write + Send,
     E: Write + Send,
     C: Courier + Drop + Send,
+    K: Keeper + Drop + Send,
 {
     let shared = Shared { context, client };
     let serving = Serving { shared, ways };
@@ -224,10 +234,10 @@ where
 }
 
 /// Starts the threads, and accepts local programs until the process is to end.
-fn run_threads<'s, V, R, T, L, W, E, C>(
+fn run_threads<'s, V, R, T, L, W, E, C, K>(
     serving: Serving<'s, R, T, W, E, C>,
     accepting: Accepting<'s, R, T, L, W, E>,
-    reporter: &'s Mutex<Reporter>,
+    reporter: &'s Mutex<Reporter<K>>,
     control: Option<Commands<'s>>,
     scope: &Scope<'s, V>,
 )
@@ -238,6 +248,7 @@ where
     W: Write + Send,
     E: Write + Send,
     C: Courier + Drop + Send,
+    K: Keeper + Drop + Send,
 {
     let shared = serving.shared;
     if let Some(control) = control {
@@ -269,9 +280,9 @@ where
 }
 
 /// Starts the thread that reports to witnesses.
-fn start_reports<'s, V, R, T, W, E>(
+fn start_reports<'s, V, R, T, W, E, K>(
     shared: Shared<'s, R, T, W, E>,
-    reporter: &'s Mutex<Reporter>,
+    reporter: &'s Mutex<Reporter<K>>,
     scope: &Scope<'s, V>,
 )
 where
@@ -279,18 +290,20 @@ where
     T: std::time::Clock + Sync,
     W: Write + Send,
     E: Write + Send,
+    K: Keeper + Drop + Send,
 {
     let run = move || report_until_end(shared, reporter);
     let _ = scope.spawn(run);
 }
 
 /// Reports to witnesses until the process no longer serves.
-fn report_until_end<R, T, W, E>(shared: Shared<'_, R, T, W, E>, reporter: &Mutex<Reporter>)
+fn report_until_end<R, T, W, E, K>(shared: Shared<'_, R, T, W, E>, reporter: &Mutex<Reporter<K>>)
 where
     R: Wait + Net<Listener = TcpListener, Stream = TcpStream>,
     T: std::time::Clock,
     W: Write,
     E: Write,
+    K: Keeper + Drop,
 {
     reporter.lock(shared.context.rt).run(shared);
 }

@@ -1,5 +1,6 @@
 //! Why a server or a witness gave no answer.
 
+use assurance::LinkFault;
 use peer_calls::{Greeted, ResultsFault, read_greeted};
 use peer_connections::CallFault;
 use std::alloc::{AllocError, Global};
@@ -54,6 +55,17 @@ impl From<CallFault> for Trouble {
             CallFault::NoMemory => Trouble::NoMemory,
             CallFault::Broken => Trouble::Broken,
             CallFault::NoSuccess => Trouble::Garbage,
+        }
+    }
+}
+
+impl From<LinkFault> for Trouble {
+    fn from(fault: LinkFault) -> Trouble {
+        match fault {
+            LinkFault::NoMemory => Trouble::NoMemory,
+            LinkFault::Broken => Trouble::Broken,
+            LinkFault::Garbage => Trouble::Garbage,
+            LinkFault::OtherRoster(digest) => Trouble::OtherRoster(digest),
         }
     }
 }

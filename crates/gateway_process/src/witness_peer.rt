@@ -2,45 +2,24 @@
 
 use crate::context::{Context, Shared};
 use crate::desk::{Assured, AssuredTo};
-use crate::learned::{Learned, said_by};
 use crate::news::{
     News, Progress, Shown, ack_packet, news_since, receipt_packet, replies_after, segment_packet,
 };
-use crate::replies::Replies;
-use crate::trouble::{Trouble, check_greeted};
+use crate::trouble::Trouble;
+use crate::witness_caller::WitnessCaller;
+use assurance::{Exchanges, Keeper, Learned};
 use authenticator::Authenticator;
-use peer_calls::{
-    NodeNumber, Numbers, ResultNumber, Told as NodeTold, Wanted, WantedMessage, WitnessRequest,
-    read_signed,
-};
-use peer_connections::PeerCaller;
+use peer_calls::{Numbers, WantedMessage};
 use remote_sharing::{AcceptFault, SharedClient};
-use std::alloc::{AllocError, Global};
+use std::alloc::Global;
+use std::io;
 use std::io::Write;
 use std::net::{Net, TcpListener, TcpStream};
 use std::sync::{MutexGuard, Wait};
 use std::time::Duration;
-use xdr::texts::read_text;
-
-/// The most bytes of the answer to GREET, to DELIVER and to WANTED.
-const MOST_GREETED: u32 = 60;
-
-const MOST_DELIVERED: u32 = 28;
-
-const MOST_WANTED: u32 = 468_016;
-
-const MOST_TOLD: u32 = 48;
-
-/// The most bytes of the answer to SHOWN.
-const MOST_SHOWN: u32 = 16_980;
 
 /// How many times news is handed to a witness in one report.
 const MOST_ROUNDS: u32 = 16;
-
-/// What it says of a node that it trusts, suspects or calls exposed.
-const TRUSTED: u32 = 1;
-
-const EXPOSED: u32 = 3;
 
 /// How many milliseconds pass between two looks whether the client has no call in flight, and how many looks there are.
 const LOOK: u64 = 2;
@@ -52,123 +31,49 @@ const LOOKS: u32 = 500;
 pub(crate) struct WitnessPeer {
     /// Where it listens, as HOST:PORT.
     address: String,
-    caller: Option<PeerCaller>,
-    /// How far it was told.
-    progress: Progress,
-    /// Which replies it answers for.
-    replies: Replies,
-    /// After how many entries of the client's log replies weren't counted yet that were handed out.
-    counted: usize,
+    connection: Option<Connection>,
+    /// How many of the client's unanswered calls were told. They stay told.
+    unanswered: usize,
     /// Which replies it answers for, as it was said last, if it was.
     said: Option<AssuredTo>,
     /// Whether the last report to it has failed.
     pub(crate) has_failed: bool,
 }
 
-impl WitnessPeer {
-    /// A witness that was told nothing. Doesn't connect.
-    pub(crate) fn new(alloc: Global, address: String) -> WitnessPeer {
-        WitnessPeer {
-            address,
-            caller: None,
+/// A connection to a witness, and how far it was told over it. A witness that was begun anew has taken nothing, and by its
+/// connection it can't be told from one that has: so each connection begins with nothing.
+#[derive(Drop)]
+struct Connection {
+    /// What passes over it.
+    exchanges: Exchanges<WitnessCaller>,
+    progress: Progress,
+    /// After how many entries of the client's log replies weren't counted yet that were handed out.
+    counted: usize,
+    /// Whether it was said that something isn't kept.
+    is_unkept_said: bool,
+}
+
+impl Connection {
+    /// One over which nothing was told. So many calls were told before.
+    fn new(exchanges: Exchanges<WitnessCaller>, unanswered: usize) -> Connection {
+        Connection {
+            exchanges,
             progress: Progress {
                 entries: 0,
                 own: 0,
-                unanswered: 0,
+                unanswered,
             },
-            replies: Replies::new(alloc),
             counted: 0,
-            said: None,
-            has_failed: false,
+            is_unkept_said: false,
         }
     }
 
-    /// Where it listens.
-    pub(crate) fn address(&self) -> &str {
-        self.address.as_str()
-    }
-
-    /// Reports what is new to it, and gives what it awaits of the gateway's node: a segment of the log, and
-    /// acknowledgements. For these at most so many messages are received, and they become fewer.
-    pub(crate) fn report<R, T, W, E>(
-        &mut self,
-        shared: Shared<'_, R, T, W, E>,
-        reserve: &mut u32,
-    ) -> Result<(), Trouble>
-    where
-        R: Wait + Net<Listener = TcpListener, Stream = TcpStream>,
-        T: std::time::Clock,
-        W: Write,
-        E: Write,
-    {
-        let alloc = shared.context.alloc;
-        let mut caller = self.connection(shared)?;
-        self.hand_news(shared, &mut caller)?;
-        self.ask_about_server(&mut caller, shared)?;
-        let wanted = ask_wanted(alloc, &mut caller, shared.context.greeting.node)?;
-        if let Some(numbers) = wanted.audit {
-            if let Some(packet) = shared.segment(numbers)? {
-                let _taken = hand(alloc, &mut caller, &packet)?;
-            }
-        }
-        for message in wanted.messages {
-            if let Some(packet) = shared.acknowledgement(message, reserve)? {
-                let _taken = hand(alloc, &mut caller, &packet)?;
-            }
-        }
-        self.caller = Some(caller);
-        Ok(())
-    }
-
-    /// Hands it what is new, until it has all or has no room for more.
-    fn hand_news<R, T, W, E>(
-        &mut self,
-        shared: Shared<'_, R, T, W, E>,
-        caller: &mut PeerCaller,
-    ) -> Result<(), Trouble>
-    where
-        R: Wait,
-        T: std::time::Clock,
-        W: Write,
-        E: Write,
-    {
-        let Context { alloc, server, .. } = shared.context;
-        for _ in 0..MOST_ROUNDS {
-            let news = shared.news(self.progress)?;
-            self.count_replies(shared)?;
-            hand_all(alloc, caller, &news.packets)?;
-            let left = self.show_all(alloc, server, caller, &news.shown)?;
-            self.progress = news.progress;
-            if let Some(before) = left {
-                self.progress.entries = before;
-                return Ok(());
-            }
-            if news.is_all {
-                return Ok(());
-            }
+    /// Hands it packets, one after the other.
+    fn hand_all(&mut self, packets: &[Vec<u8>]) -> Result<(), Trouble> {
+        for packet in packets {
+            let _taken = self.exchanges.hand(packet)?;
         }
         Ok(())
-    }
-
-    /// Shows it what the server signed, in order, until it has no room: then so many entries stand before what it is
-    /// to be shown again.
-    fn show_all(
-        &mut self,
-        alloc: Global,
-        server: u32,
-        caller: &mut PeerCaller,
-        all: &[Shown],
-    ) -> Result<Option<usize>, Trouble> {
-        for shown in all {
-            let learned = said_by(hand(alloc, caller, &shown.packet)?);
-            if learned == Learned::NoRoom {
-                return Ok(Some(shown.before));
-            }
-            if learned == Learned::Taken {
-                self.replies.note_taken(server, shown.of)?;
-            }
-        }
-        Ok(None)
     }
 
     /// Counts the replies that were handed out since they were counted last.
@@ -181,17 +86,185 @@ impl WitnessPeer {
     {
         let (numbers, entries) = shared.replies(self.counted)?;
         for number in numbers {
-            self.replies.assurance.hand_out(number)?;
+            self.exchanges.hand_out(number)?;
         }
         self.counted = entries;
         Ok(())
     }
 
+    /// Gives it what it awaits of the gateway's node: a segment of the log, and acknowledgements. For these at most so many
+    /// messages are received, and they become fewer.
+    fn give_wanted<R, T, W, E>(
+        &mut self,
+        shared: Shared<'_, R, T, W, E>,
+        reserve: &mut u32,
+    ) -> Result<(), Trouble>
+    where
+        R: Wait,
+        T: std::time::Clock,
+        W: Write,
+        E: Write,
+    {
+        let wanted = self.exchanges.wanted()?;
+        if let Some(numbers) = wanted.audit {
+            if let Some(packet) = shared.segment(numbers)? {
+                let _taken = self.exchanges.hand(&packet)?;
+            }
+        }
+        for message in wanted.messages {
+            if let Some(packet) = shared.acknowledgement(message, reserve)? {
+                let _taken = self.exchanges.hand(&packet)?;
+            }
+        }
+        Ok(())
+    }
+}
+
+impl WitnessPeer {
+    /// A witness that was told nothing. Doesn't connect.
+    pub(crate) fn new(address: String) -> WitnessPeer {
+        WitnessPeer {
+            address,
+            connection: None,
+            unanswered: 0,
+            said: None,
+            has_failed: false,
+        }
+    }
+
+    /// Where it listens.
+    pub(crate) fn address(&self) -> &str {
+        self.address.as_str()
+    }
+
+    /// Reports what is new to it, and gives what it awaits of the gateway's node. For that at most so many messages are
+    /// received, and they become fewer. What it refuses as below its base goes to the keeper.
+    pub(crate) fn report<R, T, W, E, K>(
+        &mut self,
+        shared: Shared<'_, R, T, W, E>,
+        reserve: &mut u32,
+        keeper: &mut K,
+    ) -> Result<(), Trouble>
+    where
+        R: Wait + Net<Listener = TcpListener, Stream = TcpStream>,
+        T: std::time::Clock,
+        W: Write,
+        E: Write,
+        K: Keeper,
+    {
+        let mut connection = self.connection(shared)?;
+        self.report_over(shared, reserve, keeper, &mut connection)?;
+        self.connection = Some(connection);
+        Ok(())
+    }
+
+    /// Reports over a connection.
+    fn report_over<R, T, W, E, K>(
+        &mut self,
+        shared: Shared<'_, R, T, W, E>,
+        reserve: &mut u32,
+        keeper: &mut K,
+        connection: &mut Connection,
+    ) -> Result<(), Trouble>
+    where
+        R: Wait,
+        T: std::time::Clock,
+        W: Write,
+        E: Write,
+        K: Keeper,
+    {
+        self.hand_news(shared, keeper, connection)?;
+        self.ask_about_server(shared, connection)?;
+        connection.give_wanted(shared, reserve)
+    }
+
+    /// Hands it what is new, until it has all or has no room for more.
+    fn hand_news<R, T, W, E, K>(
+        &mut self,
+        shared: Shared<'_, R, T, W, E>,
+        keeper: &mut K,
+        connection: &mut Connection,
+    ) -> Result<(), Trouble>
+    where
+        R: Wait,
+        T: std::time::Clock,
+        W: Write,
+        E: Write,
+        K: Keeper,
+    {
+        for _ in 0..MOST_ROUNDS {
+            let news = shared.news(connection.progress)?;
+            connection.count_replies(shared)?;
+            connection.hand_all(&news.packets)?;
+            let left = self.show_all(shared.context, keeper, connection, &news.shown)?;
+            connection.progress = news.progress;
+            self.unanswered = news.progress.unanswered;
+            if let Some(before) = left {
+                connection.progress.entries = before;
+                return Ok(());
+            }
+            if news.is_all {
+                return Ok(());
+            }
+        }
+        Ok(())
+    }
+
+    /// Shows it what the server signed, in order, until it has no room: then so many entries stand before what it is
+    /// to be shown again.
+    fn show_all<R, T, W, E, K>(
+        &self,
+        context: Context<'_, R, T, W, E>,
+        keeper: &mut K,
+        connection: &mut Connection,
+        all: &[Shown],
+    ) -> Result<Option<usize>, Trouble>
+    where
+        R: Wait,
+        W: Write,
+        E: Write,
+        K: Keeper,
+    {
+        for shown in all {
+            let seen = connection.exchanges.show(keeper, &shown.signed, shown.of)?;
+            if seen.says == Learned::NoRoom {
+                return Ok(Some(shown.before));
+            }
+            if let Some(error) = seen.unkept {
+                self.say_unkept(context, connection, shown, error);
+            }
+        }
+        Ok(None)
+    }
+
+    /// Says that what the server signed isn't kept, once for a connection.
+    fn say_unkept<R, T, W, E>(
+        &self,
+        context: Context<'_, R, T, W, E>,
+        connection: &mut Connection,
+        shown: &Shown,
+        error: io::Error,
+    )
+    where
+        R: Wait,
+        W: Write,
+        E: Write,
+    {
+        if connection.is_unkept_said {
+            return;
+        }
+        connection.is_unkept_said = true;
+        let (alloc, address, number) = (context.alloc, self.address(), shown.of.number());
+        context.say(format!(in alloc;
+            "nfsacc: witness {address}: number {number} is below its base, and isn't kept: {error}\n"
+        ));
+    }
+
     /// Asks what it says of the server, and notes up to which number it answers for the replies.
     fn ask_about_server<R, T, W, E>(
-        &mut self,
-        caller: &mut PeerCaller,
+        &self,
         shared: Shared<'_, R, T, W, E>,
+        connection: &mut Connection,
     ) -> Result<(), Trouble>
     where
         R: Wait,
@@ -202,29 +275,24 @@ impl WitnessPeer {
         let Context {
             rt,
             alloc,
-            server,
             desk,
             ..
         } = shared.context;
-        self.replies.assurance.ask();
-        let told = ask_told(alloc, caller, server)?;
-        if told.standing < TRUSTED || told.standing > EXPOSED {
-            return Err(Trouble::Garbage);
-        }
-        self.replies
-            .assurance
-            .tell(told.standing == EXPOSED, told.end);
-        self.count_replies(shared)?;
+        connection.exchanges.ask()?;
+        connection.count_replies(shared)?;
         let assured = Assured {
             address: String::from_str(alloc, self.address.as_str())?,
-            to: self.assured(),
+            to: AssuredTo(connection.exchanges.assured()),
         };
         Ok(desk.lock(rt).note_assured(assured)?)
     }
 
-    /// Up to which number it answers for the replies.
+    /// Up to which number it answers for the replies, by its connection.
     fn assured(&self) -> AssuredTo {
-        AssuredTo(self.replies.assurance.assured())
+        match &self.connection {
+            Some(connection) => AssuredTo(connection.exchanges.assured()),
+            None => AssuredTo(None),
+        }
     }
 
     /// Says up to which number it answers for the replies, where that isn't what was said last.
@@ -246,87 +314,45 @@ impl WitnessPeer {
     fn connection<R, T, W, E>(
         &mut self,
         shared: Shared<'_, R, T, W, E>,
-    ) -> Result<PeerCaller, Trouble>
+    ) -> Result<Connection, Trouble>
     where
         R: Wait + Net<Listener = TcpListener, Stream = TcpStream>,
         T: std::time::Clock,
         W: Write,
         E: Write,
     {
-        let context = shared.context;
-        if let Some(caller) = self.caller.take() {
-            return Ok(caller);
+        match self.connection.take() {
+            Some(connection) => Ok(connection),
+            None => self.connect(shared),
         }
-        let mut caller = match PeerCaller::connect(
-            context.rt,
-            context.alloc,
-            self.address.as_str(),
-        ) {
+    }
+
+    /// A new connection, once the witness greets with the gateway's roster, and knows of nothing that the client signed and
+    /// its log lacks.
+    fn connect<R, T, W, E>(&self, shared: Shared<'_, R, T, W, E>) -> Result<Connection, Trouble>
+    where
+        R: Wait + Net<Listener = TcpListener, Stream = TcpStream>,
+        T: std::time::Clock,
+        W: Write,
+        E: Write,
+    {
+        let Context {
+            rt,
+            alloc,
+            greeting,
+            server,
+            ..
+        } = shared.context;
+        let caller = match WitnessCaller::connect(rt, alloc, self.address(), greeting) {
             Ok(caller) => caller,
             Err(error) => return Err(Trouble::Unreached(error)),
         };
-        let answer = caller.ask_witness(&WitnessRequest::Greet(context.greeting), MOST_GREETED)?;
-        check_greeted(context.alloc, answer.results())?;
-        if let Some(shown) = ask_shown(context.alloc, &mut caller, context.greeting.node)? {
+        let mut exchanges = Exchanges::begin(alloc, caller, server)?;
+        if let Some(shown) = exchanges.own()? {
             shared.check_own(&shown)?;
         }
-        self.begin_again(context.alloc);
-        Ok(caller)
+        Ok(Connection::new(exchanges, self.unanswered))
     }
-
-    /// Nothing was told over this connection: a witness that was begun anew has taken nothing, and by its connection
-    /// it can't be told from one that has. Calls that were told stay told.
-    fn begin_again(&mut self, alloc: Global) {
-        self.progress = Progress {
-            entries: 0,
-            own: 0,
-            unanswered: self.progress.unanswered,
-        };
-        self.replies = Replies::new(alloc);
-        self.counted = 0;
-    }
-}
-
-/// Hands a witness packets, one after the other.
-fn hand_all(alloc: Global, caller: &mut PeerCaller, packets: &[Vec<u8>]) -> Result<(), Trouble> {
-    for packet in packets {
-        let _taken = hand(alloc, caller, packet)?;
-    }
-    Ok(())
-}
-
-/// Hands a witness a packet: the number by which it says whether it takes it.
-fn hand(alloc: Global, caller: &mut PeerCaller, packet: &[u8]) -> Result<u32, Trouble> {
-    let answer = caller.ask_witness(&WitnessRequest::Deliver(packet), MOST_DELIVERED)?;
-    Ok(read_text::<ResultNumber>(alloc, answer.results())?.number)
-}
-
-/// What a witness says of a node.
-fn ask_told(alloc: Global, caller: &mut PeerCaller, node: u32) -> Result<NodeTold, Trouble> {
-    let request = WitnessRequest::Told(NodeNumber { node });
-    let answer = caller.ask_witness(&request, MOST_TOLD)?;
-    Ok(read_text::<NodeTold>(alloc, answer.results())?)
-}
-
-/// What a node showed a witness last, if it showed something.
-fn ask_shown(
-    alloc: Global,
-    caller: &mut PeerCaller,
-    node: u32,
-) -> Result<Option<Authenticator>, Trouble> {
-    let request = WitnessRequest::Shown(NodeNumber { node });
-    let answer = caller.ask_witness(&request, MOST_SHOWN)?;
-    match read_signed(answer.results())? {
-        Some(text) => Ok(Some(read_text::<Authenticator>(alloc, text)?)),
-        None => Ok(None),
-    }
-}
-
-/// What a witness awaits of a node.
-fn ask_wanted(alloc: Global, caller: &mut PeerCaller, node: u32) -> Result<Wanted, Trouble> {
-    let request = WitnessRequest::Wanted(NodeNumber { node });
-    let answer = caller.ask_witness(&request, MOST_WANTED)?;
-    Ok(read_text::<Wanted>(alloc, answer.results())?)
 }
 
 /// What is made for a witness of the client's log.

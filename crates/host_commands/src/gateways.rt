@@ -2,6 +2,7 @@
 
 ghost use Rattle.std.specs.Prelude.{◌≡◌};
 
+use crate::below_base::BelowBase;
 use crate::greeting::{Side, common_roster, connect};
 use crate::opening::{
     Held, commands_at, hold, keys_of, listen, open_control, open_output, place_of,
@@ -106,6 +107,7 @@ where
         reserve: order.reserve,
         give_up: order.give_up.map(u64::from),
         progress: order.progress,
+        keeper: BelowBase::new(rt, order.state, of.epoch),
         listener,
         control: Some(commands),
     };

@@ -3,6 +3,7 @@
 
 mod ask;
 mod assured;
+mod below_base;
 mod cases;
 mod control;
 mod findings;

@@ -78,6 +78,21 @@ impl<'a, R: Files + RandomSource> FileShelf<'a, R> {
         sync_folder_of(self.runtime, name)
     }
 
+    /// Puts a new file of this mode where none is. Once this is done it is on the disk, whole, and so is its name.
+    /// `AlreadyExists` comes where something is there, which stays as it is. After another error there is no file of that
+    /// name, unless only the name couldn't reach the disk.
+    pub fn put_new(&self, name: &str, bytes: &[u8], mode: u32) -> io::Result<()> {
+        let mut new = self.new_file_beside(name)?;
+        let put = write_durably(&mut new.file, bytes, mode).and_then(|()| fs::hard_link(
+            self.runtime,
+            new.name.as_str(),
+            name,
+        ));
+        let _ = fs::remove_file(self.runtime, new.name.as_str());
+        put?;
+        sync_folder_of(self.runtime, name)
+    }
+
     /// Makes a file in the folder of another one, with a name that isn't there yet: it opens nothing that is
     /// there, and follows no link. The name has few bytes, however many the other's has.
     fn new_file_beside(&self, name: &str) -> io::Result<NewFile<R::File>> {

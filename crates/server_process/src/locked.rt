@@ -1,8 +1,9 @@
 //! A server under a lock, which answers the requests of a connection.
 
-ghost use Rattle.std.specs.Prelude.{◌≡◌, ◌⊎◌, IfSome, IsSome, ℕ};
+ghost use Rattle.std.specs.Prelude.{◌≡◌, ◌⊎◌, false, IfSome, IsSome, None, true, ℕ};
 ghost use Rattle.hosting.specs.Hosting.{IsAnsweredUnderLock};
 ghost use Rattle.request_streams.specs.Serving.{IsAnswerIf};
+ghost use Rattle.server_process.specs.Checking.{LogsCheck, counted, is_due};
 ghost use Rattle.server_process.specs.PutBack.{IsPutBack, WasSignedBefore};
 
 use crate::checking::Checking;
@@ -93,13 +94,22 @@ impl Held {
         }
     }
 
-    /// Logs a CHECK where one is due, the log having had so many entries before the record that was answered last. Where
-    /// it is refused the log is as it was, and the line says why; the next is due after as many messages. Once it was shown
-    /// that the log was put back nothing is logged.
-    fn check(&mut self, alloc: Global, before: usize) -> Option<Result<String, AllocError>>
+    /// After a record by which a new message was received, or none was: logs a CHECK where one is due. Where it is refused
+    /// the log is as it was, and the line says why; the next is due after as many messages. Once it was shown that the log
+    /// was put back nothing is logged.
+    fn check(&mut self, alloc: Global, received: bool) -> Option<Result<String, AllocError>>
         ensures ended { IsSome self.old.put_back → self.new ≡ self.old }
+        ensures unreceived { received ≡ false → self.new ≡ self.old }
+        ensures not_due { is_due self.old.checking.every self.old.checking.since ≡ false →
+            (self.new.server ≡ self.old.server) × (result ≡ None) }
+        ensures logs { received ≡ true → self.old.put_back ≡ None →
+            is_due self.old.checking.every self.old.checking.since ≡ true → LogsCheck self.old.server self.new.server }
+        ensures counts { received ≡ true → self.old.put_back ≡ None →
+            (self.new.checking.since ≡ counted self.old.checking.every self.old.checking.since)
+            × (self.new.checking.every ≡ self.old.checking.every) }
+        ensures put_back { self.new.put_back ≡ self.old.put_back }
     {
-        if self.put_back.is_some() || !is_received(self.entries(), before) {
+        if self.put_back.is_some() || !received {
             return None;
         }
         if !self.checking.is_due() {
@@ -232,7 +242,8 @@ impl<'a, R: Wait, C: Clock, T: std::time::Clock, W: Write, E: Write> Answerer
         let before = held.entries().len();
         let outcome = held.answer(alloc, time, &self.host, ready, bytes, out);
         let standing = shown(held.entries(), before, bytes, self.seat.kind);
-        let unchecked = held.check(alloc, before);
+        let received = is_received(held.entries(), before);
+        let unchecked = held.check(alloc, received);
         if let Some(reason) = held.end() {
             end_serving(self.rt, self.phase, reason);
         }

@@ -13,7 +13,7 @@ use peer_connections::{
     Accepting, Commands, Output, PeerStream, Phase, Place, Seats, SegmentTurns, ServeFailure,
     Standing, Waiting, attend, set_timeouts,
 };
-use request_streams::{ServeEnd, ServeFault, serve_requests};
+use request_streams::{Answerer, ServeEnd, ServeFault, serve_requests};
 use rpc::records::Counting;
 use std::alloc::{AllocError, Global};
 use std::io::{BufReader, Write};
@@ -321,6 +321,47 @@ where
     W: Write,
     E: Write,
 {
+    let waiting = Mutex::new(Waiting::new());
+    let seat = Seat {
+        seats: context.seats,
+        turns: context.turns,
+        id,
+        address: address.ip(),
+        clock: context.clock,
+        kind,
+        waiting: &waiting,
+    };
+    let host = Host {
+        digest: context.digest,
+        gives_segments: kind.is_alone || kind.is_for_audits,
+    };
+    let mut locked = LockedServer::new(
+        context.rt,
+        context.held,
+        SystemClock::new(context.clock),
+        host,
+        context.roster,
+        context.phase,
+        seat,
+        context.tally,
+        context.output,
+    );
+    serve_stream(context, stream, id, &waiting, &mut locked)
+}
+
+/// Has the records of a stream answered to its end.
+fn serve_stream<R, T, W, E, A>(
+    context: Context<'_, R, T, W, E>,
+    stream: &TcpStream,
+    id: u64,
+    waiting: &Mutex<Waiting>,
+    answerer: &mut A,
+) -> Result<ServeEnd, ServeFailure>
+where
+    R: Wait,
+    T: std::time::Clock,
+    A: Answerer,
+{
     let Context {
         rt,
         alloc,
@@ -333,39 +374,13 @@ where
     // Where it can't be set, replies come later, and nothing else changes.
     let _ = stream.set_nodelay(true);
     set_timeouts(stream);
-    let waiting = Mutex::new(Waiting::new());
-    let input = PeerStream::new(rt, clock, stream, phase, &waiting).among(seats, turns, id);
+    let input = PeerStream::new(rt, clock, stream, phase, waiting).among(seats, turns, id);
     let Ok(input) = BufReader::with_capacity(alloc, READ_AHEAD, input) else {
         return Err(ServeFailure::from(ServeFault::NoMemory));
     };
     let mut reader = FrameReader::new(Counting::new(input));
-    let mut writer = Counting::new(PeerStream::new(rt, clock, stream, phase, &waiting));
-    let host = Host {
-        digest: context.digest,
-        gives_segments: kind.is_alone || kind.is_for_audits,
-    };
-    let seat = Seat {
-        seats,
-        turns,
-        id,
-        address: address.ip(),
-        clock,
-        kind,
-        waiting: &waiting,
-    };
-    let (held, times) = (context.held, SystemClock::new(clock));
-    let mut locked = LockedServer::new(
-        rt,
-        held,
-        times,
-        host,
-        context.roster,
-        phase,
-        seat,
-        context.tally,
-        context.output,
-    );
-    match serve_requests(alloc, &mut locked, &mut reader, &mut writer) {
+    let mut writer = Counting::new(PeerStream::new(rt, clock, stream, phase, waiting));
+    match serve_requests(alloc, answerer, &mut reader, &mut writer) {
         Ok(end) => Ok(end),
         Err(fault) => {
             let read = reader.get_ref().get_ref().get_ref().last();

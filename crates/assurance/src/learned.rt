@@ -1,7 +1,7 @@
 //! What a witness says of an authenticator that it is shown.
 
-ghost use Rattle.std.specs.Prelude.{◌≡◌, ◌⊎◌, ◌↔◌};
-ghost use Rattle.gateway_process.specs.declared.learned.Learned.TheVariants as says;
+ghost use Rattle.std.specs.Prelude.{◌≡◌};
+ghost use Rattle.assurance.specs.Learning.{said, takes};
 
 /// The numbers by which it answers.
 const TAKEN: u32 = 0;
@@ -14,7 +14,7 @@ const BELOW_BASE: u32 = 31;
 
 /// What a witness says of an authenticator that it is shown.
 #[derive(Clone, Copy, Debug, PartialEq, Eq)]
-pub(crate) enum Learned {
+pub enum Learned {
     /// It takes it, or took it before.
     Taken,
     /// It has no room for more of that node until it has audited it.
@@ -25,11 +25,21 @@ pub(crate) enum Learned {
     Refused,
 }
 
+impl Learned {
+    /// Whether it takes it.
+    pub(crate) fn is_taken(self) -> bool
+        ensures { result ≡ takes self }
+    {
+        match self {
+            Learned::Taken => true,
+            Learned::NoRoom | Learned::BelowBase | Learned::Refused => false,
+        }
+    }
+}
+
 /// What the number of its answer says.
 pub(crate) fn said_by(number: u32) -> Learned
-    ensures taken { (result ≡ says.Taken) ↔ ((number ≡ 0) ⊎ (number ≡ 10)) }
-    ensures no_room { (result ≡ says.NoRoom) ↔ (number ≡ 20) }
-    ensures below_base { (result ≡ says.BelowBase) ↔ (number ≡ 31) }
+    ensures { result ≡ said number }
 {
     match number {
         TAKEN | TAKEN_BEFORE => Learned::Taken,
