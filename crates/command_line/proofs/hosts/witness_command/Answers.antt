@@ -22,14 +22,16 @@ returns c =
     c.in_ok-arg-5.ensures.shape (search rules) ∙ ap₂ with_rule with_witness c.word_option-2.ensures.rule in
     let with_patience =
     c.in_ok-arg-6.ensures.shape (search rules) ∙ ap₂ with_rule with_every c.word_option-3.ensures.rule in
-    let with_evidence =
+    let with_overlap =
     c.in_ok-arg-7.ensures.shape (search rules) ∙ ap₂ with_rule with_patience c.word_option-4.ensures.rule in
+    let with_evidence =
+    c.in_ok-arg-8.ensures.shape (search rules) ∙ ap₂ with_rule with_overlap c.word_option-5.ensures.rule in
     let with_epoch =
-    c.in_ok-arg-8.ensures.shape (search rules) ∙ ap₂ with_rule with_evidence c.word_option-5.ensures.rule in
+    c.in_ok-arg-9.ensures.shape (search rules) ∙ ap₂ with_rule with_evidence c.word_option-6.ensures.rule in
     let with_join =
-    c.in_ok-arg-9.ensures.shape (search rules) ∙ ap₂ with_rule with_epoch c.flag.ensures.rule in
+    c.in_ok-arg-10.ensures.shape (search rules) ∙ ap₂ with_rule with_epoch c.flag.ensures.rule in
     let with_state =
-    c.in_ok-arg-10.ensures.shape (search rules) ∙ ap₂ with_rule with_join c.word_option-6.ensures.rule in
-    IfOk-weaker c.arg-11.result _ _
+    c.in_ok-arg-11.ensures.shape (search rules) ∙ ap₂ with_rule with_join c.word_option-7.ensures.rule in
+    IfOk-weaker c.arg-12.result _ _
     (λ r added. added.shape (search rules)
-    ∙ ap₂ with_rule with_state c.word_option-7.ensures.rule) c.arg-11.ensures
+    ∙ ap₂ with_rule with_state c.word_option-8.ensures.rule) c.arg-12.ensures
