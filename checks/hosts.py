@@ -37,7 +37,7 @@ from peer.lies import (Fork, HidesLog, Liar, NoReply, OldReply, OtherAck, OtherM
                        Silent, Slow, Swapped, UnsignedAck, UnsignedReply, WrongReply, WrongXid)
 from peer.server import Server  # noqa: E402
 from peer.texts import whole  # noqa: E402
-from peer.wire import (DELIVER, GREET, NODE, SEGMENT, WITNESS, Address, Caller, call_text,  # noqa: E402
+from peer.wire import (DELIVER, GREET, MAX_BASE, NODE, SEGMENT, WITNESS, Address, Caller, call_text,  # noqa: E402
                        optional_packet)
 from peer.witness import REFUSED, Witness, base_of  # noqa: E402
 from serve.calls import Calls  # noqa: E402
@@ -302,6 +302,90 @@ def check_late_lie(program: str):
         fault = exposed_alone(hosts, witness, cases)
         assert fault is not None and fault[0] == Fault.WRONG_REPLY, fault
     print('a server that lies after the base at which a witness began: it is exposed, and the evidence is taken')
+
+
+def check_goes_on(program: str):
+    """A witness that runs on lets go of what it audited: its books go on by one base after the other of a server."""
+    with Hosts(program) as hosts:
+        usual(hosts)
+        server = hosts.server('one', '--check-every', '2')
+        address, state = server.address(), hosts.state()
+        witness = hosts.witness({1: address}, '--overlap', '1', state=state)
+        gateway = hosts.gateway('two', '2-2', address, witness.address())
+        connection = Connection(gateway.address()[1])
+        of_witness = Caller(witness.address(), WITNESS)
+        before = 0
+        for _ in range(3):
+            for _ in range(4):
+                assert connection.ask(ATTRIBUTES) == owed(ATTRIBUTES)
+            before = begun_after(witness, before)
+            base = base_of(of_witness, 1)
+            assert base is not None and whole(read_base, base).at >= before
+            told = hosts.wait_until(witness.address(), are_trusted(before + 4))
+            assert words_of(told) == {1: 'trusted', 2: 'trusted', 3: 'trusted'}, told
+        assert re.match(r'1 trusted 0 from \d+ to ', hosts.status_of(state)['node'][0])
+        of_witness.close()
+    print('a witness that runs on goes on by the bases of a server: its lines say from where')
+
+
+def begun_after(witness: Party, before: int) -> int:
+    """The number of the first base after this one from which the witness says that it audited."""
+    found = []
+
+    def is_later() -> bool:
+        lines = (re.fullmatch(FROM_BASE, line) for line in list(witness.lines))
+        found[:] = [int(line[1]) for line in lines if line and int(line[1]) > before]
+        return bool(found)
+
+    soon(is_later, f'no base after {before}: {witness.lines}')
+    return found[0]
+
+
+class LieBetween(WrongReply):
+    """While it hides, it shows nothing that it signs, and gives bases as ever."""
+
+    hides = False
+
+    def __init__(self, *given, **named):
+        self.given: list[int] = []
+        super().__init__(*given, **named)
+
+    def signed(self, arguments: bytes) -> bytes:
+        return optional_packet(AUTHENTICATOR, None) if self.hides else super().signed(arguments)
+
+    def base(self, arguments: bytes) -> bytes:
+        reader = Reader(super().base(arguments))
+        if reader.word() == 0:
+            self.given.append(whole(read_base, reader.opaque(MAX_BASE)).at)
+        return super().base(arguments)
+
+
+def check_lie_between(program: str):
+    """A server lies between the end of what a witness audited and a base that it gives. The witness goes on by no base at
+    which it didn't audit itself, and finds the lie once it sees the log."""
+    with Hosts(program) as hosts:
+        usual(hosts)
+        server = hosts.keep(LieBetween(hosts.keys('one', 1, SERVER, 7), hosts.roster(), at=8))
+        server.check_every = 2
+        witness, cases = watched(hosts, server, '--overlap', '1')
+        gateway = hosts.gateway('two', '2-2', server.address)
+        connection = Connection(gateway.address()[1])
+        for _ in range(5):
+            assert connection.ask(ATTRIBUTES) == owed(ATTRIBUTES)
+        begun_after(witness, 0)
+        end = last_number(server.address, hosts)
+        hosts.wait_until(witness.address(), are_trusted(end))
+        server.hides = True
+        for number in range(6, 10):
+            assert (connection.ask(ATTRIBUTES) == owed(ATTRIBUTES)) == (number != 8), number
+        soon(lambda: any(at > end for at in server.given), f'no base after {end} is asked for: {server.given}')
+        time.sleep(2 * float(EVERY) + 1)
+        told = hosts.ask(witness.address())[1]
+        assert told[1] == ('trusted', 0, end), told
+        server.hides = False
+        fault = exposed_alone(hosts, witness, cases)
+        assert fault is not None and fault[0] == Fault.WRONG_REPLY, fault
+    print('a server that lies between what a witness audited and a base that it gives: it is exposed')
 
 
 def check_fork(program: str):
@@ -1530,7 +1614,11 @@ def check_assured(program: str):
     print('a gateway says up to which reply each witness answers: not before it has taken what was signed, nor of a liar')
 
 
+<<<<<<< HEAD
 CHECKS = [check_late, check_late_lie, check_below_base, check_meeting, check_bad_meetings, check_put_back, check_slow_readers, check_ask_many, check_server, check_strangers, check_assured, check_server_keys, check_three, check_rows, check_lie, check_fork, check_none, check_other_calls, check_suspected,
+=======
+CHECKS = [check_late, check_late_lie, check_goes_on, check_lie_between, check_meeting, check_bad_meetings, check_put_back, check_slow_readers, check_ask_many, check_server, check_strangers, check_assured, check_server_keys, check_three, check_rows, check_lie, check_fork, check_none, check_other_calls, check_suspected,
+>>>>>>> h1/main
           check_other_witness, check_lives, check_second_roster, check_keys_used_up, check_ask,
           check_calls, check_breaks, check_garbage, check_same_call, check_in_flight, check_gateway_put_back, check_open_message, check_rough,
           check_round_trips, check_away, check_give_up, check_next_epoch, check_witness_epoch, check_witness_next_epoch,

@@ -94,6 +94,7 @@ pub record IsWitnessAsked (rows : List Row) (a : WitnessAsked) : Type 0 where
   pub witness : a.witness ≡ first_of (codes "witness") rows
   pub every : a.every ≡ first_of (codes "every") rows
   pub patience : a.patience ≡ first_of (codes "patience") rows
+  pub overlap : a.overlap ≡ first_of (codes "overlap") rows
   pub evidence : a.evidence ≡ first_of (codes "evidence") rows
   pub epoch : a.epoch ≡ first_of (codes "epoch") rows
   pub join : is_told (codes "join") rows ≡ true → a.join ≡ is_set (codes "join") rows
@@ -118,6 +119,7 @@ witness_is words rows a none is asks =
       sym asks.witness,
       sym asks.every,
       sym asks.patience,
+      sym asks.overlap,
       sym asks.evidence,
       sym asks.epoch,
       sym join_is,

@@ -222,6 +222,7 @@ asked_by (requests.Witness r) = Witness (record {
   witness = option_map (λ s. s.now) r.witness;
   every = option_map (λ s. s.now) r.every;
   patience = option_map (λ s. s.now) r.patience;
+  overlap = option_map (λ s. s.now) r.overlap;
   evidence = option_map (λ s. s.now) r.evidence;
   epoch = option_map (λ s. s.now) r.epoch;
   join = r.join;

@@ -67,6 +67,7 @@ pub record OrdersWitness (r : WitnessRequest) (o : WitnessOrder) : Type 0 where
   pub witnesses : map (λ s. s.now) o.witnesses.items ≡ hosts_named (option_map (λ s. s.now) r.witness)
   pub every : WritesOr 1 86400 10 (option_map (λ s. s.now) r.every) o.every
   pub patience : WritesOr 0 86400 60 (option_map (λ s. s.now) r.patience) o.patience
+  pub overlap : WritesOr 0 86400 3600 (option_map (λ s. s.now) r.overlap) o.overlap
   pub evidence : o.evidence ≡ r.evidence
   pub epoch : WritesIf 1 4294967295 (option_map (λ s. s.now) r.epoch) o.epoch
   pub join : o.join ≡ r.join

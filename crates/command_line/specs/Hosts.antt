@@ -98,12 +98,13 @@ gateway_asked rows = record {
 abbrev pub witness_command : App
 witness_command =
     with_rule (with_rule (with_rule (with_rule (with_rule (with_rule (with_rule (with_rule (with_rule
-    (with_rule (with_rule (new_app (codes "witness")) (needed_option (codes "rosters")))
+    (with_rule (with_rule (with_rule (new_app (codes "witness")) (needed_option (codes "rosters")))
     (needed_option (codes "at")))
     (needed_option (codes "listen")))
     (word_option (codes "witness")))
     (word_option (codes "every")))
     (word_option (codes "patience")))
+    (word_option (codes "overlap")))
     (word_option (codes "evidence")))
     (word_option (codes "epoch")))
     (flag_option (codes "join")))
@@ -118,6 +119,7 @@ pub record WitnessAsked : Type 0 where
   pub witness : Option Text
   pub every : Option Text
   pub patience : Option Text
+  pub overlap : Option Text
   pub evidence : Option Text
   pub epoch : Option Text
   pub join : Bool
@@ -133,6 +135,7 @@ witness_asked rows = record {
   witness = first_of (codes "witness") rows;
   every = first_of (codes "every") rows;
   patience = first_of (codes "patience") rows;
+  overlap = first_of (codes "overlap") rows;
   evidence = first_of (codes "evidence") rows;
   epoch = first_of (codes "epoch") rows;
   join = is_flag_set (codes "join") rows;

@@ -88,6 +88,8 @@ pub struct WitnessOrder<'a> {
     pub every: u32,
     /// After how many seconds without an answer a node is said to be suspected, up to 86,400.
     pub patience: u32,
+    /// For how many seconds at most the books from which others went on by a base stand beside these, up to 86,400.
+    pub overlap: u32,
     /// The name of the folder that evidence goes to, if one is named.
     pub evidence: Option<&'a str>,
     /// The epoch, from 1 on; that which a server greets with where none is named.
@@ -160,6 +162,9 @@ pub enum HostRefusal {
     /// The seconds are no decimal number from 0 to 86,400.
     #[error("--patience is a number of seconds from 0 to 86400")]
     Patience,
+    /// The seconds for which books stand beside others are no decimal number from 0 to 86,400.
+    #[error("--overlap is a number of seconds from 0 to 86400")]
+    Overlap,
     /// The epoch is no decimal number from 1 to 4,294,967,295.
     #[error("--epoch is a number from 1 to 4294967295")]
     Epoch,
@@ -242,7 +247,7 @@ pub fn gateway_order<'a>(
 }
 
 /// The order that a request makes. It is refused for the first of the servers, the address, the witnesses, the
-/// two numbers of seconds and the epoch that is none.
+/// three numbers of seconds and the epoch that is none.
 pub fn witness_order<'a>(
     alloc: Global,
     request: &WitnessRequest<'a>,
@@ -254,6 +259,7 @@ pub fn witness_order<'a>(
     let others = witnesses_of(alloc, request.witness)?;
     let every = seconds_of(request.every, 1, 10).ok_or(HostRefusal::Every)?;
     let patience = seconds_of(request.patience, 0, 60).ok_or(HostRefusal::Patience)?;
+    let overlap = seconds_of(request.overlap, 0, 3_600).ok_or(HostRefusal::Overlap)?;
     let epoch = number_if(request.epoch, HostRefusal::Epoch)?;
     Ok(WitnessOrder {
         rosters: request.rosters,
@@ -262,6 +268,7 @@ pub fn witness_order<'a>(
         witnesses: others,
         every,
         patience,
+        overlap,
         evidence: request.evidence,
         epoch,
         join: request.join,

@@ -83,6 +83,8 @@ pub struct WitnessRequest<'a> {
     pub every: Option<&'a str>,
     /// After how long without an answer a node is said to be suspected, if that is given.
     pub patience: Option<&'a str>,
+    /// For how long books stand beside those that went on from them by a base, if that is given.
+    pub overlap: Option<&'a str>,
     /// The name of the folder that evidence goes to, if one is named.
     pub evidence: Option<&'a str>,
     /// The epoch, if it is named.
@@ -173,6 +175,9 @@ const WITNESS_EVERY_HELP: &str =
 
 const WITNESS_PATIENCE_HELP: &str =
     "After how long without an answer a node is said to be suspected, 0 to 86400; 60 where it isn't given";
+
+const WITNESS_OVERLAP_HELP: &str =
+    "How long the books before a base are kept beside the new ones, 0 to 86400; 3600 where it isn't given";
 
 const WITNESS_EVIDENCE_HELP: &str =
     "Writes node-N.evidence to this folder as soon as node N is exposed";
@@ -289,6 +294,7 @@ pub(crate) fn witness_command<'a>(alloc: Global) -> Result<Command<'a>, AllocErr
             word("witness", "LIST", WITNESS_OTHERS_HELP),
             word("every", "SECONDS", WITNESS_EVERY_HELP),
             word("patience", "SECONDS", WITNESS_PATIENCE_HELP),
+            word("overlap", "SECONDS", WITNESS_OVERLAP_HELP),
             word("evidence", "DIR", WITNESS_EVIDENCE_HELP),
             word("epoch", "E", WITNESS_EPOCH_HELP),
             flag("join", WITNESS_JOIN_HELP),
@@ -417,6 +423,8 @@ fn witness_request<'a>(matches: &ArgMatches<'a>) -> WitnessRequest<'a>
     ensures every { option_map (λ s. s.now) result.every ≡ first_of (codes "every") (rows_in matches.now) }
     ensures patience { option_map (λ s. s.now) result.patience
         ≡ first_of (codes "patience") (rows_in matches.now) }
+    ensures overlap { option_map (λ s. s.now) result.overlap
+        ≡ first_of (codes "overlap") (rows_in matches.now) }
     ensures evidence { option_map (λ s. s.now) result.evidence
         ≡ first_of (codes "evidence") (rows_in matches.now) }
     ensures epoch { option_map (λ s. s.now) result.epoch ≡ first_of (codes "epoch") (rows_in matches.now) }
@@ -433,6 +441,7 @@ fn witness_request<'a>(matches: &ArgMatches<'a>) -> WitnessRequest<'a>
         witness: word_of(matches, "witness"),
         every: word_of(matches, "every"),
         patience: word_of(matches, "patience"),
+        overlap: word_of(matches, "overlap"),
         evidence: word_of(matches, "evidence"),
         epoch: word_of(matches, "epoch"),
         join: flag_of(matches, "join"),

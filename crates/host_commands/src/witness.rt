@@ -197,6 +197,7 @@ where
         witnesses: order.witnesses.as_slice(),
         every: order.every,
         patience: order.patience,
+        overlap: order.overlap,
         evidence: order.evidence,
         shelf,
         listener,

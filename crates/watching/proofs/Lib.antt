@@ -2,6 +2,7 @@ pub mod OfEnds
 pub mod OfPutting
 pub mod OfOpening
 pub mod OfEnding
+pub mod OfFiled
 pub mod OfShown
 pub mod OfDelivering
 pub mod OfAsking

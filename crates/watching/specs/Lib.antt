@@ -4,3 +4,4 @@ pub mod Telling
 pub mod Answers
 pub mod BaseGiving
 pub mod Segments
+pub mod Filed

@@ -1,6 +1,6 @@
 //! A witness's books without a journal, and up to where each log was audited.
 
-ghost use Rattle.std.specs.Prelude.{◌≡◌, [], ◌∷◌, map, option_map, true, IfErr, IfOk, OnErr};
+ghost use Rattle.std.specs.Prelude.{◌≡◌, [], ◌∷◌, map, option_map, true, IfErr, IfOk, IfSome, IsTrue, OnErr};
 ghost use Rattle.std.specs.Arc.{arc_value};
 ghost use Rattle.witness_books.specs.node_book.Events.{event_in};
 ghost use Rattle.witness_books.specs.node_book.Replies.{challenge_in, indication_in, reply_in};
@@ -13,12 +13,14 @@ ghost use Rattle.witness_books.specs.Headline.{KeepsHeadline};
 ghost use Rattle.witness_books.specs.Starts.{MayStart, StartFails, handed};
 ghost use Rattle.witness_books.specs.node_book.Rows.{known_in};
 ghost use Rattle.watching.specs.Ends.{end_in, ends_of};
+ghost use Rattle.watching.specs.Filed.{BeginsFiled, GoesOnBy, WasFiled};
 ghost use Rattle.watching.specs.Telling.{IsDelivered, Lists, ListsIf, MayBeDelivered, ShowsIf, Steps};
 ghost use Rattle.watching.specs.Telling.{TellsIf, WereAsked};
 
 use crate::bases::{began_from, first_ends};
 use crate::deliver::Delivered;
 use crate::ends::{end_of, filed_end, put_end, sound_end, zeros};
+use crate::filed::{keep_filed, sound_segment, stands_in};
 use crate::laws::steps_move_ends;
 use crate::told::NodeTold;
 use authenticator::{Checked, Roster};
@@ -28,24 +30,29 @@ use std::marker::Model;
 use std::sync::Arc;
 use witness_book_laws::what_leaves_books;
 use witness_books::laws::spelled_is_taken;
-use witness_books::{Books, Event, EventOf, Indication, Question, Reply, ReplyOf, StartFault};
+use witness_books::{
+    Books, Event, EventOf, Indication, Question, Reply, ReplyOf, SharedSegment, StartFault,
+};
 use witness_calls::{Said, SignatureCache, admit};
 
 /// A witness's books, from their first step on, without a journal of the steps: what it takes of memory is
 /// bounded by the books. Its type keeps that the books stand for some history from their beginning, as
-/// `Books` does, and for each member the last number of its log that was filed sound.
+/// `Books` does, for each member the last number of its log that was filed sound, and of all members the segment that
+/// was filed sound last.
 ///
 /// A clause sees the books.
 #[derive(Drop)]
 pub(crate) struct AuditedBooks {
     books: Books,
     ends: Vec<u64>,
+    last: Option<SharedSegment>,
 }
 
 impl Model for AuditedBooks {
     ghost use Rattle.witness_books.specs.Books.{BooksParts, books_code, parts_in};
-    ghost use Rattle.std.specs.Prelude.{◌≡◌};
+    ghost use Rattle.std.specs.Prelude.{◌≡◌, IfSome};
     ghost use Rattle.watching.specs.Ends.{ends_of};
+    ghost use Rattle.watching.specs.Filed.{WasFiled};
 
     ghost Value = { BooksParts };
 
@@ -53,7 +60,7 @@ impl Model for AuditedBooks {
 
     ghost view = { λ s. s.books };
 
-    ghost invariant = { λ s. s.ends.items ≡ ends_of (parts_in s.books) };
+    ghost invariant = { λ s. (s.ends.items ≡ ends_of (parts_in s.books)) × IfSome s.last (WasFiled s.books) };
 }
 
 impl AuditedBooks {
@@ -68,7 +75,11 @@ impl AuditedBooks {
             return Err(AllocFailed { value: roster });
         };
         let books = Books::new(alloc, roster)?;
-        Ok(AuditedBooks { books, ends })
+        Ok(AuditedBooks {
+            books,
+            ends,
+            last: None,
+        })
     }
 
     /// The books of a roster's members before any step, each from its base if it has one among these, as
@@ -89,7 +100,11 @@ impl AuditedBooks {
         let Ok(ends) = first_ends(alloc, books.roster().members(), books.bases()) else {
             return Err(StartFault::NoMemory);
         };
-        Ok(AuditedBooks { books, ends })
+        Ok(AuditedBooks {
+            books,
+            ends,
+            last: None,
+        })
     }
 
     /// The books.
@@ -111,7 +126,9 @@ impl AuditedBooks {
         steps_move_ends();
         self.books.stand();
         let sound = sound_end(&event);
+        let segment = sound_segment(&event);
         let reply = self.books.step(alloc, event);
+        keep_filed(&mut self.last, segment, &reply);
         if let Some(end) = filed_end(sound, &reply) {
             put_end(
                 self.books.roster().members(),
@@ -176,6 +193,29 @@ impl AuditedBooks {
     {
         self.books.stand();
         end_of(self.books.roster().members(), &self.ends, node)
+    }
+
+    /// Whether the books may go on by a base: whether its CHECK stands in the segment that they filed sound last, with
+    /// the digest of the base's state and the base's hash there. `AllocError` comes only where a growth was refused.
+    pub fn may_go_on(&self, alloc: Global, base: &Base) -> Result<bool, AllocError>
+        ensures { IfOk result (λ b. IsTrue b → GoesOnBy self.now base.now) }
+    {
+        match &self.last {
+            Some(segment) => stands_in(alloc, segment.closed(), base),
+            None => Ok(false),
+        }
+    }
+
+    /// The first number of the segment that was filed sound last, if it is of this node.
+    pub fn last_first(&self, node: u32) -> Option<u64>
+        ensures { IfSome result (BeginsFiled self.now node) }
+    {
+        let segment = self.last.as_ref()?.closed().segment();
+        if segment.node() == node {
+            Some(segment.first().get())
+        } else {
+            None
+        }
     }
 
     /// What the books await of a node: the challenges that are open, none where it is no member. `AllocError`

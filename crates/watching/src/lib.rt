@@ -7,6 +7,7 @@ mod bases;
 mod bound;
 mod deliver;
 mod ends;
+mod filed;
 pub mod laws;
 mod results;
 mod shown;

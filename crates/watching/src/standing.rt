@@ -1,7 +1,7 @@
 //! What a witness keeps of the members of a roster.
 
 ghost use Rattle.std.specs.Prelude.{◌≡◌, [], ◌∷◌, None, length, map, option_map, replicate, true, IfErr};
-ghost use Rattle.std.specs.Prelude.{IfOk, OnErr};
+ghost use Rattle.std.specs.Prelude.{IfOk, IfSome, IsTrue, OnErr};
 ghost use Rattle.std.specs.Arc.{arc_value};
 ghost use Rattle.witness_books.specs.node_book.Events.{event_in};
 ghost use Rattle.witness_books.specs.node_book.Replies.{challenge_in, reply_in};
@@ -12,6 +12,7 @@ ghost use Rattle.witness_books.specs.Headline.{KeepsHeadline};
 ghost use Rattle.witness_books.specs.Starts.{MayStart, StartFails, handed};
 ghost use Rattle.witness_books.specs.node_book.Rows.{known_in};
 ghost use Rattle.watching.specs.Ends.{end_in, ends_of};
+ghost use Rattle.watching.specs.Filed.{BeginsFiled, GoesOnBy};
 ghost use Rattle.watching.specs.Shown.{Notes, last_shown, with_packet};
 ghost use Rattle.watching.specs.Telling.{IsDelivered, ListsIf, MayBeDelivered, ShowsIf, Steps, TellsIf};
 ghost use Rattle.watching.specs.Telling.{WereAsked};
@@ -162,6 +163,22 @@ impl Standing {
         ensures { option_map (λ a. a.now) result ≡ last_shown self.now node }
     {
         shown_of(self.audited.books().roster().members(), &self.shown, node)
+    }
+
+    /// Whether the books may go on by a base: whether its CHECK stands in the segment that they filed sound last, with
+    /// the digest of the base's state and the base's hash there. So it never is one that they didn't audit themselves.
+    /// `AllocError` comes only where a growth was refused.
+    pub fn may_go_on(&self, alloc: Global, base: &Base) -> Result<bool, AllocError>
+        ensures { IfOk result (λ b. IsTrue b → GoesOnBy self.now.books base.now) }
+    {
+        self.audited.may_go_on(alloc, base)
+    }
+
+    /// The first number of the segment that was filed sound last, if it is of this node.
+    pub fn last_first(&self, node: u32) -> Option<u64>
+        ensures { IfSome result (BeginsFiled self.now.books node) }
+    {
+        self.audited.last_first(node)
     }
 
     /// What the books await of a node: the challenges that are open, none where it is no member. `AllocError`

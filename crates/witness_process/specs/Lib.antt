@@ -1,4 +1,5 @@
 pub mod Answered
 pub mod Lines
 pub mod Opened
+pub mod Overlaps
 pub mod Rosters

@@ -2,6 +2,7 @@
 
 ghost use Rattle.std.specs.Prelude.{◌≡◌, IfOk, IfSome};
 ghost use Rattle.witness_books.specs.Books.{beginning_of};
+ghost use Rattle.watching.specs.Telling.{TellsIf, WereAsked};
 ghost use Rattle.witness_process.specs.Lines.{WasTold};
 
 use std::alloc::{AllocError, Global};
@@ -35,6 +36,8 @@ impl Account {
     ) -> Result<Option<Account>, AllocError>
         ensures beginning { beginning_of standing.new.books ≡ beginning_of standing.old.books }
         ensures node { IfOk result (λ asked. IfSome asked (λ a. a.node ≡ node)) }
+        ensures told { IfOk result (λ asked. TellsIf standing.old.books node asked standing.new.books) }
+        ensures asked { WereAsked standing.old.books node standing.new.books }
     {
         match standing.told(alloc, node)? {
             Some(told) => Ok(Some(Account { told })),

@@ -5,7 +5,16 @@ use std::alloc::{AllocError, Global};
 use xdr::{Reader, Writer};
 
 /// DELIVER.
-const DELIVER: u32 = 2;
+pub(crate) const DELIVER: u32 = 2;
+
+/// TOLD and CASE, and the first and the last procedure whose arguments begin with a node.
+const TOLD: u32 = 4;
+
+const CASE: u32 = 6;
+
+const WANTED: u32 = 3;
+
+const BASE: u32 = 7;
 
 /// The number of a packet with an authenticator.
 pub(crate) const AUTHENTICATOR: u32 = 1;
@@ -34,6 +43,26 @@ pub(crate) fn brought_in(bytes: &[u8]) -> Option<Brought> {
         return None;
     }
     brought_by(asked.arguments)
+}
+
+/// The node that a record is about: whose packet it delivers, or of whom it asks; None where it is about none.
+pub(crate) fn node_in(bytes: &[u8]) -> Option<u32> {
+    let asked = judge_call(WITNESS_PROGRAM, bytes).ok()?;
+    match asked.procedure {
+        DELIVER => Some(brought_by(asked.arguments)?.node),
+        WANTED..=BASE => Reader::new(asked.arguments).u32().ok(),
+        _ => None,
+    }
+}
+
+/// The procedure that a record calls, if it is a call of a witness's program.
+pub(crate) fn procedure_of(bytes: &[u8]) -> Option<u32> {
+    Some(judge_call(WITNESS_PROGRAM, bytes).ok()?.procedure)
+}
+
+/// Whether a record asks what is said of a node, or for the evidence against it.
+pub(crate) fn asks_for_faults(bytes: &[u8]) -> bool {
+    matches!(procedure_of(bytes), Some(TOLD | CASE))
 }
 
 /// Of whom a packet is; nothing is checked of the rest.

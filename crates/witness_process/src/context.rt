@@ -29,6 +29,7 @@ pub(crate) struct Context<'a, R, T, W, E, S> {
     pub(crate) evidence: Option<&'a str>,
     pub(crate) every: u32,
     pub(crate) patience: u32,
+    pub(crate) overlap: u32,
     pub(crate) workers: usize,
 }
 

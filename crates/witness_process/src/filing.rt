@@ -143,7 +143,7 @@ fn file<R: Wait, T: Clock, W, E, S>(
 }
 
 /// Hands on what the logs of these nodes show of others.
-fn forward_each<R: Wait, T: Clock, W, E, S>(
+pub(crate) fn forward_each<R: Wait, T: Clock, W, E, S>(
     context: Context<'_, R, T, W, E, S>,
     nodes: &[u32],
 ) -> Result<(), AllocError> {

@@ -17,7 +17,7 @@ use std::sync::{Mutex, Wait};
 /// The most bytes of the answers to GREET and BASE.
 const MOST_GREETED: u32 = 60;
 
-const MOST_BASE: u32 = 67_306_132;
+pub(crate) const MOST_BASE: u32 = 67_306_132;
 
 /// Who asks servers for bases.
 #[derive(Drop)]
@@ -109,7 +109,7 @@ fn has_node(bases: &[Checked<Base>], node: u32) -> bool {
 
 /// The base that these bytes are, where it is good under the roster, and of this very node; else `Refused`. `NoMemory`
 /// comes only where a growth was refused.
-fn good_base(
+pub(crate) fn good_base(
     alloc: Global,
     roster: &Roster,
     node: u32,

@@ -2,6 +2,7 @@
 
 use authenticator::Roster;
 use peer_connections::Commands;
+use std::alloc::{AllocError, Global};
 
 /// A server that is audited.
 #[derive(Clone, Copy, Debug)]
@@ -40,6 +41,9 @@ pub struct WitnessOrder<'a, L, S> {
     pub every: u32,
     /// A node is called suspected once a challenge to it has been open for more than so many seconds.
     pub patience: u32,
+    /// The seconds for which the books from which others went on by a base stand beside these, unless each client's log
+    /// showed the signatures that it has before.
+    pub overlap: u32,
     /// The folder where evidence is put, if it is to be put anywhere.
     pub evidence: Option<&'a str>,
     /// Where files are put.
@@ -63,4 +67,16 @@ pub enum Ending {
     NoMemory,
     /// A server goes by a roster of this epoch, which is later than that of the witness.
     EpochBegun { node: u32, epoch: u32 },
+}
+
+/// The numbers of servers.
+pub(crate) fn servers_of(
+    alloc: Global,
+    servers: &[WatchedServer<'_>],
+) -> Result<Vec<u32>, AllocError> {
+    let mut nodes = Vec::new(alloc);
+    for server in servers {
+        nodes.push(server.node)?;
+    }
+    Ok(nodes)
 }

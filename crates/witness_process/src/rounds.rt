@@ -2,8 +2,9 @@
 
 use crate::context::Context;
 use crate::filing::{end_if_lost, replay};
+use crate::going_on::let_go;
 use crate::links::{Link, links_to};
-use crate::orders::WatchedServer;
+use crate::orders::{WatchedServer, servers_of};
 use crate::printing::say_due;
 use crate::visits::visit;
 use crate::watch::nodes_of;
@@ -26,13 +27,16 @@ where
     W: Write,
     E: Write,
 {
-    let Ok(mut links) = links_to(context.alloc, servers) else {
+    let (Ok(mut links), Ok(nodes)) = (
+        links_to(context.alloc, servers),
+        servers_of(context.alloc, servers),
+    ) else {
         context.lock().give_up();
         return end_if_lost(context);
     };
     for _ in 0..u64::MAX {
         visit_all(context, &mut links);
-        if open_audits(context, &links).is_err() {
+        if open_audits(context, &links).is_err() || let_go(context, &nodes).is_err() {
             say_no_memory(context);
         }
         if !context.wait(context.every) {

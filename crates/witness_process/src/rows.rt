@@ -6,9 +6,10 @@ ghost use Rattle.witness_process.specs.Lines.{IsSaidAt};
 use crate::account::Account;
 use crate::due::{Saying, line_due, seconds_open};
 use crate::opened::{OpenChallenge, Wanted, note_opened, oldest_of, open_after};
+use crate::sets::BookSets;
 use peer_calls::Numbers;
 use std::alloc::{AllocError, Global};
-use watching::{Host, Standing};
+use watching::Host;
 
 /// What a witness keeps of a node beside its books.
 #[derive(Drop)]
@@ -48,13 +49,13 @@ impl Row {
     pub(crate) fn refresh(
         &mut self,
         alloc: Global,
-        standing: &mut Standing,
+        books: &mut BookSets,
         host: &mut Host,
     ) -> Result<(), AllocError> {
         self.is_stale = true;
-        let challenges = standing.wanted(alloc, self.node)?;
+        let challenges = books.wanted(alloc, self.node)?;
         let listed = open_after(alloc, &challenges, &self.challenges, host.time)?;
-        if let Some(account) = Account::ask(standing, alloc, self.node)? {
+        if let Some(account) = books.ask(alloc, self.node)? {
             self.account = account;
         }
         if let Some(oldest) = oldest_of(&listed) {

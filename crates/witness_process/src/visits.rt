@@ -4,6 +4,7 @@ use crate::brought::{AUTHENTICATOR, is_of, packet_of};
 use crate::causes::Cause;
 use crate::context::Context;
 use crate::filing::replay;
+use crate::going_on::go_on;
 use crate::links::Link;
 use challenge::Challenge;
 use envelopes::Envelope;
@@ -51,8 +52,8 @@ where
     }
 }
 
-/// Visits a server. It is handed the messages also where its log wasn't shown. The connection stands for the next round
-/// where nothing failed.
+/// Visits a server. It is handed the messages also where its log wasn't shown. Once that was audited its books go on by a
+/// base, where they are to. The connection stands for the next round where nothing failed.
 fn try_visit<R, T, W, E, S>(
     context: Context<'_, R, T, W, E, S>,
     link: &mut Link<'_>,
@@ -66,7 +67,7 @@ where
     let Some(mut caller) = link.connect(context)? else {
         return Ok(());
     };
-    let audited = audit(context, link.node, &mut caller);
+    let audited = audit_and_go_on(context, link.node, &mut caller);
     if !has_broken(&audited) {
         ask_messages(context, link.node, &mut caller)?;
     }
@@ -82,6 +83,24 @@ fn has_broken(audited: &Result<(), Cause>) -> bool {
         Ok(()) => false,
         Err(cause) => !cause.is_of_log(),
     }
+}
+
+/// Audits a server, and has its books go on by a base that it gives, where they are to; then what it logged after that is
+/// audited at once.
+fn audit_and_go_on<R, T, W, E, S>(
+    context: Context<'_, R, T, W, E, S>,
+    node: u32,
+    caller: &mut PeerCaller,
+) -> Result<(), Cause>
+where
+    R: Threads + Wait + Sync,
+    T: Clock,
+{
+    audit(context, node, caller)?;
+    if go_on(context, node, caller)? {
+        audit(context, node, caller)?;
+    }
+    Ok(())
 }
 
 /// Audits a server to the last number that it signed, or as far as it shows its log.

@@ -5,10 +5,10 @@ ghost use Rattle.request_streams.specs.Serving.{IsAnswerIf};
 ghost use Rattle.witness_process.specs.Answered.{IsAnsweredUnderLock};
 ghost use Rattle.witness_process.specs.Lines.{IsSaidAt};
 
-use crate::account::Account;
 use crate::brought::{brought_by, brought_in};
 use crate::due::Saying;
 use crate::rows::Row;
+use crate::sets::BookSets;
 use crate::times::seconds_now;
 use authenticator::{Authenticator, Checked, Roster};
 use challenge::{Base, Challenge, Evidence};
@@ -20,7 +20,7 @@ use std::sync::Arc;
 use std::time::Clock;
 use watching::packet_texts::learn_packet;
 use watching::{Delivered, Host, Opened, Said, Standing, answer_request};
-use witness_books::{EventOf, Question, Refusal, ReplayDone, ReplayJob, ReplyOf};
+use witness_books::{EventOf, Refusal, ReplayDone, ReplayJob, ReplyOf};
 use witness_service::SignatureCache;
 
 /// The most signatures that the cache keeps: they take some 4 MiB.
@@ -32,7 +32,7 @@ const MAX_KEPT: usize = 1024;
 /// What all threads of a witness share. It lies under a lock.
 #[derive(Drop)]
 pub(crate) struct Watch {
-    standing: Standing,
+    books: BookSets,
     cache: SignatureCache,
     /// What it answers by beside its books: for each member there is a time.
     host: Host,
@@ -46,23 +46,23 @@ pub(crate) struct Watch {
 }
 
 impl Watch {
-    /// New books of a roster's members, at a time in seconds: each from its base, if it has one among these. They were
-    /// checked under this roster, and no two are of one node. `AllocError` comes only where a growth was refused.
+    /// New books of a roster's members, at a time in seconds: of each of these servers from its base, if it has one among
+    /// these. They were checked under this roster, and no two are of one node. `AllocError` comes only where a growth was
+    /// refused.
     pub(crate) fn open(
         alloc: Global,
         roster: Roster,
+        servers: &[u32],
         bases: Vec<Checked<Base>>,
         digest: [u8; 32],
         time: u64,
     ) -> Result<Watch, AllocError> {
         let nodes = nodes_of(alloc, &roster)?;
-        let Ok(mut standing) = Standing::start(alloc, roster, bases) else {
-            return Err(AllocError);
-        };
-        let rows = open_rows(alloc, &mut standing, &nodes)?;
+        let mut books = BookSets::open(alloc, roster, servers, bases, time)?;
+        let rows = open_rows(alloc, &mut books, &nodes)?;
         let opened = open_times(alloc, &nodes, time)?;
         Ok(Watch {
-            standing,
+            books,
             cache: SignatureCache::new(SIGNATURES),
             host: Host {
                 digest,
@@ -93,7 +93,7 @@ impl Watch {
         text: &mut String,
     ) -> Result<(), AllocError> {
         for row in &self.rows {
-            if let Some(account) = Account::ask(&mut self.standing, alloc, row.node)? {
+            if let Some(account) = self.books.ask(alloc, row.node)? {
                 let said = account.told().line(alloc)?;
                 let line = format!(in alloc; "node: {said}\n")?;
                 text.push_str(&line)?;
@@ -113,14 +113,9 @@ impl Watch {
         ensures { IsAnswerIf (IsAnsweredUnderLock digest.now) bytes.now out.new.items result }
     {
         self.host.digest = *digest;
-        let outcome = answered(
-            &mut self.standing,
-            alloc,
-            &mut self.cache,
-            &self.host,
-            bytes,
-            out,
-        );
+        let outcome = self
+            .books
+            .answer(alloc, &mut self.cache, &self.host, bytes, out);
         self.note_record(alloc, bytes);
         outcome
     }
@@ -134,7 +129,7 @@ impl Watch {
             if row.node == brought.node {
                 row.has_given |= brought.is_segment;
                 // Where memory is refused it is asked for again later.
-                let _ = row.refresh(alloc, &mut self.standing, &mut self.host);
+                let _ = row.refresh(alloc, &mut self.books, &mut self.host);
             }
         }
     }
@@ -145,10 +140,10 @@ impl Watch {
         alloc: Global,
         packet: &[u8],
     ) -> Result<Delivered, AllocError> {
-        let delivered = self.standing.deliver(alloc, &mut self.cache, packet);
-        if let Some(brought) = brought_by(packet) {
-            self.note(alloc, brought.node);
-        }
+        // What is no packet is about nobody, and any books refuse it.
+        let node = brought_by(packet).map_or(0, |brought| brought.node);
+        let delivered = self.books.deliver(alloc, &mut self.cache, node, packet);
+        self.note(alloc, node);
         delivered
     }
 
@@ -156,7 +151,7 @@ impl Watch {
     fn note(&mut self, alloc: Global, node: u32) {
         for row in self.rows.iter_mut() {
             if row.node == node {
-                let _ = row.refresh(alloc, &mut self.standing, &mut self.host);
+                let _ = row.refresh(alloc, &mut self.books, &mut self.host);
             }
         }
     }
@@ -165,7 +160,7 @@ impl Watch {
     pub(crate) fn refresh(&mut self, alloc: Global) -> Result<(), AllocError> {
         for row in self.rows.iter_mut() {
             if row.is_stale {
-                row.refresh(alloc, &mut self.standing, &mut self.host)?;
+                row.refresh(alloc, &mut self.books, &mut self.host)?;
             }
         }
         Ok(())
@@ -173,13 +168,13 @@ impl Watch {
 
     /// The last number of a node's log that was filed sound; 0 of one who is no member.
     pub(crate) fn end(&self, node: u32) -> u64 {
-        self.standing.end(node).unwrap_or(0)
+        self.books.end(node)
     }
 
     /// The packet of the authenticator that a node showed last: that with the greatest number of those that were handed
     /// in and not refused. No bytes where it showed none.
     pub(crate) fn shown(&self, alloc: Global, node: u32) -> Result<Vec<u8>, AllocError> {
-        match self.standing.shown(node) {
+        match self.books.shown(node) {
             Some(authenticator) => learn_packet(alloc, authenticator),
             None => Ok(Vec::new(alloc)),
         }
@@ -192,7 +187,7 @@ impl Watch {
         alloc: Global,
         node: u32,
     ) -> Result<Option<Numbers>, AllocError> {
-        let said = Said::of(self.standing.step(alloc, EventOf::Audit(node)));
+        let said = Said::of(self.books.step(alloc, node, EventOf::Audit(node)));
         if said.is_no_memory() {
             return Err(AllocError);
         }
@@ -216,7 +211,7 @@ impl Watch {
         alloc: Global,
         node: u32,
     ) -> Result<Vec<Challenge>, AllocError> {
-        self.standing.wanted(alloc, node)
+        self.books.wanted(alloc, node)
     }
 
     /// Puts the nodes of whom a segment is asked for in place of what `nodes` holds.
@@ -267,7 +262,7 @@ impl Watch {
         alloc: Global,
         node: u32,
     ) -> Result<Option<ReplayJob>, AllocError> {
-        match self.standing.step(alloc, EventOf::Begin(node)) {
+        match self.books.step(alloc, node, EventOf::Begin(node)) {
             ReplyOf::Job(job) => Ok(Some(job)),
             other => {
                 if Said::of(other).is_no_memory() {
@@ -281,14 +276,15 @@ impl Watch {
 
     /// Puts a replay back that wasn't done. Where that is refused it is lost.
     pub(crate) fn put_back(&mut self, alloc: Global, job: ReplayJob) {
-        let said = Said::of(self.standing.step(alloc, EventOf::PutBack(job)));
+        let node = job.node();
+        let said = Said::of(self.books.step(alloc, node, EventOf::PutBack(job)));
         self.is_lost |= said.is_no_memory();
     }
 
     /// Files a replay that was done. Where that is refused it is lost.
     pub(crate) fn file(&mut self, alloc: Global, done: ReplayDone) {
         let node = done.node();
-        let said = Said::of(self.standing.step(alloc, EventOf::File(done)));
+        let said = Said::of(self.books.step(alloc, node, EventOf::File(done)));
         self.is_lost |= said.is_no_memory();
         self.note(alloc, node);
     }
@@ -307,25 +303,20 @@ impl Watch {
     /// Takes the oldest authenticator that a node's log showed of another one, and hands it to the books. Tells whether
     /// there was one.
     pub(crate) fn forward(&mut self, alloc: Global, node: u32) -> Result<bool, AllocError> {
-        match Said::of(self.standing.step(alloc, EventOf::Forward(node))) {
-            Said::Forwarded(authenticator) => {
+        match self.books.forward(alloc, node)? {
+            Some(authenticator) => {
                 self.learn(alloc, authenticator)?;
                 Ok(true)
             }
-            said => {
-                if said.is_no_memory() {
-                    Err(AllocError)
-                } else {
-                    Ok(false)
-                }
-            }
+            None => Ok(false),
         }
     }
 
     /// Hands an authenticator to the books. Where its book has no room it is kept, as long as there are few.
     fn learn(&mut self, alloc: Global, authenticator: Authenticator) -> Result<(), AllocError> {
         let packet = learn_packet(alloc, &authenticator)?;
-        let delivered = self.standing.deliver(alloc, &mut self.cache, &packet)?;
+        let node = authenticator.node;
+        let delivered = self.books.deliver(alloc, &mut self.cache, node, &packet)?;
         self.mark_stale(authenticator.node);
         if delivered == Delivered::Refused(Refusal::LearnedFull) {
             self.keep(authenticator)?;
@@ -367,13 +358,30 @@ impl Watch {
         alloc: Global,
         node: u32,
     ) -> Result<Option<Arc<Evidence>>, AllocError> {
-        match Said::of(
-            self.standing
-                .step(alloc, EventOf::Ask(node, Question::Evidence)),
-        ) {
-            Said::EvidenceIs(evidence) => Ok(evidence),
-            _ => Err(AllocError),
-        }
+        self.books.evidence(alloc, node)
+    }
+
+    /// The number after which a server is to be asked for a base by which its books may go on, if it is: once they stand
+    /// for so many seconds, or half of what a book takes was audited.
+    pub(crate) fn base_after(&self, node: u32, overlap: u32) -> Option<u64> {
+        self.books.base_after(node, self.host.time, overlap)
+    }
+
+    /// The books of a server go on by a base, where they may. Says whether they did. `AllocError` comes only where a growth
+    /// was refused.
+    pub(crate) fn go_on(&mut self, alloc: Global, base: Checked<Base>) -> Result<bool, AllocError> {
+        let node = base.value().showing().node();
+        let went = self
+            .books
+            .go_on(alloc, &mut self.cache, base, self.host.time);
+        self.note(alloc, node);
+        went
+    }
+
+    /// Lets books go from which others went on, once they stood beside them for so many seconds or each client's log showed
+    /// what it has. What their logs show of others is to be handed on before.
+    pub(crate) fn let_go(&mut self, alloc: Global, overlap: u32) {
+        self.books.let_go(alloc, self.host.time, overlap);
     }
 
     /// Whether the evidence against a node was put in its place.
@@ -396,7 +404,7 @@ impl Watch {
 
 /// Answers a record by the books.
 #[tactic(auto, using(crate::proofs::UnderLock::under_lock))]
-fn answered(
+pub(crate) fn answered(
     standing: &mut Standing,
     alloc: Global,
     cache: &mut SignatureCache,
@@ -423,14 +431,10 @@ pub(crate) fn nodes_of(alloc: Global, roster: &Roster) -> Result<Vec<u32>, Alloc
 }
 
 /// What is kept of each node at first.
-fn open_rows(
-    alloc: Global,
-    standing: &mut Standing,
-    nodes: &[u32],
-) -> Result<Vec<Row>, AllocError> {
+fn open_rows(alloc: Global, books: &mut BookSets, nodes: &[u32]) -> Result<Vec<Row>, AllocError> {
     let mut rows = Vec::new(alloc);
     for node in nodes {
-        if let Some(account) = Account::ask(standing, alloc, *node)? {
+        if let Some(account) = books.ask(alloc, *node)? {
             let row = Row::new(alloc, *node, account);
             if rows.push(row).is_err() {
                 return Err(AllocError);

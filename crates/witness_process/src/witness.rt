@@ -7,12 +7,12 @@ use crate::context::Context;
 use crate::elsewhere::Elsewhere;
 use crate::joining::Joining;
 use crate::meetings::keep_meeting;
-use crate::orders::{Ending, KnownRoster, WatchedServer, WitnessOrder};
+use crate::orders::{Ending, KnownRoster, WatchedServer, WitnessOrder, servers_of};
 use crate::rounds::{catch_up, go_round, keep_up};
 use crate::status::WitnessTeller;
 use crate::times::seconds_now;
 use crate::watch::Watch;
-use authenticator::{Checked, Roster};
+use authenticator::Checked;
 use challenge::Base;
 use frames::FrameReader;
 use peer_connections::{
@@ -42,10 +42,11 @@ struct Peers<'a> {
 }
 
 /// Audits the servers round by round, meets other witnesses, and answers whoever connects, until the process is told to
-/// stop, the listener fails, or a server goes by a known roster of a later epoch. What the books say of each member is said by a line whenever it has changed; other lines,
-/// as of a server that can't be reached, go to the errors. Gives why it ended. `NoMemory` comes where a growth was
-/// refused for the books or the rounds, before anything was done, where a replay couldn't be put back into the books, or
-/// for the last lines. It may take half a minute to stop, or as long as the system takes to give a connection up.
+/// stop, the listener fails, or a server goes by a known roster of a later epoch. What the books say of each member is said
+/// by a line whenever it has changed; other lines, as of a server that can't be reached, go to the errors. Gives why it
+/// ended. `NoMemory` comes where a growth was refused for the books or the rounds, before anything was done, where a replay
+/// couldn't be put back into the books, or for the last lines. It may take half a minute to stop, or as long as the system
+/// takes to give a connection up.
 pub fn run_witness<'a, R, T, L, S, W, E>(
     rt: &'a R,
     alloc: Global,
@@ -62,38 +63,59 @@ where
     E: Write + Send,
     ensures { IsEnding order.entry.known.now order.entry.epoch result }
 {
-    let WitnessOrder {
-        roster,
-        digest,
-        epoch,
-        known,
-        servers,
-        witnesses,
-        every,
-        patience,
-        evidence,
-        shelf,
-        listener,
-        control,
-        workers,
-        join,
-    } = order;
-    let Ok(bases) = bases_of(rt, alloc, &roster, digest, servers, join, output) else {
-        return Ending::NoMemory;
-    };
-    let Ok(watch) = open_watch(alloc, clock, &roster, bases, digest) else {
-        return Ending::NoMemory;
-    };
+    match begin_watch(rt, alloc, clock, &order, output) {
+        Ok(watch) => watch_servers(rt, alloc, clock, order, watch, output),
+        Err(AllocError) => Ending::NoMemory,
+    }
+}
+
+/// New books, from the bases that servers give, where they are to be asked for them.
+fn begin_watch<R, T, L, S, W, E>(
+    rt: &R,
+    alloc: Global,
+    clock: &T,
+    order: &WitnessOrder<'_, L, S>,
+    output: &Mutex<Output<W, E>>,
+) -> Result<Watch, AllocError>
+where
+    R: Wait + Net<Listener = TcpListener, Stream = TcpStream>,
+    T: std::time::Clock,
+    W: Write,
+    E: Write,
+{
+    let bases = bases_of(rt, alloc, order, output)?;
+    open_watch(alloc, clock, order, bases)
+}
+
+/// Watches with these books until the process is to end. Gives why it ended.
+fn watch_servers<'a, R, T, L, S, W, E>(
+    rt: &'a R,
+    alloc: Global,
+    clock: &'a T,
+    order: WitnessOrder<'a, L, S>,
+    watch: Watch,
+    output: &'a Mutex<Output<W, E>>,
+) -> Ending
+where
+    R: Threads + Wait + Sync + Net<Listener = TcpListener, Stream = TcpStream>,
+    T: std::time::Clock + Sync,
+    L: OpenListener<Stream = TcpStream> + Drop + Sync,
+    S: Shelf + Drop + Send,
+    W: Write + Send,
+    E: Write + Send,
+    ensures { IsEnding order.entry.known.now order.entry.epoch result }
+{
+    let (known, epoch) = (order.known, order.epoch);
     let watch = Mutex::new(watch);
     let phase = Mutex::new(Phase::Serving);
     let elsewhere = Mutex::new(Elsewhere::nobody());
-    let shelf = Mutex::new(shelf);
+    let shelf = Mutex::new(order.shelf);
     let context = Context {
         rt,
         alloc,
         clock,
-        roster: &roster,
-        digest,
+        roster: &order.roster,
+        digest: order.digest,
         epoch,
         known,
         elsewhere: &elsewhere,
@@ -101,26 +123,27 @@ where
         phase: &phase,
         output,
         shelf: &shelf,
-        evidence,
-        every,
-        patience,
-        workers,
+        evidence: order.evidence,
+        every: order.every,
+        patience: order.patience,
+        overlap: order.overlap,
+        workers: order.workers,
     };
-    let peers = Peers { servers, witnesses };
-    run_until_end(context, peers, &listener, control);
+    let peers = Peers {
+        servers: order.servers,
+        witnesses: order.witnesses,
+    };
+    run_until_end(context, peers, &order.listener, order.control);
     let ending = end_of(context, known, epoch);
     say_begun(context, ending);
     ending
 }
 
 /// The bases that servers give, where they are to be asked for them; else none.
-fn bases_of<R, W, E>(
+fn bases_of<R, L, S, W, E>(
     rt: &R,
     alloc: Global,
-    roster: &Roster,
-    digest: [u8; 32],
-    servers: &[WatchedServer<'_>],
-    join: bool,
+    order: &WitnessOrder<'_, L, S>,
     output: &Mutex<Output<W, E>>,
 ) -> Result<Vec<Checked<Base>>, AllocError>
 where
@@ -128,29 +151,30 @@ where
     W: Write,
     E: Write,
 {
-    if !join {
+    if !order.join {
         return Ok(Vec::new(alloc));
     }
     let joining = Joining {
         rt,
         alloc,
-        roster,
-        digest,
+        roster: &order.roster,
+        digest: order.digest,
         output,
     };
-    joining.bases(servers)
+    joining.bases(order.servers)
 }
 
-/// New books, with a copy of the roster, from these bases.
-fn open_watch<T: std::time::Clock>(
+/// New books, with a copy of the roster, of each server from its base, if it has one among these.
+fn open_watch<T: std::time::Clock, L, S>(
     alloc: Global,
     clock: &T,
-    roster: &Roster,
+    order: &WitnessOrder<'_, L, S>,
     bases: Vec<Checked<Base>>,
-    digest: [u8; 32],
 ) -> Result<Watch, AllocError> {
-    let roster = roster.try_clone(alloc)?;
-    Watch::open(alloc, roster, bases, digest, seconds_now(clock, 0))
+    let roster = order.roster.try_clone(alloc)?;
+    let servers = servers_of(alloc, order.servers)?;
+    let time = seconds_now(clock, 0);
+    Watch::open(alloc, roster, &servers, bases, order.digest, time)
 }
 
 /// Runs until the process is to end, and all threads have ended.

@@ -20,5 +20,6 @@ returns c =
     (ap₂ ◌∷◌ c.flag.ensures
     (ap₂ ◌∷◌ c.word-6.ensures
     (ap₂ ◌∷◌ c.word-7.ensures
-    refl)))))))))) in
+    (ap₂ ◌∷◌ c.word-8.ensures
+    refl))))))))))) in
     IfOk-weaker c.with_rows.result _ _ (λ r is. is ∙ ap₂ with_rules empty rows) c.with_rows.ensures

@@ -1,0 +1,410 @@
+//! The books of a server, and beside them those from which they went on by a base, while these stand.
+
+ghost use Rattle.std.specs.Prelude.{◌≡◌, ◌↔◌, ◌==◌, IfOk, IfSome, IsFalse, IsTrue, OnErr, filter, not};
+ghost use Rattle.std.specs.Prelude.{option_map};
+ghost use Rattle.std.specs.Arc.{arc_value};
+ghost use Rattle.request_streams.specs.Serving.{IsAnswerIf};
+ghost use Rattle.watching.specs.Answers.{standing_number};
+ghost use Rattle.witness_books.specs.Books.{beginning_of};
+ghost use Rattle.witness_books.specs.node_book.Replies.{indication_in};
+ghost use Rattle.witness_process.specs.Answered.{IsAnsweredUnderLock};
+ghost use Rattle.witness_process.specs.Overlaps.{AreLetGo, BeginsAt, IsDeliveredTo, IsSettled, IsShown, IsTrusted};
+ghost use Rattle.witness_process.specs.Overlaps.{IsTrustedBy, MayGo, NotesShown, ShowsEither, TellsBoth, WentOn};
+ghost use Rattle.witness_process.specs.Overlaps.{clients_of, worse, worse_of};
+
+use crate::account::Account;
+use crate::brought::{DELIVER, asks_for_faults, procedure_of};
+use crate::watch::answered;
+use authenticator::{Authenticator, Checked, Kind, Roster};
+use challenge::{Base, Evidence};
+use request_streams::Outcome;
+use std::alloc::{AllocError, Global};
+use std::mem;
+use std::sync::Arc;
+use watching::packet_texts::learn_packet;
+use watching::{Delivered, Host, Said, Standing, StartFault};
+use witness_books::{EventOf, Indication, Refusal};
+use witness_service::SignatureCache;
+
+/// How many entries books audit before they go on: half of what a book takes.
+const HALF_A_BOOK: u64 = 32_768;
+
+/// The books of a server, and beside them those from which they went on by a base, while these stand.
+#[derive(Drop)]
+pub(crate) struct NodeBooks {
+    /// The server.
+    pub(crate) node: u32,
+    /// Its books.
+    pub(crate) current: Standing,
+    /// The reading of the clock when they began, in seconds.
+    pub(crate) begun: u64,
+    /// Those from which they went on.
+    pub(crate) before: Option<Before>,
+}
+
+/// Books that went on by a base to others, and still stand beside them.
+#[derive(Drop)]
+pub(crate) struct Before {
+    standing: Standing,
+    /// The number of the base.
+    at: u64,
+    /// The reading of the clock when they went on, in seconds.
+    since: u64,
+    /// The clients whose logs showed no signature of the server's from that number on.
+    unshown: Vec<u32>,
+}
+
+impl NodeBooks {
+    /// The books of a server that begin at a time, beside which none stand.
+    pub(crate) fn new(node: u32, books: Standing, time: u64) -> NodeBooks {
+        NodeBooks {
+            node,
+            current: books,
+            begun: time,
+            before: None,
+        }
+    }
+
+    /// What the books say of the server: while two sets stand, the worse of what they say. None where it is no member.
+    /// `AllocError` comes only where a growth was refused.
+    pub(crate) fn ask(&mut self, alloc: Global) -> Result<Option<Account>, AllocError>
+        ensures { IfOk result (λ told. TellsBoth self.old told self.new) }
+    {
+        let current = Account::ask(&mut self.current, alloc, self.node)?;
+        match &mut self.before {
+            Some(before) => {
+                let earlier = Account::ask(&mut before.standing, alloc, self.node)?;
+                Ok(worse_of(current, earlier))
+            }
+            None => Ok(current),
+        }
+    }
+
+    /// The evidence against the server, if either set has some. `AllocError` comes only where a growth was refused.
+    pub(crate) fn evidence(&mut self, alloc: Global) -> Result<Option<Arc<Evidence>>, AllocError>
+        ensures { IfOk result (λ e. ShowsEither self.old (option_map arc_value e) self.new) }
+    {
+        let found = self.current.evidence(alloc, self.node)?;
+        if found.is_some() {
+            return Ok(found);
+        }
+        match &mut self.before {
+            Some(before) => before.standing.evidence(alloc, self.node),
+            None => Ok(None),
+        }
+    }
+
+    /// Hands a packet to the books: what lies below their base goes to those from which they went on. `AllocError` comes
+    /// only where a growth was refused.
+    pub(crate) fn deliver(
+        &mut self,
+        alloc: Global,
+        cache: &mut SignatureCache,
+        packet: &[u8],
+    ) -> Result<Delivered, AllocError>
+        ensures { IfOk result (λ became. IsDeliveredTo self.old packet.now became self.new) }
+    {
+        let became = self.current.deliver(alloc, cache, packet)?;
+        if became != Delivered::Refused(Refusal::BelowBase) {
+            return Ok(became);
+        }
+        match &mut self.before {
+            Some(before) => before.standing.deliver(alloc, cache, packet),
+            None => Ok(became),
+        }
+    }
+
+    /// Answers a record that is about the server: of a packet below the base, and of what is told of a server that they
+    /// alone expose, by the books from which these went on.
+    pub(crate) fn answer(
+        &mut self,
+        alloc: Global,
+        cache: &mut SignatureCache,
+        host: &Host,
+        bytes: &[u8],
+        out: &mut Vec<u8>,
+    ) -> Outcome
+        ensures { IsAnswerIf (IsAnsweredUnderLock host.now.digest) bytes.now out.new.items result }
+    {
+        let Some(before) = &mut self.before else {
+            return answered(&mut self.current, alloc, cache, host, bytes, out);
+        };
+        if asks_for_faults(bytes) && before.is_exposed(alloc, self.node) {
+            return answered(&mut before.standing, alloc, cache, host, bytes, out);
+        }
+        let outcome = answered(&mut self.current, alloc, cache, host, bytes, out);
+        if procedure_of(bytes) == Some(DELIVER) && is_below_base(out) {
+            return answered(&mut before.standing, alloc, cache, host, bytes, out);
+        }
+        outcome
+    }
+
+    /// The oldest authenticator that the server's log showed of another node, which counts as handed on; of the books that
+    /// went on last. `AllocError` comes only where a growth was refused.
+    pub(crate) fn forward(&mut self, alloc: Global) -> Result<Option<Authenticator>, AllocError> {
+        if let Some(found) = forwarded(&mut self.current, alloc, self.node)? {
+            return Ok(Some(found));
+        }
+        match &mut self.before {
+            Some(before) => forwarded(&mut before.standing, alloc, self.node),
+            None => Ok(None),
+        }
+    }
+
+    /// Notes that a client's log showed a signature of the server's with a number.
+    pub(crate) fn note_shown(&mut self, client: u32, number: u64)
+        ensures current { self.new.current ≡ self.old.current }
+        ensures before { NotesShown self.old.before client number self.new.before }
+    {
+        if let Some(before) = &mut self.before {
+            before.note_shown(client, number);
+        }
+    }
+
+    /// Lets the books go from which these went on, where they stood for more seconds than these or each client's log showed
+    /// a signature of the server's from the base on; not where they expose the server, or a challenge by them is open.
+    pub(crate) fn let_go(&mut self, alloc: Global, time: u64, overlap: u32)
+        ensures current { self.new.current ≡ self.old.current }
+        ensures before { AreLetGo self.old.node time overlap self.old.before self.new.before }
+    {
+        let Some(before) = &mut self.before else {
+            return;
+        };
+        if before.may_go(time, overlap) && before.is_trusted(alloc, self.node) {
+            self.before = None;
+        }
+    }
+
+    /// The number after which a base is to be asked for, so that it is at a CHECK of the segment that was filed sound last:
+    /// once the books stand for so many seconds, or half of what a book takes was audited, and only where no books stand
+    /// beside them.
+    pub(crate) fn base_after(&self, time: u64, overlap: u32) -> Option<u64> {
+        if self.before.is_some() {
+            return None;
+        }
+        let from = began(&self.current, self.node);
+        let end = self.current.end(self.node)?;
+        let age = time.saturating_sub(self.begun);
+        if age < u64::from(overlap) && end.saturating_sub(from) < HALF_A_BOOK {
+            return None;
+        }
+        let first = self.current.last_first(self.node)?;
+        Some(from.max(first.saturating_sub(1)))
+    }
+
+    /// Goes on by a base at a CHECK that the books have themselves filed as sound, with that very state: other books begin
+    /// there, with what the server showed last, and these stay beside them. It doesn't where books stand beside them, where
+    /// the server is exposed or a challenge to it is open, or where something is left to audit. Says whether it did.
+    /// `AllocError` comes only where a growth was refused; then the books are as they were but for questions.
+    pub(crate) fn go_on(
+        &mut self,
+        alloc: Global,
+        cache: &mut SignatureCache,
+        base: Checked<Base>,
+        time: u64,
+    ) -> Result<bool, AllocError>
+        ensures went { IfOk result (λ went. IsTrue went → WentOn self.old self.new) }
+        ensures stays { IfOk result (λ went. IsFalse went → self.new.before ≡ self.old.before) }
+        ensures refused { OnErr result (self.new.before ≡ self.old.before) }
+    {
+        if self.before.is_some() || !self.is_settled(alloc)? {
+            return Ok(false);
+        }
+        if !self.current.may_go_on(alloc, base.value())? {
+            return Ok(false);
+        }
+        let at = base.value().at().get();
+        let unshown = clients_of(alloc, self.current.books().roster())?;
+        let Some(next) = begin_at(alloc, cache, &self.current, base)? else {
+            return Ok(false);
+        };
+        let standing = mem::replace(&mut self.current, next);
+        self.before = Some(Before {
+            standing,
+            at,
+            since: time,
+            unshown,
+        });
+        self.begun = time;
+        Ok(true)
+    }
+
+    /// Whether the server is trusted, and nothing is left to audit. An audit may be opened to know it. `AllocError` comes
+    /// only where a growth was refused.
+    fn is_settled(&mut self, alloc: Global) -> Result<bool, AllocError>
+        ensures settled { IfOk result (λ b. IsTrue b →
+            IsSettled self.old.node self.old.current.books self.new.current.books) }
+        ensures node { self.new.node ≡ self.old.node }
+        ensures beginning { beginning_of self.new.current.books ≡ beginning_of self.old.current.books }
+        ensures before { self.new.before ≡ self.old.before }
+    {
+        if !is_trusted(&mut self.current, alloc, self.node)? {
+            return Ok(false);
+        }
+        let said = Said::of(self.current.step(alloc, EventOf::Audit(self.node)));
+        if said.is_no_memory() {
+            return Err(AllocError);
+        }
+        Ok(matches!(said, Said::Refused(Refusal::NothingToAudit)))
+    }
+}
+
+impl Before {
+    /// Whether they stood for more seconds than these, or each client's log showed a signature of the server's from the
+    /// base on.
+    fn may_go(&self, time: u64, overlap: u32) -> bool
+        ensures { IsTrue result ↔ MayGo self.now time overlap }
+    {
+        time.saturating_sub(self.since) > u64::from(overlap) || self.unshown.is_empty()
+    }
+
+    /// Notes that a client's log showed a signature of the server's with a number.
+    fn note_shown(&mut self, client: u32, number: u64)
+        ensures { IsShown client number self.old self.new }
+    {
+        if number >= self.at {
+            leave_out(&mut self.unshown, client);
+        }
+    }
+
+    /// Whether they expose the server. Where memory is refused they count as if they didn't.
+    fn is_exposed(&mut self, alloc: Global, node: u32) -> bool {
+        match self.standing.told(alloc, node) {
+            Ok(Some(told)) => told.indication == Indication::Exposed,
+            Ok(None) => false,
+            Err(AllocError) => false,
+        }
+    }
+
+    /// Whether they trust the server. Where memory is refused they count as if they didn't.
+    fn is_trusted(&mut self, alloc: Global, node: u32) -> bool
+        ensures told { IsTrue result → IsTrustedBy node self.old.standing.books }
+    {
+        matches!(is_trusted(&mut self.standing, alloc, node), Ok(true))
+    }
+}
+
+/// Whether books trust a node: there is no evidence against it, and no challenge is open. `AllocError` comes only where a
+/// growth was refused.
+fn is_trusted(standing: &mut Standing, alloc: Global, node: u32) -> Result<bool, AllocError>
+    ensures beginning { beginning_of standing.new.books ≡ beginning_of standing.old.books }
+    ensures trusted { IfOk result (λ b. IsTrue b → IsTrusted node standing.old.books standing.new.books) }
+{
+    let Some(told) = standing.told(alloc, node)? else {
+        return Ok(false);
+    };
+    Ok(told.indication == Indication::Trusted && told.open == 0)
+}
+
+/// The worse of what two sets of books told, the first where neither is.
+fn worse_of(current: Option<Account>, earlier: Option<Account>) -> Option<Account>
+    ensures { result ≡ worse_of current earlier }
+{
+    match (current, earlier) {
+        (Some(current), Some(earlier)) => Some(worse_account(current, earlier)),
+        (current, _) => current,
+    }
+}
+
+/// The worse of two accounts, the first where neither is.
+fn worse_account(current: Account, earlier: Account) -> Account
+    ensures { result ≡ worse current earlier }
+{
+    if rank(current.told().indication) < rank(earlier.told().indication) {
+        earlier
+    } else {
+        current
+    }
+}
+
+/// How bad an indication is.
+fn rank(indication: Indication) -> u32
+    ensures { result ≡ standing_number (indication_in indication) }
+{
+    match indication {
+        Indication::Trusted => 1,
+        Indication::Suspected => 2,
+        Indication::Exposed => 3,
+    }
+}
+
+/// The oldest authenticator that a node's log showed of another one, which counts as handed on.
+pub(crate) fn forwarded(
+    standing: &mut Standing,
+    alloc: Global,
+    node: u32,
+) -> Result<Option<Authenticator>, AllocError> {
+    match Said::of(standing.step(alloc, EventOf::Forward(node))) {
+        Said::Forwarded(authenticator) => Ok(Some(authenticator)),
+        said => {
+            if said.is_no_memory() {
+                Err(AllocError)
+            } else {
+                Ok(None)
+            }
+        }
+    }
+}
+
+/// Leaves a node out.
+fn leave_out(nodes: &mut Vec<u32>, node: u32)
+    ensures { nodes.new.items ≡ filter (λ n. not (n == node)) nodes.old.items }
+{
+    nodes.retain(|one| *one != node);
+}
+
+/// The clients of a roster.
+fn clients_of(alloc: Global, roster: &Roster) -> Result<Vec<u32>, AllocError>
+    ensures { IfOk result (λ nodes. nodes.items ≡ clients_of roster.now) }
+{
+    let mut nodes = Vec::new(alloc);
+    for member in roster.members() {
+        if member.kind == Kind::Client {
+            nodes.push(member.node)?;
+        }
+    }
+    Ok(nodes)
+}
+
+/// Books that begin at a base, of the roster of other books, and know what its node showed these last; none where it showed
+/// nothing, or the new books refuse it or the base. `AllocError` comes only where a growth was refused.
+fn begin_at(
+    alloc: Global,
+    cache: &mut SignatureCache,
+    old: &Standing,
+    base: Checked<Base>,
+) -> Result<Option<Standing>, AllocError>
+    ensures { IfOk result (λ next. IfSome next (λ new. BeginsAt old.now base.value new)) }
+{
+    let Some(shown) = old.shown(base.value().showing().node()) else {
+        return Ok(None);
+    };
+    let packet = learn_packet(alloc, shown)?;
+    let roster = old.books().roster().try_clone(alloc)?;
+    let mut bases = Vec::new(alloc);
+    bases.push(base)?;
+    let mut next = match Standing::start(alloc, roster, bases) {
+        Ok(next) => next,
+        Err(StartFault::NoMemory) => return Err(AllocError),
+        Err(_) => return Ok(None),
+    };
+    match next.deliver(alloc, cache, &packet)? {
+        Delivered::Taken | Delivered::Already => Ok(Some(next)),
+        Delivered::Refused(_) => Ok(None),
+    }
+}
+
+/// The number from which the books of a node began: that of its base, or 0.
+fn began(standing: &Standing, node: u32) -> u64 {
+    for base in standing.books().bases() {
+        if base.showing().node() == node {
+            return base.at().get();
+        }
+    }
+    0
+}
+
+/// Whether a reply says that a packet lies below the base: after the words of SUCCESS stands 16 and that refusal's number.
+fn is_below_base(reply: &[u8]) -> bool {
+    reply.len() == 28 && reply.ends_with(&[0, 0, 0, 31])
+}
