@@ -3,6 +3,7 @@
 
 mod cause;
 mod context;
+mod delivery;
 mod desk;
 mod learned;
 mod local_programs;
@@ -17,6 +18,8 @@ mod status;
 mod tcp_courier;
 mod trouble;
 mod watch;
+mod way;
+mod ways;
 mod witness_peer;
 
 pub use run::{Ending, GatewayOrder, run_gateway};
