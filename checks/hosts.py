@@ -29,7 +29,7 @@ from generator.texts import authenticator_text  # noqa: E402
 from hosts.kills import check_kills  # noqa: E402
 from hosts.logs import ServedLog, last_signed, log_of  # noqa: E402
 from hosts.parties import EVERY, Hosts, Party, spelled  # noqa: E402
-from hosts.proxy import Garbler, Proxy, Rough, Switch, Turns  # noqa: E402
+from hosts.proxy import Delay, Garbler, Proxy, Rough, Swaps, Switch, Turns, Waves  # noqa: E402
 from peer import rows  # noqa: E402
 from peer.gateway import Gateway, ask, case_of, handed, last_shown, stands  # noqa: E402
 from peer.keys import Keys  # noqa: E402
@@ -1119,35 +1119,114 @@ def check_same_call(program: str):
     print('a call that comes again on another connection is made once')
 
 
-def check_in_flight(program: str, most: int = 4):
-    """Calls of several local connections are in flight at once. One more waits for one of them. Each gets its reply."""
+def of_own_xid(number: int) -> bytes:
+    """A call that has this number as its xid."""
+    return word(number) + ATTRIBUTES[4:]
+
+
+def make_in_flight(address: Address, many: int, count: int):
+    """So many local connections make so many calls each, one after the other. Each gets the reply to it."""
+    def make(first: int):
+        connection = Connection(address[1])
+        for number in range(first, first + count):
+            assert connection.ask(of_own_xid(number)) == owed(of_own_xid(number)), number
+        connection.close()
+
+    with ThreadPoolExecutor(many) as pool:
+        list(pool.map(make, range(100, 100 + many * count, count)))
+
+
+def check_in_flight(program: str, many: int = 16, count: int = 4):
+    """As many calls are in flight as there are local connections, over four connections to the server. Each gets its
+    reply, and takes two keys of each node."""
+    with Hosts(program) as hosts:
+        usual(hosts, 8, 8)
+        server = hosts.server('one')
+        way = hosts.keep(Waves(server.address(), many))
+        witness = hosts.witness({1: server.address()})
+        state = hosts.state()
+        gateway = hosts.gateway('two', '2-2', way.address, witness.address(), state=state)
+        make_in_flight(gateway.address(), many, count)
+        assert way.came == many * count, f'{way.came} calls came'
+        assert way.connections <= CONNECTIONS, f'{way.connections} connections'
+        logged = log_of(server.address(), hosts.roster())
+        assert sorted(each.body for each in logged.calls) == [of_own_xid(100 + each) for each in range(many * count)]
+        takes_two_keys(logged)
+        hosts.wait_until(witness.address(), lambda told: told[2][:2] == ('trusted', 0) and told[2][2] >= 3 * many * count)
+        assert hosts.stop(gateway, state) == 0, gateway.said()
+    print(f'{many * count} calls by {many} local connections take {count} round trips over {way.connections} connections')
+
+
+def check_sixteen_in_flight(program: str, many: int = 16, count: int = 4, seconds: float = 0.05):
+    """Calls by sixteen local connections over a long way don't wait for each other's round trips."""
+    with Hosts(program) as hosts:
+        usual(hosts, 8, 8)
+        server = hosts.server('one')
+        way = hosts.keep(Delay(server.address(), seconds))
+        address = hosts.gateway('two', '2-2', way.address).address()
+        started = time.monotonic()
+        make_in_flight(address, many, count)
+        took = time.monotonic() - started
+        trips = round(took / (2 * seconds), 1)
+        assert trips < many * count / 2, f'{many * count} calls took as long as {trips} round trips'
+        takes_two_keys(log_of(server.address(), hosts.roster()))
+    print(f'{many * count} calls by {many} local connections over a long way take as long as {trips} round trips')
+
+
+def check_disorder(program: str, many: int = 16, count: int = 8):
+    """Answers that come twice, or out of the order of the calls: each local connection gets the replies to its own calls,
+    and no call is made twice."""
+    with Hosts(program) as hosts:
+        usual(hosts, 9, 9)
+        server = hosts.server('one')
+        way = hosts.keep(Swaps(server.address(), 3, 6))
+        gateway = hosts.gateway('two', '2-2', way.address)
+        make_in_flight(gateway.address(), many, count)
+        logged = log_of(server.address(), hosts.roster())
+        assert sorted(each.body for each in logged.calls) == [of_own_xid(100 + each) for each in range(many * count)]
+        takes_two_keys(logged)
+        assert way.swaps + way.repeats > 3, (way.swaps, way.repeats)
+    print(f'{way.swaps} answers out of order and {way.repeats} that come twice: each of {many * count} calls gets its own')
+
+
+def check_rough_in_flight(program: str, many: int = 12, count: int = 8):
+    """The way drops, delays, repeats and cuts while several calls are in flight on each connection: each reply comes, and
+    no call is made twice."""
+    with Hosts(program) as hosts:
+        usual(hosts, 8, 8)
+        server = hosts.server('one')
+        way = hosts.keep(Rough(server.address(), 5, 24))
+        state = hosts.state()
+        gateway = hosts.gateway('two', '2-2', way.address, state=state)
+        make_in_flight(gateway.address(), many, count)
+        assert hosts.stop(gateway, state) == 0, gateway.said()
+        logged = log_of(server.address(), hosts.roster())
+        assert sorted(each.body for each in logged.calls) == [of_own_xid(100 + each) for each in range(many * count)]
+        takes_two_keys(logged)
+        acked = sum(entry.kind == ACK for entry in logged.entries)
+        assert many * count - acked <= CONNECTIONS, f'{acked} of {many * count} replies were acknowledged'
+        faults = sum(times for fault, times in way.faults.items() if fault)
+    print(f'{many * count} calls by {many} local connections over a rough way, {faults} faults, {way.connections} '
+          'connections: each reply comes, and takes two keys of each')
+
+
+def check_gives_up_in_flight(program: str, many: int = 8):
+    """A server that answers nothing: each of the calls in flight is given up after the seconds that are asked for."""
     with Hosts(program) as hosts:
         usual(hosts)
         server = hosts.keep(Slow(hosts.keys('one', 1, SERVER, 7), hosts.roster()))
-        witness = hosts.witness({1: server.address})
-        state = hosts.state()
-        gateway = hosts.gateway('two', '2-2', server.address, witness.address(), state=state)
-        address = gateway.address()
-        calls = [word(100 + number) + ATTRIBUTES[4:] for number in range(most + 2)]
-        connections = [Connection(address[1]) for _ in calls]
-        for connection, call in zip(connections, calls):
-            connection.send(record(call))
-        end = time.monotonic() + 60
-        while server.came < most:
-            assert time.monotonic() < end, f'{server.came} calls came'
-            time.sleep(0.1)
-        time.sleep(1)
-        assert server.came == most, f'{server.came} calls came'
-        assert hosts.status_of(state)['calls'] == ['0']
+        gateway = hosts.gateway('two', '2-2', server.address, more=('--give-up', '2'))
+        connections = [Connection(gateway.address()[1]) for _ in range(many)]
+        started = time.monotonic()
+        for number, connection in enumerate(connections):
+            connection.send(record(of_own_xid(number)))
+        for connection in connections:
+            assert connection.is_cut()
+        took = time.monotonic() - started
+        assert 2 <= took < 10, f'it took {took} seconds'
         server.may_answer.set()
-        for connection, call in zip(connections, calls):
-            assert connection.reply() == owed(call)
-        logged = log_of(server.address, hosts.roster())
-        assert sorted(each.body for each in logged.calls) == sorted(calls)
-        takes_two_keys(logged)
-        hosts.wait_until(witness.address(), lambda told: told[2][:2] == ('trusted', 0) and told[2][2] >= 3 * len(calls))
-        assert hosts.stop(gateway, state) == 0, gateway.said()
-    print(f'{most} calls are in flight at once, and {len(calls)} get their own replies')
+        assert Connection(gateway.address()[1]).ask(ATTRIBUTES) == owed(ATTRIBUTES)
+    print(f'{many} calls in flight are given up after --give-up, and the next one is made')
 
 
 def check_gateway_put_back(program: str):
@@ -1620,7 +1699,8 @@ CHECKS = [check_late, check_late_lie, check_below_base, check_meeting, check_bad
 CHECKS = [check_late, check_late_lie, check_goes_on, check_lie_between, check_meeting, check_bad_meetings, check_put_back, check_slow_readers, check_ask_many, check_server, check_strangers, check_assured, check_server_keys, check_three, check_rows, check_lie, check_fork, check_none, check_other_calls, check_suspected,
 >>>>>>> h1/main
           check_other_witness, check_lives, check_second_roster, check_keys_used_up, check_ask,
-          check_calls, check_breaks, check_garbage, check_same_call, check_in_flight, check_gateway_put_back, check_open_message, check_rough,
+          check_calls, check_breaks, check_garbage, check_same_call, check_in_flight,
+          check_sixteen_in_flight, check_disorder, check_rough_in_flight, check_gives_up_in_flight, check_gateway_put_back, check_open_message, check_rough,
           check_round_trips, check_away, check_give_up, check_next_epoch, check_witness_epoch, check_witness_next_epoch,
           check_resets, check_ask_gateway, check_challenge, check_ranges, check_status,
           check_log_file, check_kills]

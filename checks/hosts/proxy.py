@@ -1,6 +1,7 @@
 """Ways between a gateway and a server: ones that break, a long one, one on which other bytes come than the server's, one
-that is off at times, and one that counts round trips."""
+that is off at times, and ones that count round trips."""
 
+import select
 import socket
 import threading
 import time
@@ -9,7 +10,7 @@ from collections.abc import Callable
 from queue import SimpleQueue
 from random import Random
 
-from peer.wire import ACKNOWLEDGE, MOST, Address, Broken, RecordReader, record, shut
+from peer.wire import ACKNOWLEDGE, DELIVER, MOST, Address, Broken, RecordReader, record, shut
 
 PIECE = 4096
 MOST_OF_ANY = 1 << 27
@@ -218,6 +219,98 @@ class Turns(Way):
         finally:
             shut(near)
             shut(far)
+
+
+class Waves(Way):
+    """Carries calls, and keeps what is answered to DELIVER until so many of these calls came, over all connections: then
+    their answers go, which is one round trip for all of them. Counts the calls and the connections."""
+
+    def __init__(self, to: Address, many: int):
+        self.many = many
+        self.came = 0
+        self.connections = 0
+        self.changed = threading.Condition()
+        super().__init__(to)
+
+    def join(self, near: socket.socket, far: socket.socket):
+        self.connections += 1
+        numbers: SimpleQueue[int | None] = SimpleQueue()
+        for carry_some, ends in (self.carry_calls, (near, far)), (self.carry_answers, (far, near)):
+            threading.Thread(target=carry_some, args=(*ends, numbers), daemon=True).start()
+
+    def carry_calls(self, near: socket.socket, far: socket.socket, numbers: 'SimpleQueue[int | None]'):
+        calls = RecordReader(near)
+        try:
+            while (call := calls.next(MOST)) is not None:
+                numbers.put(self.count() if procedure_of(call) == DELIVER else None)
+                far.sendall(record(call))
+        except (Broken, OSError):
+            pass
+        finally:
+            shut(near)
+            shut(far)
+
+    def count(self) -> int:
+        """One more call came: how many came before it."""
+        with self.changed:
+            self.came += 1
+            self.changed.notify_all()
+            return self.came - 1
+
+    def carry_answers(self, far: socket.socket, near: socket.socket, numbers: 'SimpleQueue[int | None]'):
+        answers = RecordReader(far)
+        try:
+            while (answer := answers.next(MOST_OF_ANY)) is not None:
+                number = numbers.get()
+                if number is not None:
+                    with self.changed:
+                        self.changed.wait_for(lambda: self.came >= (number // self.many + 1) * self.many)
+                near.sendall(record(answer))
+        except (Broken, OSError):
+            pass
+        finally:
+            shut(near)
+            shut(far)
+
+
+class Swaps(Way):
+    """Carries records. Now and then it keeps what is answered until the next answer on that connection has gone, or it
+    carries it twice."""
+
+    def __init__(self, to: Address, seed: int, every: int):
+        """In one of so many answers."""
+        self.random = Random(seed)
+        self.every = every
+        self.swaps = 0
+        self.repeats = 0
+        super().__init__(to)
+
+    def join(self, near: socket.socket, far: socket.socket):
+        threading.Thread(target=carry, args=(near, far), daemon=True).start()
+        threading.Thread(target=self.carry_answers, args=(far, near), daemon=True).start()
+
+    def carry_answers(self, far: socket.socket, near: socket.socket):
+        answers, kept = RecordReader(far), b''
+        try:
+            while (answer := answers.next(MOST_OF_ANY)) is not None:
+                data, chance = record(answer), self.random.randrange(2 * self.every)
+                if not kept and chance == 0 and waits(far):
+                    kept = data
+                    continue
+                self.swaps += kept != b''
+                self.repeats += chance == 1
+                near.sendall(data + kept + (data if chance == 1 else b''))
+                kept = b''
+        except (Broken, OSError):
+            pass
+        finally:
+            shut(near)
+            shut(far)
+
+
+def waits(source: socket.socket) -> bool:
+    """Whether more bytes come within a moment."""
+    return bool(select.select([source], [], [], 0.1)[0])
 
 
 class Rough(Way):

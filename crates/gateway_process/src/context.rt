@@ -3,6 +3,7 @@
 use crate::desk::Desk;
 use crate::local_stream::LocalStream;
 use crate::run::Ending;
+use crate::tcp_courier::Route;
 use peer_calls::Greeting;
 use peer_connections::{Output, Phase, end_serving, is_serving};
 use remote_sharing::{Flights, SharedClient};
@@ -133,16 +134,16 @@ impl<'a, R, T, W, E> Clone for Shared<'a, R, T, W, E> {
 impl<'a, R, T, W, E> Copy for Shared<'a, R, T, W, E> {}
 
 /// What serves local programs.
-pub(crate) struct Serving<'a, R, T, W, E, C> {
+pub(crate) struct Serving<'a, R, T, W, E> {
     pub(crate) shared: Shared<'a, R, T, W, E>,
-    /// The ways to the server.
-    pub(crate) ways: &'a [Mutex<C>],
+    /// How the server is reached.
+    pub(crate) route: Route<'a>,
 }
 
-impl<'a, R, T, W, E, C> Clone for Serving<'a, R, T, W, E, C> {
-    fn clone(&self) -> Result<Serving<'a, R, T, W, E, C>, AllocError> {
+impl<'a, R, T, W, E> Clone for Serving<'a, R, T, W, E> {
+    fn clone(&self) -> Result<Serving<'a, R, T, W, E>, AllocError> {
         Ok(*self)
     }
 }
 
-impl<'a, R, T, W, E, C> Copy for Serving<'a, R, T, W, E, C> {}
+impl<'a, R, T, W, E> Copy for Serving<'a, R, T, W, E> {}

@@ -3,6 +3,7 @@
 
 mod cause;
 mod context;
+mod delivery;
 mod desk;
 mod local_programs;
 mod local_stream;
@@ -15,6 +16,8 @@ mod status;
 mod tcp_courier;
 mod trouble;
 mod watch;
+mod way;
+mod ways;
 mod witness_caller;
 mod witness_peer;
 

@@ -1,58 +1,56 @@
 //! Local programs, each served over a connection of its own.
 
 use crate::cause::Cause;
-use crate::context::{Context, Shared};
+use crate::context::{Context, Serving, Shared};
 use crate::local_stream::LocalStream;
+use crate::tcp_courier::TcpCourier;
 use authenticator::Number;
 use nodes::{ClientNode, Gateway, LinkFault, StreamFault};
 use peer_connections::{PeerStream, Phase, Waiting, set_timeouts};
-use remote_sharing::{AcceptFault, CallFault, Courier, CourierFault, SharedRemote, serve_shared};
+use remote_sharing::{AcceptFault, CallFault, CourierFault, SharedRemote, serve_shared};
 use rpc::records::{Counting, RecordReader};
 use std::alloc::Global;
 use std::io::{BufReader, Write};
-use std::net::{SocketAddr, TcpStream};
+use std::net::{Net, SocketAddr, TcpListener, TcpStream};
 use std::sync::{Arc, Mutex, Wait};
 use system_clock::SystemClock;
 
 /// The bytes that are read of a stream at once.
 const READ_AHEAD: usize = 65536;
 
-/// Serves a local program to the end of its connection, by these ways to the server. Where that comes before the end
-/// of its stream, says why.
-pub(crate) fn serve_program<R, T, W, E, C>(
-    shared: Shared<'_, R, T, W, E>,
-    ways: &[Mutex<C>],
+/// Serves a local program to the end of its connection. Where that comes before the end of its stream, says why.
+pub(crate) fn serve_program<R, T, W, E>(
+    serving: Serving<'_, R, T, W, E>,
     stream: TcpStream,
     address: SocketAddr,
 )
 where
-    R: Wait,
+    R: Wait + Net<Listener = TcpListener, Stream = TcpStream>,
     T: std::time::Clock,
     W: Write,
     E: Write,
-    C: Courier + Drop,
 {
-    if let Err(cause) = serve_records(shared, ways, &stream) {
-        let alloc = shared.context.alloc;
-        shared
+    let Context { alloc, .. } = serving.shared.context;
+    if let Err(cause) = serve_records(serving, &stream) {
+        serving
+            .shared
             .context
             .say(format!(in alloc; "nfsacc: {address}: {cause}\n"));
     }
 }
 
-/// Answers the records of a connection to its end.
-fn serve_records<R, T, W, E, C>(
-    shared: Shared<'_, R, T, W, E>,
-    ways: &[Mutex<C>],
+/// Answers the records of a connection to its end: its calls have a courier of their own.
+fn serve_records<R, T, W, E>(
+    serving: Serving<'_, R, T, W, E>,
     stream: &TcpStream,
 ) -> Result<(), Cause>
 where
-    R: Wait,
+    R: Wait + Net<Listener = TcpListener, Stream = TcpStream>,
     T: std::time::Clock,
     W: Write,
     E: Write,
-    C: Courier + Drop,
 {
+    let Serving { shared, route } = serving;
     let Context {
         rt,
         alloc,
@@ -73,7 +71,9 @@ where
     let mut writer = Counting::new(PeerStream::new(rt, clock, stream, phase, &waiting));
     let mut times = SystemClock::new(clock);
     let flights = shared.context.flights;
-    let mut link = SharedRemote::new(rt, alloc, shared.client, ways, flights, presence);
+    let courier = TcpCourier::new(shared.context, shared.client, route);
+    let own = [Mutex::new(courier)];
+    let mut link = SharedRemote::new(rt, alloc, shared.client, &own, flights, presence);
     let mut gateway = Gateway::new();
     match serve_shared(
         &mut gateway,

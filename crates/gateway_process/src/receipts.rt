@@ -2,7 +2,7 @@
 
 use crate::trouble::Trouble;
 use peer_calls::{NodeRequest, ResultNumber};
-use peer_connections::{Meanwhile, NodeConnection, Sent};
+use peer_connections::{Meanwhile, NodeReceiver, NodeSender, Sent};
 use std::alloc::{AllocError, Global};
 use xdr::texts::read_text;
 
@@ -49,23 +49,30 @@ impl Receipts {
         }
     }
 
-    /// There is another connection: none was sent over it.
-    pub(crate) fn begin_again(&mut self) {
-        for receipt in &mut self.receipts {
+    /// Takes over others, which weren't sent, behind these. Where memory is refused they stay there.
+    pub(crate) fn append(&mut self, others: &mut Receipts) {
+        let _ = self.receipts.append(&mut others.receipts);
+    }
+
+    /// Takes others back whose connection has ended, to be sent again. Where memory is refused they are let go.
+    pub(crate) fn take_back(&mut self, others: Receipts) {
+        let mut others = others;
+        for receipt in &mut others.receipts {
             receipt.sent = None;
         }
+        self.append(&mut others);
     }
 
     /// Sends those that weren't sent over this connection.
     pub(crate) fn send<M: Meanwhile>(
         &mut self,
-        connection: &mut NodeConnection,
+        sender: &mut NodeSender,
         meanwhile: &mut M,
     ) -> Result<(), Trouble> {
         for receipt in &mut self.receipts {
             if receipt.sent.is_none() {
                 let request = NodeRequest::Acknowledge(&receipt.text);
-                receipt.sent = Some(connection.send(&request, meanwhile)?);
+                receipt.sent = Some(sender.send(&request, meanwhile)?);
             }
         }
         Ok(())
@@ -76,14 +83,14 @@ impl Receipts {
     pub(crate) fn take_answers<M: Meanwhile>(
         &mut self,
         alloc: Global,
-        connection: &mut NodeConnection,
+        receiver: &mut NodeReceiver,
         meanwhile: &mut M,
     ) -> Result<(), Trouble> {
         for _ in 0..self.receipts.len() {
             let Some(sent) = self.first_sent() else {
                 break;
             };
-            let answer = connection.answer(sent, MOST_ACKNOWLEDGED, meanwhile)?;
+            let answer = receiver.answer(sent, MOST_ACKNOWLEDGED, meanwhile)?;
             let _result = read_text::<ResultNumber>(alloc, answer.results())?;
             if !self.receipts.is_empty() {
                 self.receipts.remove(0);

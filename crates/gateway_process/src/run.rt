@@ -5,21 +5,19 @@ use crate::desk::Desk;
 use crate::local_programs::serve_program;
 use crate::reporter::Reporter;
 use crate::status::GatewayTeller;
-use crate::tcp_courier::TcpCourier;
+use crate::tcp_courier::{Route, TcpCourier};
+use crate::ways::Ways;
 use assurance::Keeper;
 use nodes::ClientNode;
 use peer_calls::Greeting;
 use peer_connections::{Accepting, Commands, Output, Phase, attend};
-use remote_sharing::{Courier, Flights, RemoteClient, SharedClient};
+use remote_sharing::{Flights, RemoteClient, SharedClient};
 use std::alloc::{AllocError, Global};
 use std::io::Write;
 use std::net::{Net, OpenListener, TcpListener, TcpStream};
 use std::sync::{Mutex, Wait};
 use std::thread;
 use std::thread::{Scope, Threads};
-
-/// How many calls are carried to the server at once: as many connections a server keeps of a member.
-const WAYS: usize = 4;
 
 /// What a gateway serves.
 #[derive(Drop)]
@@ -158,22 +156,25 @@ where
     let client = Mutex::new(client);
     let (Ok(reporter), Ok(ways)) = (
         Reporter::new(alloc, witnesses, every, reserve, keeper),
-        ways_to(context, &client, address),
+        Ways::new(alloc),
     ) else {
         context.say(format!(in alloc; "nfsacc: out of memory\n"));
         return;
     };
     let reporter = Mutex::new(reporter);
-    reporter.lock(context.rt).report(Shared {
+    let shared = Shared {
         context,
         client: &client,
-    });
+    };
+    let route = Route {
+        address,
+        ways: &ways,
+    };
+    reporter.lock(context.rt).report(shared);
     if context.is_serving() {
-        serve_until_end(context, &client, &ways, &reporter, &listener, control);
+        serve_until_end(Serving { shared, route }, &reporter, &listener, control);
     }
-    for way in &ways {
-        way.lock(context.rt).finish();
-    }
+    TcpCourier::new(context, &client, route).finish();
 }
 
 /// The client of the server with a number: none where its roster lists no such server, or its log isn't empty.
@@ -182,27 +183,9 @@ fn shared_client(alloc: Global, client: ClientNode, server: u32) -> Option<Share
     SharedClient::new(alloc, client).ok()
 }
 
-/// The ways to the server at an address.
-fn ways_to<'a, R, T, W, E>(
-    context: Context<'a, R, T, W, E>,
-    client: &'a Mutex<SharedClient>,
-    address: &'a str,
-) -> Result<Vec<Mutex<TcpCourier<'a, R, T, W, E>>>, AllocError> {
-    let mut ways = Vec::new(context.alloc);
-    for _ in 0..WAYS {
-        let way = Mutex::new(TcpCourier::new(context, client, address));
-        if ways.push(way).is_err() {
-            return Err(AllocError);
-        }
-    }
-    Ok(ways)
-}
-
 /// Serves until the process is to end and all connections have ended, and reports for the last time.
-fn serve_until_end<'s, R, T, L, W, E, C, K>(
-    context: Context<'s, R, T, W, E>,
-    client: &'s Mutex<SharedClient>,
-    ways: &'s [Mutex<C>],
+fn serve_until_end<'s, R, T, L, W, E, K>(
+    serving: Serving<'s, R, T, W, E>,
     reporter: &'s Mutex<Reporter<K>>,
     listener: &'s L,
     control: Option<Commands<'s>>,
@@ -213,11 +196,9 @@ where
     L: OpenListener<Stream = TcpStream> + Sync,
     W: Write + Send,
     E: Write + Send,
-    C: Courier + Drop + Send,
     K: Keeper + Drop + Send,
 {
-    let shared = Shared { context, client };
-    let serving = Serving { shared, ways };
+    let context = serving.shared.context;
     let accepting = Accepting {
         rt: context.rt,
         alloc: context.alloc,
@@ -230,12 +211,12 @@ where
     thread::scope(thread::scope_env(), context.rt, |scope| {
         run_threads(serving, accepting, reporter, control, scope)
     });
-    reporter.lock(context.rt).report(shared);
+    reporter.lock(context.rt).report(serving.shared);
 }
 
 /// Starts the threads, and accepts local programs until the process is to end.
-fn run_threads<'s, V, R, T, L, W, E, C, K>(
-    serving: Serving<'s, R, T, W, E, C>,
+fn run_threads<'s, V, R, T, L, W, E, K>(
+    serving: Serving<'s, R, T, W, E>,
     accepting: Accepting<'s, R, T, L, W, E>,
     reporter: &'s Mutex<Reporter<K>>,
     control: Option<Commands<'s>>,
@@ -247,7 +228,6 @@ where
     L: OpenListener<Stream = TcpStream>,
     W: Write + Send,
     E: Write + Send,
-    C: Courier + Drop + Send,
     K: Keeper + Drop + Send,
 {
     let shared = serving.shared;
@@ -309,26 +289,24 @@ where
 }
 
 /// Accepts local programs, and starts a thread for each.
-fn serve_all<'s, V, R, T, L, W, E, C>(
-    serving: Serving<'s, R, T, W, E, C>,
+fn serve_all<'s, V, R, T, L, W, E>(
+    serving: Serving<'s, R, T, W, E>,
     accepting: Accepting<'s, R, T, L, W, E>,
     scope: &Scope<'s, V>,
 )
 where
-    R: Threads + Wait + Sync,
+    R: Threads + Wait + Sync + Net<Listener = TcpListener, Stream = TcpStream>,
     T: std::time::Clock + Sync,
     L: OpenListener<Stream = TcpStream>,
     W: Write + Send,
     E: Write + Send,
-    C: Courier + Drop + Send,
 {
-    let Serving { shared, ways } = serving;
     accepting.begin();
     for _ in 0..u64::MAX {
         let Some((stream, address, _)) = accepting.next() else {
             return;
         };
-        let run = move || serve_program(shared, ways, stream, address);
+        let run = move || serve_program(serving, stream, address);
         // Where no thread can be made the connection is closed.
         let _ = scope.spawn(run);
     }

@@ -1,16 +1,17 @@
-//! A way to the server over TCP.
-
-ghost use Rattle.std.specs.Prelude.{◌≡◌, OnOk};
+//! Carries a local connection's calls to the server over TCP.
 
 use crate::context::Context;
+use crate::delivery::{Delivery, take_delivered, told};
 use crate::own_log::last_of_server;
-use crate::receipts::Receipts;
 use crate::run::Ending;
 use crate::trouble::{Trouble, check_greeted, spelled_digest};
 use crate::watch::Watch;
+use crate::way::{Awaited, Sending, Step, Way};
+use crate::ways::Ways;
 use authenticator::Authenticator;
-use peer_calls::{Delivered, NodeRequest, read_delivered, read_stands};
-use peer_connections::NodeConnection;
+use peer_calls::{NodeRequest, read_stands};
+use peer_connections::{Meanwhile, NodeConnection, NodeReceiver};
+use pipelining::{Connection, Standing};
 use remote_sharing::{Carried, Courier, CourierFault, Pending, SharedClient};
 use std::alloc::{AllocError, Global};
 use std::io::Write;
@@ -43,25 +44,27 @@ const MOST_DELIVERED: u32 = 46_340;
 /// The most bytes of the answer to STANDS.
 const MOST_STANDS: u32 = 28;
 
-/// The refusals of a server that has too few keys or numbers left.
-const KEYS_USED_UP: u32 = 4;
+/// How a server is reached.
+#[derive(Clone, Copy)]
+pub(crate) struct Route<'a> {
+    /// Where it listens, as HOST:PORT.
+    pub(crate) address: &'a str,
+    pub(crate) ways: &'a Ways,
+}
 
-const GAP_TOO_WIDE: u32 = 6;
-
-/// A way to the server over TCP, by one connection at a time. Where that breaks, or what comes is no answer, a new
-/// one is made, after pauses of 0.1 seconds to 30, and the same is sent again, until an answer comes, the call is given
-/// up or the process is to end. The acknowledgement of a reply is sent, and its answer read before that to the next
-/// call; one that wasn't answered goes first over the next connection. Of a server that goes by another roster that is
-/// said, and the process ends.
+/// Carries one call at a time to the server, by ways over TCP that several carry calls by. Where a way's connection
+/// breaks, or what comes is no answer, all calls on it are sent again, by a new one, after pauses of 0.1 seconds to 30,
+/// until an answer comes, the call is given up or the process is to end. The acknowledgement of a reply is sent at once,
+/// and its answer read before that to the next call on that way; one that wasn't answered goes first over the next
+/// connection. Of a server that goes by another roster that is said, and the process ends.
 #[derive(Drop)]
 pub(crate) struct TcpCourier<'a, R, T, W, E> {
     context: Context<'a, R, T, W, E>,
     /// The client whose calls are carried.
     client: &'a Mutex<SharedClient>,
-    /// Where the server listens, as HOST:PORT.
-    address: &'a str,
-    connection: Option<NodeConnection>,
-    receipts: Receipts,
+    route: Route<'a>,
+    /// The way by which the call in hand was sent last.
+    way: Option<&'a Way>,
     in_hand: InHand,
 }
 
@@ -76,27 +79,18 @@ struct InHand {
     unwanted: Option<Instant>,
 }
 
-/// What a server answers to an envelope.
-#[derive(Clone, Copy)]
-enum Delivery {
-    Carried(Carried),
-    /// It refuses it, by this number.
-    Refused(u32),
-}
-
 impl<'a, R, T, W, E> TcpCourier<'a, R, T, W, E> {
-    /// The way to the server at an address. Doesn't connect.
+    /// Carries calls of a client to the server that is reached so. Doesn't connect.
     pub(crate) fn new(
         context: Context<'a, R, T, W, E>,
         client: &'a Mutex<SharedClient>,
-        address: &'a str,
+        route: Route<'a>,
     ) -> TcpCourier<'a, R, T, W, E> {
         TcpCourier {
             context,
             client,
-            address,
-            connection: None,
-            receipts: Receipts::new(context.alloc),
+            route,
+            way: None,
             in_hand: InHand {
                 number: 0,
                 begun: None,
@@ -113,38 +107,46 @@ where
     W: Write,
     E: Write,
 {
-    /// The connection that there is, or a new one. It is kept again once it has brought an answer.
-    fn connection(&mut self) -> Result<NodeConnection, Trouble> {
-        match self.connection.take() {
-            Some(connection) => Ok(connection),
-            None => self.connect(),
+    /// Connects to the server, for all who carry calls by this way.
+    fn connect(&self, way: &Way) -> Result<(), Trouble> {
+        let Context { rt, alloc, .. } = self.context;
+        match self.greeted() {
+            Ok(connection) => {
+                way.open(rt, alloc, connection);
+                Ok(())
+            }
+            Err(trouble) => {
+                way.fail(rt, trouble);
+                Err(trouble)
+            }
         }
     }
 
-    /// Connects to the server, greets it, and asks whether the last that it signed still stands in its log.
-    fn connect(&mut self) -> Result<NodeConnection, Trouble> {
+    /// A connection to the server, which was greeted, and asked whether the last that it signed still stands in its log.
+    fn greeted(&self) -> Result<NodeConnection, Trouble> {
         let Context {
             rt,
             alloc,
             greeting,
             ..
         } = self.context;
-        let mut connection = match NodeConnection::connect(rt, alloc, self.address) {
+        let mut connection = match NodeConnection::connect(rt, alloc, self.route.address) {
             Ok(connection) => connection,
             Err(error) => return Err(Trouble::Unreached(error)),
         };
         let mut watch = Watch::new(self.context, self.in_hand.begun);
-        let sent = connection.send(&NodeRequest::Greet(greeting), &mut watch)?;
-        let answer = connection.answer(sent, MOST_GREETED, &mut watch)?;
+        let greet = NodeRequest::Greet(greeting);
+        let sent = connection.sender.send(&greet, &mut watch)?;
+        let answer = connection.receiver.answer(sent, MOST_GREETED, &mut watch)?;
         check_greeted(alloc, answer.results())?;
         if let Some(last) = self.last_of_server()? {
-            let sent = connection.send(&NodeRequest::Stands(last), &mut watch)?;
-            let answer = connection.answer(sent, MOST_STANDS, &mut watch)?;
+            let stands = NodeRequest::Stands(last);
+            let sent = connection.sender.send(&stands, &mut watch)?;
+            let answer = connection.receiver.answer(sent, MOST_STANDS, &mut watch)?;
             if !read_stands(answer.results())? {
                 return Err(Trouble::PutBack);
             }
         }
-        self.receipts.begin_again();
         Ok(connection)
     }
 
@@ -160,54 +162,183 @@ where
         Ok(last_of_server(alloc, client.client().client(), server)?)
     }
 
-    /// Delivers an envelope once: after the acknowledgements that weren't sent, and with the answers to these.
+    /// Delivers an envelope once, by the way that carries the fewest calls.
     fn deliver(
         &mut self,
         call: &[u8],
         ack: &mut Vec<u8>,
         reply: &mut Vec<u8>,
     ) -> Result<Delivery, Trouble> {
-        let alloc = self.context.alloc;
-        let mut connection = self.connection()?;
-        let mut watch = Watch::new(self.context, self.in_hand.begun);
-        self.receipts.send(&mut connection, &mut watch)?;
-        let sent = connection.send(&NodeRequest::Deliver(call), &mut watch)?;
-        self.receipts
-            .take_answers(alloc, &mut connection, &mut watch)?;
-        let answer = connection.answer(sent, MOST_DELIVERED, &mut watch)?;
-        let delivery = take_delivered(alloc, answer.results(), ack, reply)?;
-        self.connection = Some(connection);
-        Ok(delivery)
+        let rt = self.context.rt;
+        let ways = self.route.ways;
+        let Some((number, way)) = ways.choose(rt) else {
+            return Err(Trouble::Broken);
+        };
+        self.way = Some(way);
+        let delivery = self.exchange(way, Some(call), ack, reply);
+        ways.leave(rt, number);
+        match delivery {
+            Ok(Some(delivery)) => Ok(delivery),
+            Ok(None) => Err(Trouble::Broken),
+            Err(trouble) => Err(trouble),
+        }
     }
 
-    /// Sends the acknowledgements that weren't sent, if there is a connection.
-    fn send_receipts(&mut self) {
-        let Some(mut connection) = self.connection.take() else {
-            return;
+    /// Sends an envelope by a way, if there is one, after the acknowledgements that weren't sent, and takes what is
+    /// answered.
+    fn exchange(
+        &self,
+        way: &Way,
+        call: Option<&[u8]>,
+        ack: &mut Vec<u8>,
+        reply: &mut Vec<u8>,
+    ) -> Result<Option<Delivery>, Trouble> {
+        let mut awaited = self.send(way, call)?;
+        match self.receive(way, &mut awaited, ack, reply) {
+            Ok(delivery) => Ok(delivery),
+            Err(trouble) => {
+                way.end(self.context.rt, awaited);
+                Err(trouble)
+            }
+        }
+    }
+
+    /// Sends an envelope by a way, if there is one, after the acknowledgements that weren't sent: its turn.
+    fn send(&self, way: &Way, call: Option<&[u8]>) -> Result<Awaited, Trouble> {
+        let Context { rt, alloc, .. } = self.context;
+        let mut watch = Watch::new(self.context, self.in_hand.begun);
+        let (connection, mut sending) = self.await_sender(way, &mut watch)?;
+        match sending.send(call, &mut watch) {
+            Ok(sent) => match way.take_turn(rt, alloc, connection, sending, sent) {
+                Some(awaited) => Ok(awaited),
+                None => Err(Trouble::Broken),
+            },
+            Err(trouble) => {
+                way.end_by_sender(rt, connection, sending);
+                Err(trouble)
+            }
+        }
+    }
+
+    /// Waits for the half that sends, as long as the watch goes on: connects where there is no connection.
+    fn await_sender(
+        &self,
+        way: &Way,
+        watch: &mut Watch<'a, R, T, W, E>,
+    ) -> Result<(Connection, Sending), Trouble> {
+        let rt = self.context.rt;
+        let failures = way.failures(rt);
+        for _ in 0..u64::MAX {
+            match way.next_step(rt, failures)? {
+                Step::Send(connection, sending) => return Ok((connection, sending)),
+                Step::Connect => self.connect(way)?,
+                Step::Wait(seen) => {
+                    if !watch.goes_on() {
+                        break;
+                    }
+                    way.wait(rt, seen);
+                }
+            }
+        }
+        Err(Trouble::Broken)
+    }
+
+    /// Waits until what is awaited comes next, and takes it. After a fault the connection is of no more use.
+    fn receive(
+        &self,
+        way: &Way,
+        awaited: &mut Awaited,
+        ack: &mut Vec<u8>,
+        reply: &mut Vec<u8>,
+    ) -> Result<Option<Delivery>, Trouble> {
+        let rt = self.context.rt;
+        let mut receiver = self.await_receiver(way, awaited)?;
+        match self.read(&mut receiver, awaited, ack, reply) {
+            Ok(delivery) => {
+                way.put_receiver(rt, awaited.turn(), receiver);
+                Ok(delivery)
+            }
+            Err(trouble) => {
+                receiver.shut();
+                Err(trouble)
+            }
+        }
+    }
+
+    /// Waits for the half that receives, until the answers that come before this one were read: each of these is awaited
+    /// by the thread that it is for.
+    fn await_receiver(&self, way: &Way, awaited: &Awaited) -> Result<NodeReceiver, Trouble> {
+        let rt = self.context.rt;
+        let mut watch = Watch::in_turn(self.context, self.in_hand.begun);
+        for _ in 0..u64::MAX {
+            let seen = way.changes();
+            match way.take_receiver(rt, awaited.turn()) {
+                Ok(receiver) => return Ok(receiver),
+                Err(Standing::Over) => break,
+                Err(Standing::Next | Standing::Later) => {}
+            }
+            if !watch.goes_on() {
+                break;
+            }
+            way.wait(rt, seen);
+        }
+        Err(Trouble::Broken)
+    }
+
+    /// Reads what is awaited, which comes next: the answers to acknowledgements, and then that to the call, if there is
+    /// one.
+    fn read(
+        &self,
+        receiver: &mut NodeReceiver,
+        awaited: &mut Awaited,
+        ack: &mut Vec<u8>,
+        reply: &mut Vec<u8>,
+    ) -> Result<Option<Delivery>, Trouble> {
+        let alloc = self.context.alloc;
+        let mut watch = Watch::new(self.context, self.in_hand.begun);
+        awaited.take_answers(alloc, receiver, &mut watch)?;
+        let Some(sent) = awaited.sent() else {
+            return Ok(None);
         };
-        let mut watch = Watch::new(self.context, None);
-        if self.receipts.send(&mut connection, &mut watch).is_ok() {
-            self.connection = Some(connection);
+        let answer = receiver.answer(sent, MOST_DELIVERED, &mut watch)?;
+        let delivery = take_delivered(alloc, answer.results(), ack, reply)?;
+        Ok(Some(delivery))
+    }
+
+    /// Sends the acknowledgements that weren't sent, if there is a connection, and nobody sends by it.
+    fn send_receipts(&self, way: &Way) {
+        let rt = self.context.rt;
+        for _ in 0..u64::MAX {
+            let Some((connection, mut sending)) = way.lend(rt) else {
+                return;
+            };
+            let mut watch = Watch::new(self.context, None);
+            if sending.send_receipts(&mut watch).is_err() {
+                way.end_by_sender(rt, connection, sending);
+                return;
+            }
+            way.give_back(rt, connection, sending);
         }
     }
 
     /// Brings the acknowledgements that weren't answered to a server that answers at once: for the end of the process.
-    pub(crate) fn finish(&mut self) {
-        if self.connection.is_some() && self.bring_receipts().is_ok() {
-            return;
-        }
-        if !self.receipts.is_empty() {
-            let _ = self.bring_receipts();
+    pub(crate) fn finish(&self) {
+        let rt = self.context.rt;
+        for way in self.route.ways.all() {
+            if way.is_open(rt) {
+                self.bring_receipts(way);
+            }
+            if way.has_receipts(rt) {
+                self.bring_receipts(way);
+            }
         }
     }
 
     /// Brings the acknowledgements that weren't answered, once.
-    fn bring_receipts(&mut self) -> Result<(), Trouble> {
-        let mut connection = self.connection()?;
-        let mut watch = Watch::new(self.context, None);
-        self.receipts.send(&mut connection, &mut watch)?;
-        self.receipts
-            .take_answers(self.context.alloc, &mut connection, &mut watch)
+    fn bring_receipts(&self, way: &Way) {
+        let alloc = self.context.alloc;
+        let (mut ack, mut reply) = (Vec::new(alloc), Vec::new(alloc));
+        let _ = self.exchange(way, None, &mut ack, &mut reply);
     }
 
     /// Takes the call with a number in hand, unless it is.
@@ -329,7 +460,7 @@ where
         ack: &mut Vec<u8>,
         reply: &mut Vec<u8>,
     ) -> Result<Carried, CourierFault> {
-        if self.connection.is_none() && !self.context.is_serving() {
+        if !self.context.is_serving() && !self.route.ways.is_open(self.context.rt) {
             return Err(CourierFault::Lost);
         }
         self.take_in_hand(pending.number.get());
@@ -358,58 +489,13 @@ where
 
     /// Its answer isn't awaited.
     fn acknowledge(&mut self, alloc: Global, receipt: &[u8]) -> Result<(), CourierFault> {
-        match self.receipts.add(alloc, receipt) {
-            Ok(()) => {
-                self.send_receipts();
-                Ok(())
-            }
-            Err(AllocError) => Err(CourierFault::NoMemory),
+        let Some(way) = self.way else {
+            return Err(CourierFault::Lost);
+        };
+        if !way.add_receipt(self.context.rt, alloc, receipt) {
+            return Err(CourierFault::NoMemory);
         }
-    }
-}
-
-/// Takes the results of DELIVER: the texts of an acknowledgement and of a reply's envelope, if there is one, are
-/// written, in place of what the bytes were.
-fn take_delivered(
-    alloc: Global,
-    results: &[u8],
-    ack: &mut Vec<u8>,
-    reply: &mut Vec<u8>,
-) -> Result<Delivery, Trouble> {
-    match read_delivered(alloc, results)? {
-        Delivered::Taken {
-            ack: text,
-            reply: None,
-        } => {
-            put(text, ack)?;
-            reply.clear();
-            Ok(Delivery::Carried(Carried::Acknowledged))
-        }
-        Delivered::Taken {
-            ack: text,
-            reply: Some(envelope),
-        } => {
-            put(text, ack)?;
-            put(envelope, reply)?;
-            Ok(Delivery::Carried(Carried::Answered))
-        }
-        Delivered::Refused(number) => Ok(Delivery::Refused(number)),
-    }
-}
-
-/// Writes a text in place of what the bytes were.
-fn put(text: &[u8], out: &mut Vec<u8>) -> Result<(), AllocError>
-    ensures { OnOk result (out.new.items ≡ text.now) }
-{
-    out.clear();
-    out.extend_from_slice(text)
-}
-
-/// What came of a delivery, as a courier tells it.
-fn told(delivery: Delivery) -> Result<Carried, CourierFault> {
-    match delivery {
-        Delivery::Carried(carried) => Ok(carried),
-        Delivery::Refused(KEYS_USED_UP | GAP_TOO_WIDE) => Err(CourierFault::KeysUsedUp),
-        Delivery::Refused(_) => Err(CourierFault::Refused),
+        self.send_receipts(way);
+        Ok(())
     }
 }

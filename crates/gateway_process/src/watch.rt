@@ -19,7 +19,7 @@ pub(crate) struct Watch<'a, R, T, W, E> {
     context: Context<'a, R, T, W, E>,
     /// When the call was begun that is in hand, if one is.
     begun: Option<Instant>,
-    /// Since when the server is awaited.
+    /// Since when the server is awaited, if it is this thread's turn.
     since: Option<Instant>,
     /// Since when the process is to end.
     stopping: Option<Instant>,
@@ -32,6 +32,19 @@ where
     W: Write,
     E: Write,
 {
+    /// Until other threads have read the answers that come before: these watch how long the server owes them.
+    pub(crate) fn in_turn(
+        context: Context<'a, R, T, W, E>,
+        begun: Option<Instant>,
+    ) -> Watch<'a, R, T, W, E> {
+        Watch {
+            context,
+            begun,
+            since: None,
+            stopping: None,
+        }
+    }
+
     /// From now on, for a call that was begun then, if one is in hand.
     pub(crate) fn new(
         context: Context<'a, R, T, W, E>,

@@ -19,7 +19,7 @@ pub use caller::{Answer, CallFault, PeerCaller};
 pub use control::{Commands, Teller, attend};
 pub use failure::ServeFailure;
 pub use memory::OwnMemory;
-pub use node_connection::{Meanwhile, NodeConnection, Sent};
+pub use node_connection::{Meanwhile, NodeConnection, NodeReceiver, NodeSender, Sent};
 pub use output::Output;
 pub use phase::{Phase, end_serving, is_serving};
 pub use places::Standing;

@@ -6,7 +6,7 @@ use peer_calls::{NodeRequest, write_node_request};
 use rpc::records::Counting;
 use std::alloc::Global;
 use std::io::{self, Read, Write};
-use std::net::{Net, TcpListener, TcpStream, ToSocketAddrs};
+use std::net::{Net, Shutdown, TcpListener, TcpStream, ToSocketAddrs};
 use std::time::Duration;
 
 /// How many milliseconds a read or a write waits at once.
@@ -31,14 +31,28 @@ pub struct Sent {
     xid: u32,
 }
 
-/// A connection to a node. Calls may be sent before earlier ones are answered; the answers come in the order of the
-/// calls. After a fault, other than want of memory for a call, it is of no more use.
+/// A connection to a node, by its two halves, which two threads may use at a time. Calls may be sent before earlier ones
+/// are answered; the answers come in the order of the calls. After a fault, other than want of memory for a call, it is
+/// of no more use.
 #[derive(Drop)]
 pub struct NodeConnection {
-    alloc: Global,
+    pub sender: NodeSender,
+    pub receiver: NodeReceiver,
+}
+
+/// The half of a connection to a node by which calls are sent.
+#[derive(Drop)]
+pub struct NodeSender {
     stream: TcpStream,
     xid: u32,
     out: Vec<u8>,
+}
+
+/// The half of a connection to a node by which answers are read.
+#[derive(Drop)]
+pub struct NodeReceiver {
+    alloc: Global,
+    stream: TcpStream,
 }
 
 impl NodeConnection {
@@ -54,14 +68,20 @@ impl NodeConnection {
         let look = Some(Duration::from_millis(LOOK));
         stream.set_read_timeout(look)?;
         stream.set_write_timeout(look)?;
-        Ok(NodeConnection {
+        let receiver = NodeReceiver {
             alloc,
+            stream: stream.try_clone()?,
+        };
+        let sender = NodeSender {
             stream,
             xid: 0,
             out: Vec::new(alloc),
-        })
+        };
+        Ok(NodeConnection { sender, receiver })
     }
+}
 
+impl NodeSender {
     /// Sends a call, without waiting for its answer.
     pub fn send<M: Meanwhile>(
         &mut self,
@@ -82,6 +102,13 @@ impl NodeConnection {
         Ok(Sent { xid })
     }
 
+    /// Ends the connection, for the other half too.
+    pub fn shut(&self) {
+        shut(&self.stream);
+    }
+}
+
+impl NodeReceiver {
     /// Reads the next answer, of at most so many bytes, which is to be that to this call: to the first one that isn't
     /// answered yet.
     pub fn answer<M: Meanwhile>(
@@ -99,6 +126,16 @@ impl NodeConnection {
             Ok(None) | Err(_) => Err(CallFault::Broken),
         }
     }
+
+    /// Ends the connection, for the other half too.
+    pub fn shut(&self) {
+        shut(&self.stream);
+    }
+}
+
+/// Ends a connection, if it hasn't ended.
+fn shut(stream: &TcpStream) {
+    let _ = stream.shutdown(Shutdown::Both);
 }
 
 /// Connects to one of the addresses that this one stands for, each in time. Gives the last error where none accepts.
