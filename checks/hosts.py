@@ -1693,11 +1693,7 @@ def check_assured(program: str):
     print('a gateway says up to which reply each witness answers: not before it has taken what was signed, nor of a liar')
 
 
-<<<<<<< HEAD
-CHECKS = [check_late, check_late_lie, check_below_base, check_meeting, check_bad_meetings, check_put_back, check_slow_readers, check_ask_many, check_server, check_strangers, check_assured, check_server_keys, check_three, check_rows, check_lie, check_fork, check_none, check_other_calls, check_suspected,
-=======
-CHECKS = [check_late, check_late_lie, check_goes_on, check_lie_between, check_meeting, check_bad_meetings, check_put_back, check_slow_readers, check_ask_many, check_server, check_strangers, check_assured, check_server_keys, check_three, check_rows, check_lie, check_fork, check_none, check_other_calls, check_suspected,
->>>>>>> h1/main
+CHECKS = [check_late, check_late_lie, check_goes_on, check_lie_between, check_below_base, check_meeting, check_bad_meetings, check_put_back, check_slow_readers, check_ask_many, check_server, check_strangers, check_assured, check_server_keys, check_three, check_rows, check_lie, check_fork, check_none, check_other_calls, check_suspected,
           check_other_witness, check_lives, check_second_roster, check_keys_used_up, check_ask,
           check_calls, check_breaks, check_garbage, check_same_call, check_in_flight,
           check_sixteen_in_flight, check_disorder, check_rough_in_flight, check_gives_up_in_flight, check_gateway_put_back, check_open_message, check_rough,
