@@ -6,6 +6,13 @@ use Rattle.clap.specs.Words.{App, with_rule}
 use Rattle.command_line.specs.Arguments.{row_rule, with_rules}
 use Rattle.command_line.specs.declared.arguments.ArgumentRow.{ArgumentRow}
 
+no_rules : List Rule
+no_rules = []
+
+-- where no argument is left
+pub none_left : no_rules ≡ no_rules
+none_left = refl
+
 -- with one more after them
 rules_more : (app : App) (rules : List Rule) (rule : Rule)
     → with_rules app (rules ++ rule ∷ []) ≡ with_rule (with_rules app rules) rule

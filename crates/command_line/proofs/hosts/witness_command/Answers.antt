@@ -1,7 +1,8 @@
-use Rattle.std.proofs.Common.{◌≡◌, ◌∙◌, ◌∷◌, ap₂, codes, refl, rules}
+use Rattle.std.proofs.Common.{◌≡◌, ◌∙◌, ◌∷◌, ap₂, codes, rules}
 use Rattle.std.proofs.lemmas.Result.{IfOk-weaker}
 use Rattle.clap.specs.Words.{app_of, new_app}
 use Rattle.command_line.specs.Arguments.{with_rules}
+use Rattle.command_line.proofs.RulesMore.{none_left}
 use Rattle.command_line.proofs.hosts.witness_command.Goals as goal
 
 -- row by row it is the command that the specification has
@@ -21,5 +22,5 @@ returns c =
     (ap₂ ◌∷◌ c.word-6.ensures
     (ap₂ ◌∷◌ c.word-7.ensures
     (ap₂ ◌∷◌ c.word-8.ensures
-    refl))))))))))) in
+    none_left))))))))))) in
     IfOk-weaker c.with_rows.result _ _ (λ r is. is ∙ ap₂ with_rules empty rows) c.with_rows.ensures

@@ -1,7 +1,8 @@
-use Rattle.std.proofs.Common.{◌≡◌, ◌∙◌, ◌∷◌, ap₂, codes, refl, rules}
+use Rattle.std.proofs.Common.{◌≡◌, ◌∙◌, ◌∷◌, ap₂, codes, rules}
 use Rattle.std.proofs.lemmas.Result.{IfOk-weaker}
 use Rattle.clap.specs.Words.{app_of, new_app}
 use Rattle.command_line.specs.Arguments.{with_rules}
+use Rattle.command_line.proofs.RulesMore.{none_left}
 use Rattle.command_line.proofs.keys.secret_command.Goals as goal
 
 -- row by row it is the command that the specification has
@@ -10,5 +11,5 @@ returns c =
     let empty : app_of c.about.result ≡ new_app (codes "secret") =
     search (rules, c.about.ensures, c.new.ensures.app) in
     let rows = ap₂ ◌∷◌ c.place.ensures
-    refl in
+    none_left in
     IfOk-weaker c.with_rows.result _ _ (λ r is. is ∙ ap₂ with_rules empty rows) c.with_rows.ensures
