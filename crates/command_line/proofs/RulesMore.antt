@@ -6,7 +6,7 @@ use Rattle.clap.specs.Words.{App, with_rule}
 use Rattle.command_line.specs.Arguments.{row_rule, with_rules}
 use Rattle.command_line.specs.declared.arguments.ArgumentRow.{ArgumentRow}
 
-no_rules : List Rule
+abbrev pub no_rules : List Rule
 no_rules = []
 
 -- where no argument is left

@@ -18,8 +18,8 @@ returns c =
     (ap₂ ◌∷◌ c.word-3.ensures
     (ap₂ ◌∷◌ c.word-4.ensures
     (ap₂ ◌∷◌ c.word-5.ensures
-    (ap₂ ◌∷◌ c.flag.ensures
     (ap₂ ◌∷◌ c.word-6.ensures
+    (ap₂ ◌∷◌ c.flag.ensures
     (ap₂ ◌∷◌ c.word-7.ensures
     (ap₂ ◌∷◌ c.word-8.ensures
     none_left))))))))))) in
