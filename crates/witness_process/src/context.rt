@@ -12,25 +12,31 @@ use std::time::{Clock, Duration};
 /// How many milliseconds pass between two looks at the phase.
 const PAUSE: u64 = 100;
 
+/// What a witness is told, as in its order.
+#[derive(Clone, Copy)]
+pub(crate) struct Settings<'a> {
+    pub(crate) digest: [u8; 32],
+    pub(crate) epoch: u32,
+    pub(crate) known: &'a [KnownRoster],
+    pub(crate) every: u32,
+    pub(crate) patience: u32,
+    pub(crate) overlap: u32,
+    pub(crate) evidence: Option<&'a str>,
+    pub(crate) workers: usize,
+}
+
 /// What all threads of a witness are handed.
 pub(crate) struct Context<'a, R, T, W, E, S> {
     pub(crate) rt: &'a R,
     pub(crate) alloc: Global,
     pub(crate) clock: &'a T,
     pub(crate) roster: &'a Roster,
-    pub(crate) digest: [u8; 32],
-    pub(crate) epoch: u32,
-    pub(crate) known: &'a [KnownRoster],
+    pub(crate) settings: Settings<'a>,
     pub(crate) elsewhere: &'a Mutex<Elsewhere>,
     pub(crate) watch: &'a Mutex<Watch>,
     pub(crate) phase: &'a Mutex<Phase>,
     pub(crate) output: &'a Mutex<Output<W, E>>,
     pub(crate) shelf: &'a Mutex<S>,
-    pub(crate) evidence: Option<&'a str>,
-    pub(crate) every: u32,
-    pub(crate) patience: u32,
-    pub(crate) overlap: u32,
-    pub(crate) workers: usize,
 }
 
 impl<'a, R, T, W, E, S> Clone for Context<'a, R, T, W, E, S> {

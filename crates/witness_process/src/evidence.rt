@@ -22,7 +22,7 @@ where
     E: Write,
     S: Shelf,
 {
-    let Some(folder) = context.evidence else {
+    let Some(folder) = context.settings.evidence else {
         return Ok(None);
     };
     if told.indication != Indication::Exposed {

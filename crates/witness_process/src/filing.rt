@@ -37,7 +37,7 @@ where
     T: Clock,
 {
     let jobs = begin_each(context, nodes)?;
-    let workers = context.workers.max(1).min(16);
+    let workers = context.settings.workers.max(1).min(16);
     let filed = match replay_round(context.rt, context.alloc, jobs, workers, &NoGate) {
         Ok(backs) => file_each(context, backs),
         Err(jobs) => {

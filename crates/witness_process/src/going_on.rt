@@ -17,7 +17,7 @@ pub(crate) fn go_on<R: Wait, T: Clock, W, E, S>(
     node: u32,
     caller: &mut PeerCaller,
 ) -> Result<bool, Cause> {
-    let asked = context.lock().base_after(node, context.overlap);
+    let asked = context.lock().base_after(node, context.settings.overlap);
     let Some(after) = asked else {
         return Ok(false);
     };
@@ -37,6 +37,8 @@ pub(crate) fn let_go<R: Wait, T: Clock, W, E, S>(
     nodes: &[u32],
 ) -> Result<(), AllocError> {
     forward_each(context, nodes)?;
-    context.lock().let_go(context.alloc, context.overlap);
+    context
+        .lock()
+        .let_go(context.alloc, context.settings.overlap);
     Ok(())
 }

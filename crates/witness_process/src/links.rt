@@ -75,7 +75,12 @@ impl Link<'_> {
             Ok(caller) => caller,
             Err(error) => return Err(Cause::NoConnection(error)),
         };
-        match greet(context.alloc, context.digest, self.node, &mut caller)? {
+        match greet(
+            context.alloc,
+            context.settings.digest,
+            self.node,
+            &mut caller,
+        )? {
             None => {
                 self.other = None;
                 test_standing(context, self.node, &mut caller)?;
@@ -102,7 +107,7 @@ impl Link<'_> {
             return;
         }
         self.other = Some(digest);
-        if later_with(context.known, context.epoch, &digest).is_some() {
+        if later_with(context.settings.known, context.settings.epoch, &digest).is_some() {
             return context.end_by(told);
         }
         say_line(context, other_line(context.alloc, self.node, &digest));

@@ -48,7 +48,7 @@ where
     };
     for _ in 0..u64::MAX {
         other.meet(context);
-        if !context.wait(context.every) {
+        if !context.wait(context.settings.every) {
             return;
         }
     }
@@ -91,7 +91,7 @@ impl Other<'_> {
             Some(caller) => caller,
             None => {
                 let mut caller = self.connect(context)?;
-                let greeted = greet(context.alloc, context.digest, &mut caller)?;
+                let greeted = greet(context.alloc, context.settings.digest, &mut caller)?;
                 if let Greeted::Other(_) = greeted {
                     return Ok(greeted);
                 }

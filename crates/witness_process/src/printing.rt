@@ -26,7 +26,7 @@ where
     S: Shelf,
 {
     for _ in 0..MAX_LINES {
-        let Some(saying) = context.lock().take_due(context.patience) else {
+        let Some(saying) = context.lock().take_due(context.settings.patience) else {
             return;
         };
         say(context, &saying);

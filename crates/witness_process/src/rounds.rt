@@ -39,7 +39,7 @@ where
         if open_audits(context, &links).is_err() || let_go(context, &nodes).is_err() {
             say_no_memory(context);
         }
-        if !context.wait(context.every) {
+        if !context.wait(context.settings.every) {
             return;
         }
     }

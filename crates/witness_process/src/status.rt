@@ -14,7 +14,7 @@ pub(crate) struct WitnessTeller<'a, R, T, W, E, S> {
 
 impl<R: Wait, T: Clock, W, E, S> Teller for WitnessTeller<'_, R, T, W, E, S> {
     fn tell(&self, alloc: Global) -> Result<String, AllocError> {
-        let epoch = self.context.epoch;
+        let epoch = self.context.settings.epoch;
         let mut text = format!(in alloc; "kind: witness\nepoch: {epoch}\n")?;
         self.context.lock().tell_nodes(alloc, &mut text)?;
         Ok(text)

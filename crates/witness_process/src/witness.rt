@@ -1,9 +1,10 @@
 //! A witness: it audits servers, and answers connections as they come, each in a thread of its own.
 
+ghost use Rattle.std.specs.Prelude.{◌≡◌};
 ghost use Rattle.witness_process.specs.Rosters.{IsEnding};
 
 use crate::answering::LockedWatch;
-use crate::context::Context;
+use crate::context::{Context, Settings};
 use crate::elsewhere::Elsewhere;
 use crate::joining::Joining;
 use crate::meetings::keep_meeting;
@@ -105,38 +106,53 @@ where
     E: Write + Send,
     ensures { IsEnding order.entry.known.now order.entry.epoch result }
 {
-    let (known, epoch) = (order.known, order.epoch);
+    let settings = settings_of(&order);
+    let WitnessOrder {
+        roster,
+        servers,
+        witnesses,
+        shelf,
+        listener,
+        control,
+        ..
+    } = order;
     let watch = Mutex::new(watch);
     let phase = Mutex::new(Phase::Serving);
     let elsewhere = Mutex::new(Elsewhere::nobody());
-    let shelf = Mutex::new(order.shelf);
+    let shelf = Mutex::new(shelf);
     let context = Context {
         rt,
         alloc,
         clock,
-        roster: &order.roster,
-        digest: order.digest,
-        epoch,
-        known,
+        roster: &roster,
+        settings,
         elsewhere: &elsewhere,
         watch: &watch,
         phase: &phase,
         output,
         shelf: &shelf,
-        evidence: order.evidence,
+    };
+    run_until_end(context, Peers { servers, witnesses }, &listener, control);
+    let ending = end_of(context, settings.known, settings.epoch);
+    say_begun(context, ending);
+    ending
+}
+
+/// What an order tells a witness.
+fn settings_of<'a, L, S>(order: &WitnessOrder<'a, L, S>) -> Settings<'a>
+    ensures known { result.known.now ≡ order.now.known.now }
+    ensures epoch { result.epoch ≡ order.now.epoch }
+{
+    Settings {
+        digest: order.digest,
+        epoch: order.epoch,
+        known: order.known,
         every: order.every,
         patience: order.patience,
         overlap: order.overlap,
+        evidence: order.evidence,
         workers: order.workers,
-    };
-    let peers = Peers {
-        servers: order.servers,
-        witnesses: order.witnesses,
-    };
-    run_until_end(context, peers, &order.listener, order.control);
-    let ending = end_of(context, known, epoch);
-    say_begun(context, ending);
-    ending
+    }
 }
 
 /// The bases that servers give, where they are to be asked for them; else none.
@@ -432,7 +448,7 @@ where
     };
     let mut reader = FrameReader::new(Counting::new(input));
     let mut writer = Counting::new(PeerStream::new(rt, clock, stream, phase, &waiting));
-    let mut locked = LockedWatch::new(rt, alloc, clock, context.watch, context.digest);
+    let mut locked = LockedWatch::new(rt, alloc, clock, context.watch, context.settings.digest);
     match serve_requests(alloc, &mut locked, &mut reader, &mut writer) {
         Ok(end) => Ok(end),
         Err(fault) => {
