@@ -1,12 +1,10 @@
 -- What is kept of what passes.
 -- Serves: Replies::note, note_told, Exchanges.
-use Rattle.std.proofs.Common.{◌≡◌, ℕ, ◌-◌, ◌==◌, Bool, true, false, List, [], ◌∷◌, Option, Some, None, Result, Ok, Err}
+use Rattle.std.proofs.Common.{◌≡◌, ℕ, ◌-◌, Bool, true, List, [], ◌∷◌, Option, Some, None, Result, Ok, Err}
 use Rattle.std.proofs.Common.{refl, sym, ap, subst, ◌∙◌, eq-eqb}
 use Rattle.std.proofs.Math.Logic.{∥∥₁_map}
 use Rattle.std.specs.Prelude.{IfSome, OnErr, OnOk, if◌then◌else◌}
-use Rattle.std.specs.List.{list_any}
 use Rattle.authenticator.specs.declared.authenticator.Authenticator.{Authenticator}
-use Rattle.assurance.specs.Events.{History}
 use Rattle.assurance.specs.Events as events
 use Rattle.assurance.specs.Exchanges.{Adds, Exchange, Greeted}
 use Rattle.assurance.specs.Exchanges as exchange

@@ -49,7 +49,7 @@ abbrev pub with_reply : ShownOf → (calls : List ℕ) → History → History
 with_reply (Receipt n) calls h = h
 with_reply (Reply n) calls h = if list_any (λ c. c == n - 2) calls then events.Taken n ∷ h else h
 
--- what it is to the replies
+-- What passed is to the replies: which were handed out, which the witness took, and what it said of the server.
 abbrev pub history : (server : ℕ) → List Passed → History
 history server [] = []
 history server (HandedOut n ∷ p) = events.HandedOut n ∷ history server p

@@ -1,5 +1,4 @@
 use Rattle.std.proofs.Common.{refl, []}
-use Rattle.assurance.specs.Passing.{Records}
 use Rattle.assurance.proofs.Passing.{begun}
 use Rattle.assurance.proofs.exchanges.Exchanges.begin.Goals as goal
 
