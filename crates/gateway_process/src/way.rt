@@ -202,7 +202,7 @@ impl Way {
     /// Waits until the line has changed since it had changed so often, or a tenth of a second has passed.
     pub(crate) fn wait<R: Wait>(&self, rt: &R, seen: u64) {
         let pause = Duration::from_millis(LOOK);
-        let low_half = (seen % (1 << 32)) as u32;
+        let low_half = (seen & 0xffff_ffff) as u32;
         self.changes.park_timeout(rt, low_half, pause);
     }
 
