@@ -1,7 +1,6 @@
 """Ways between a gateway and a server: ones that break, a long one, one on which other bytes come than the server's, one
 that is off at times, and ones that count round trips."""
 
-import select
 import socket
 import threading
 import time
@@ -286,15 +285,29 @@ class Swaps(Way):
         super().__init__(to)
 
     def join(self, near: socket.socket, far: socket.socket):
-        threading.Thread(target=carry, args=(near, far), daemon=True).start()
-        threading.Thread(target=self.carry_answers, args=(far, near), daemon=True).start()
+        seen: Counter[str] = Counter()
+        for carry_some, ends in (self.carry_calls, (near, far)), (self.carry_answers, (far, near)):
+            threading.Thread(target=carry_some, args=(*ends, seen), daemon=True).start()
 
-    def carry_answers(self, far: socket.socket, near: socket.socket):
+    def carry_calls(self, near: socket.socket, far: socket.socket, seen: Counter[str]):
+        calls = RecordReader(near)
+        try:
+            while (call := calls.next(MOST)) is not None:
+                seen['calls'] += 1
+                far.sendall(record(call))
+        except (Broken, OSError):
+            pass
+        finally:
+            shut(near)
+            shut(far)
+
+    def carry_answers(self, far: socket.socket, near: socket.socket, seen: Counter[str]):
         answers, kept = RecordReader(far), b''
         try:
             while (answer := answers.next(MOST_OF_ANY)) is not None:
+                seen['answers'] += 1
                 data, chance = record(answer), self.random.randrange(2 * self.every)
-                if not kept and chance == 0 and waits(far):
+                if chance == 0 and not kept and seen['calls'] > seen['answers']:
                     kept = data
                     continue
                 self.swaps += kept != b''
@@ -306,11 +319,6 @@ class Swaps(Way):
         finally:
             shut(near)
             shut(far)
-
-
-def waits(source: socket.socket) -> bool:
-    """Whether more bytes come within a moment."""
-    return bool(select.select([source], [], [], 0.1)[0])
 
 
 class Rough(Way):

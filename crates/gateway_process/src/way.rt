@@ -202,7 +202,8 @@ impl Way {
     /// Waits until the line has changed since it had changed so often, or a tenth of a second has passed.
     pub(crate) fn wait<R: Wait>(&self, rt: &R, seen: u64) {
         let pause = Duration::from_millis(LOOK);
-        self.changes.park_timeout(rt, seen as u32, pause);
+        let low_half = (seen & 0xffff_ffff) as u32;
+        self.changes.park_timeout(rt, low_half, pause);
     }
 
     /// How often no connection could be made.

@@ -117,19 +117,27 @@ impl NodeReceiver {
         most: u32,
         meanwhile: &mut M,
     ) -> Result<Answer, CallFault> {
-        let mut reader = FrameReader::new(Counting::new(Awaited {
-            stream: &self.stream,
-            meanwhile,
-        }));
-        match reader.next(self.alloc, &UpTo(most)) {
-            Ok(Some(record)) => Answer::to_call(sent.xid, record),
-            Ok(None) | Err(_) => Err(CallFault::Broken),
-        }
+        read_answer(self.alloc, &self.stream, sent, most, meanwhile)
     }
 
     /// Ends the connection, for the other half too.
     pub fn shut(&self) {
         shut(&self.stream);
+    }
+}
+
+/// Reads the next record of a stream, of at most so many bytes, as the answer to a call.
+fn read_answer<M: Meanwhile>(
+    alloc: Global,
+    stream: &TcpStream,
+    sent: Sent,
+    most: u32,
+    meanwhile: &mut M,
+) -> Result<Answer, CallFault> {
+    let mut reader = FrameReader::new(Counting::new(Awaited { stream, meanwhile }));
+    match reader.next(alloc, &UpTo(most)) {
+        Ok(Some(record)) => Answer::to_call(sent.xid, record),
+        Ok(None) | Err(_) => Err(CallFault::Broken),
     }
 }
 

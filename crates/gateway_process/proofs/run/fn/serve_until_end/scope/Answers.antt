@@ -7,8 +7,5 @@ run_threads-requires-send-W g c = λ κs h. param_send _ _ (arg_send _ _ _ c.req
 pub run_threads-requires-send-E : goal.run_threads-requires-send-E
 run_threads-requires-send-E g c = λ κs h. param_send _ _ (arg_send _ _ _ c.requires.1.1.1.1.1.1.1)
 
-pub run_threads-requires-send-C : goal.run_threads-requires-send-C
-run_threads-requires-send-C g c = λ κs h. param_send _ _ (arg_send _ _ _ c.requires.1.1.1.1.1.1.2)
-
 pub run_threads-requires-send-K : goal.run_threads-requires-send-K
-run_threads-requires-send-K g c = λ κs h. param_send _ _ (arg_send _ _ _ c.requires.1.1.1.1.1.1.3)
+run_threads-requires-send-K g c = λ κs h. param_send _ _ (arg_send _ _ _ c.requires.1.1.1.1.1.1.2)
