@@ -100,10 +100,10 @@ fn watch_servers<'a, R, T, L, S, W, E>(
 where
     R: Threads + Wait + Sync + Net<Listener = TcpListener, Stream = TcpStream>,
     T: std::time::Clock + Sync,
-    L: OpenListener<Stream = TcpStream> + Drop + Sync,
-    S: Shelf + Drop + Send,
     W: Write + Send,
     E: Write + Send,
+    L: OpenListener<Stream = TcpStream> + Drop + Sync,
+    S: Shelf + Drop + Send,
     ensures { IsEnding order.entry.known.now order.entry.epoch result }
 {
     let settings = settings_of(&order);
