@@ -162,19 +162,33 @@ where
         return;
     };
     let reporter = Mutex::new(reporter);
-    let shared = Shared {
+    reporter.lock(context.rt).report(Shared {
         context,
         client: &client,
-    };
-    let route = Route {
-        address,
-        ways: &ways,
-    };
-    reporter.lock(context.rt).report(shared);
+    });
     if context.is_serving() {
-        serve_until_end(Serving { shared, route }, &reporter, &listener, control);
+        serve_until_end(
+            context, &client, address, &ways, &reporter, &listener, control,
+        );
     }
-    TcpCourier::new(context, &client, route).finish();
+    finish(context, &client, address, &ways);
+}
+
+/// Brings the server the acknowledgements of replies that it hasn't answered yet.
+fn finish<'s, R, T, W, E>(
+    context: Context<'s, R, T, W, E>,
+    client: &'s Mutex<SharedClient>,
+    address: &'s str,
+    ways: &'s Ways,
+)
+where
+    R: Wait + Net<Listener = TcpListener, Stream = TcpStream>,
+    T: std::time::Clock,
+    W: Write,
+    E: Write,
+{
+    let route = Route { address, ways };
+    TcpCourier::new(context, client, route).finish();
 }
 
 /// The client of the server with a number: none where its roster lists no such server, or its log isn't empty.
@@ -185,7 +199,10 @@ fn shared_client(alloc: Global, client: ClientNode, server: u32) -> Option<Share
 
 /// Serves until the process is to end and all connections have ended, and reports for the last time.
 fn serve_until_end<'s, R, T, L, W, E, K>(
-    serving: Serving<'s, R, T, W, E>,
+    context: Context<'s, R, T, W, E>,
+    client: &'s Mutex<SharedClient>,
+    address: &'s str,
+    ways: &'s Ways,
     reporter: &'s Mutex<Reporter<K>>,
     listener: &'s L,
     control: Option<Commands<'s>>,
@@ -198,7 +215,9 @@ where
     E: Write + Send,
     K: Keeper + Drop + Send,
 {
-    let context = serving.shared.context;
+    let shared = Shared { context, client };
+    let route = Route { address, ways };
+    let serving = Serving { shared, route };
     let accepting = Accepting {
         rt: context.rt,
         alloc: context.alloc,
@@ -211,7 +230,7 @@ where
     thread::scope(thread::scope_env(), context.rt, |scope| {
         run_threads(serving, accepting, reporter, control, scope)
     });
-    reporter.lock(context.rt).report(serving.shared);
+    reporter.lock(context.rt).report(shared);
 }
 
 /// Starts the threads, and accepts local programs until the process is to end.
