@@ -314,6 +314,8 @@ def check_goes_on(program: str):
         gateway = hosts.gateway('two', '2-2', address, witness.address())
         connection = Connection(gateway.address()[1])
         of_witness = Caller(witness.address(), WITNESS)
+        # A base needs something signed after its CHECK: so there is one call more than those by which CHECKs are due.
+        assert connection.ask(ATTRIBUTES) == owed(ATTRIBUTES)
         before = 0
         for _ in range(3):
             for _ in range(4):
@@ -374,7 +376,7 @@ def check_lie_between(program: str):
             assert connection.ask(ATTRIBUTES) == owed(ATTRIBUTES)
         begun_after(witness, 0)
         end = last_number(server.address, hosts)
-        hosts.wait_until(witness.address(), are_trusted(end))
+        hosts.wait_until(witness.address(), lambda told: told[1] == ('trusted', 0, end))
         server.hides = True
         for number in range(6, 10):
             assert (connection.ask(ATTRIBUTES) == owed(ATTRIBUTES)) == (number != 8), number

@@ -3,6 +3,7 @@
 ghost use Rattle.std.specs.Prelude.{◌≡◌, ◌↔◌, ◌==◌, IfOk, IfSome, IsFalse, IsTrue, OnErr, filter, not};
 ghost use Rattle.std.specs.Prelude.{option_map};
 ghost use Rattle.std.specs.Arc.{arc_value};
+ghost use Rattle.authenticator.specs.Roster.{kind_number};
 ghost use Rattle.request_streams.specs.Serving.{IsAnswerIf};
 ghost use Rattle.watching.specs.Answers.{standing_number};
 ghost use Rattle.witness_books.specs.Books.{beginning_of};
@@ -15,7 +16,7 @@ ghost use Rattle.witness_process.specs.Overlaps.{clients_of, worse, worse_of};
 use crate::account::Account;
 use crate::brought::{DELIVER, asks_for_faults, procedure_of};
 use crate::watch::answered;
-use authenticator::{Authenticator, Checked, Kind, Roster};
+use authenticator::{Authenticator, Checked, Kind, Member, Roster};
 use challenge::{Base, Evidence};
 use request_streams::Outcome;
 use std::alloc::{AllocError, Global};
@@ -279,6 +280,9 @@ impl Before {
     /// Whether they trust the server. Where memory is refused they count as if they didn't.
     fn is_trusted(&mut self, alloc: Global, node: u32) -> bool
         ensures told { IsTrue result → IsTrustedBy node self.old.standing.books }
+        ensures at { self.new.at ≡ self.old.at }
+        ensures since { self.new.since ≡ self.old.since }
+        ensures unshown { self.new.unshown ≡ self.old.unshown }
     {
         matches!(is_trusted(&mut self.standing, alloc, node), Ok(true))
     }
@@ -353,17 +357,34 @@ fn leave_out(nodes: &mut Vec<u32>, node: u32)
     nodes.retain(|one| *one != node);
 }
 
-/// The clients of a roster.
+/// The clients of a roster. `AllocError` comes only where a growth was refused.
 fn clients_of(alloc: Global, roster: &Roster) -> Result<Vec<u32>, AllocError>
     ensures { IfOk result (λ nodes. nodes.items ≡ clients_of roster.now) }
 {
+    clients_among(alloc, roster.members())
+}
+
+/// The clients among members.
+fn clients_among(alloc: Global, members: &[Member]) -> Result<Vec<u32>, AllocError>
+    ensures { IfOk result (λ nodes. nodes.items ≡ clients_of members.now) }
+{
     let mut nodes = Vec::new(alloc);
-    for member in roster.members() {
-        if member.kind == Kind::Client {
+    for member in members {
+        if is_client(member) {
             nodes.push(member.node)?;
         }
     }
     Ok(nodes)
+}
+
+/// Whether a member is a client.
+fn is_client(member: &Member) -> bool
+    ensures { result ≡ (kind_number member.now.kind == 2) }
+{
+    match member.kind {
+        Kind::Server => false,
+        Kind::Client => true,
+    }
 }
 
 /// Books that begin at a base, of the roster of other books, and know what its node showed these last; none where it showed
