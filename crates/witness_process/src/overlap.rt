@@ -7,7 +7,9 @@ ghost use Rattle.authenticator.specs.Roster.{kind_number};
 ghost use Rattle.request_streams.specs.Serving.{IsAnswerIf};
 ghost use Rattle.watching.specs.Answers.{standing_number};
 ghost use Rattle.witness_books.specs.Books.{beginning_of};
-ghost use Rattle.witness_books.specs.node_book.Replies.{indication_in};
+ghost use Rattle.witness_books.specs.node_book.Replies.{indication_in, reply_in};
+ghost use Rattle.witness_books.specs.node_book.witness_spec.Refusals.{NothingToAudit};
+ghost use Rattle.witness_books.specs.node_book.witness_spec.Replies.{Refused};
 ghost use Rattle.witness_process.specs.Answered.{IsAnsweredUnderLock};
 ghost use Rattle.witness_process.specs.Overlaps.{AreLetGo, BeginsAt, IsDeliveredTo, IsSettled, IsShown, IsTrusted};
 ghost use Rattle.witness_process.specs.Overlaps.{IsTrustedBy, MayGo, NotesShown, ShowsEither, TellsBoth, WentOn};
@@ -24,7 +26,7 @@ use std::mem;
 use std::sync::Arc;
 use watching::packet_texts::learn_packet;
 use watching::{Delivered, Host, Said, Standing, StartFault};
-use witness_books::{EventOf, Indication, Refusal};
+use witness_books::{EventOf, Indication, Refusal, Reply, ReplyOf};
 use witness_service::SignatureCache;
 
 /// How many entries books audit before they go on: half of what a book takes.
@@ -242,11 +244,22 @@ impl NodeBooks {
         if !is_trusted(&mut self.current, alloc, self.node)? {
             return Ok(false);
         }
-        let said = Said::of(self.current.step(alloc, EventOf::Audit(self.node)));
-        if said.is_no_memory() {
+        let reply = self.current.step(alloc, EventOf::Audit(self.node));
+        let has_nothing = has_nothing(&reply);
+        if Said::of(reply).is_no_memory() {
             return Err(AllocError);
         }
-        Ok(matches!(said, Said::Refused(Refusal::NothingToAudit)))
+        Ok(has_nothing)
+    }
+}
+
+/// Whether the reply to an audit says that there is nothing to be audited.
+fn has_nothing(reply: &Reply) -> bool
+    ensures { IsTrue result → reply_in reply.now ≡ Refused NothingToAudit }
+{
+    match reply {
+        ReplyOf::Refused(Refusal::NothingToAudit) => true,
+        _ => false,
     }
 }
 
