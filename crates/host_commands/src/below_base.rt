@@ -22,11 +22,7 @@ pub(crate) struct BelowBase<'a, R> {
 impl<'a, R: Files + RandomSource + AllocGlobal> BelowBase<'a, R> {
     /// That of a state folder, in an epoch. Makes nothing.
     pub(crate) fn new(rt: &'a R, state: &'a str, epoch: u32) -> BelowBase<'a, R> {
-        BelowBase {
-            rt,
-            state,
-            epoch,
-        }
+        BelowBase { rt, state, epoch }
     }
 
     /// Makes the folder, unless it is there.
@@ -61,7 +57,9 @@ impl<R: Files + RandomSource + AllocGlobal> Keeper for BelowBase<'_, R> {
         write_learn(signed, &mut packet)?;
         self.make_folder()?;
         let (state, epoch, node) = (self.state, self.epoch, signed.node);
-        let name = format!(in self.rt.alloc(); "{state}/below-base/epoch-{epoch}-node-{node}-{number}")?;
+        let name = format!(in self.rt.alloc();
+            "{state}/below-base/epoch-{epoch}-node-{node}-{number}"
+        )?;
         self.put(&name, &packet)
     }
 }
