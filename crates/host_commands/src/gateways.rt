@@ -2,7 +2,7 @@
 
 ghost use Rattle.std.specs.Prelude.{◌≡◌};
 
-use crate::below_base::BelowBase;
+use crate::below_base::{BelowBase, KeptFiles};
 use crate::greeting::{Side, common_roster, connect};
 use crate::opening::{
     Held, commands_at, hold, keys_of, listen, open_control, open_output, place_of,
@@ -35,8 +35,9 @@ struct BegunClient {
 }
 
 /// Runs a gateway until it is told to stop or its keys are used up, and gives the status for it.
-pub fn run_gateway<R>(rt: &R, request: &GatewayRequest<'_>) -> u8
+pub fn run_gateway<R, S>(rt: &R, request: &GatewayRequest<'_>, files: S) -> u8
 where
+    S: KeptFiles + Drop + Send,
     R: Files<File = File> + Print + Eprint + AllocGlobal + RandomSource + Clock,
     R: Net<Listener = TcpListener, Stream = TcpStream>,
     R: Threads + Wait + Sync + Clone + Drop,
@@ -50,14 +51,15 @@ where
         }
     };
     let _stand_ins = stand_ins(rt);
-    match run_order(rt, &order) {
+    match run_order(rt, &order, files) {
         Ok(status) | Err(status) => status,
     }
 }
 
 /// Opens what the gateway needs, and runs it.
-fn run_order<R>(rt: &R, order: &GatewayOrder<'_>) -> Result<u8, u8>
+fn run_order<R, S>(rt: &R, order: &GatewayOrder<'_>, files: S) -> Result<u8, u8>
 where
+    S: KeptFiles + Drop + Send,
     R: Files<File = File> + Print + Eprint + AllocGlobal + RandomSource + Clock,
     R: Net<Listener = TcpListener, Stream = TcpStream>,
     R: Threads + Wait + Sync + Clone + Drop,
@@ -67,7 +69,7 @@ where
     let memory = OwnMemory::open(rt);
     let commands = commands_at(&control, &memory);
     let ended = match listen(rt, order.listen) {
-        Ok(listener) => run_held(rt, order, &mut held, listener, commands),
+        Ok(listener) => run_held(rt, order, &mut held, listener, commands, files),
         Err(status) => Err(status),
     };
     control.close(rt);
@@ -75,14 +77,16 @@ where
 }
 
 /// Makes the keys, and serves local programs.
-fn run_held<R>(
+fn run_held<R, S>(
     rt: &R,
     order: &GatewayOrder<'_>,
     held: &mut Held,
     listener: TcpListener,
     commands: Commands<'_>,
+    files: S,
 ) -> Result<u8, u8>
 where
+    S: KeptFiles + Drop + Send,
     R: Files<File = File> + Print + Eprint + AllocGlobal + RandomSource + Clock,
     R: Net<Listener = TcpListener, Stream = TcpStream>,
     R: Threads + Wait + Sync,
@@ -107,7 +111,7 @@ where
         reserve: order.reserve,
         give_up: order.give_up.map(u64::from),
         progress: order.progress,
-        keeper: BelowBase::new(rt, order.state, of.epoch),
+        keeper: BelowBase::new(files, alloc, order.state, of.epoch),
         listener,
         control: Some(commands),
     };

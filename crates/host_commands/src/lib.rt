@@ -15,6 +15,7 @@ mod server;
 mod witness;
 
 pub use ask::ask_witness;
+pub use below_base::{KeptFiles, StateFiles};
 pub use control::{show_status, stop_process};
 pub use gateways::run_gateway;
 pub use keys::{make_rosters, make_secret, show_members};

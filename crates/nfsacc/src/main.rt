@@ -9,8 +9,8 @@ mod words;
 use command_line::{Request, parse};
 use evidence::{check_base_file, check_file, show_roster};
 use host_commands::{
-    ask_witness, make_rosters, make_secret, run_gateway, run_server, run_witness, show_members,
-    show_status, stop_process,
+    StateFiles, ask_witness, make_rosters, make_secret, run_gateway, run_server, run_witness,
+    show_members, show_status, stop_process,
 };
 use party_files::{DurableShelf, FileShelf};
 use program_output::{
@@ -89,7 +89,7 @@ fn main(rt: HostRuntime) -> ExitCode {
             run_service(&rt, &request, errors, FileShelf::new(&rt, alloc))
         }
         Ok(Request::Server(request)) => run_server(&rt, &request),
-        Ok(Request::Gateway(request)) => run_gateway(&rt, &request),
+        Ok(Request::Gateway(request)) => { run_gateway(&rt, &request, StateFiles::new(&rt, alloc)) }
         Ok(Request::Witness(request)) => {
             run_witness(&rt, &request, DurableShelf::new(&rt, alloc))
         }
