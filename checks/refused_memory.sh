@@ -16,7 +16,7 @@ readonly REFUSED=400
 
 # Of each subject one more than the requests that the calls have, and how many what is made first has, which aren't refused.
 declare -rA MOST=(
-    [replies]=29 [files]=36 [keys]=8 [log]=78 [gaps]=82 [state]=124 [client]=26 [server]=76 [streams]=19 [steps]=28 [entries]=27
+    [replies]=29 [files]=36 [keys]=4 [log]=78 [gaps]=82 [state]=124 [client]=22 [server]=66 [streams]=19 [steps]=28 [entries]=27
     [segments]=67 [evidence]=107 [fork]=47 [replay2]=67 [books]=34 [filings]=14 [served]=27 [returned]=13 [jobs]=41 [rounds]=64
     [bases]=161 [stored]=0
 )
@@ -151,8 +151,8 @@ check_subject() {
         replies) exactly_refused 8 Service::opening 3 Service::answer 4 RecordReader::next 13 run_rpc ;;
         # One is for the reply, the others are for what the call does.
         files) least_refused 2 MNT SETATTR WRITE CREATE MKDIR SYMLINK LINK RENAME READDIR ;;
-        # A signer takes memory once when it is made and three times for each of its two signatures.
-        keys) exactly_refused 1 Signer::new 6 Signer::sign ;;
+        # A signer takes memory once when it is made and once for each of its two signatures.
+        keys) exactly_refused 1 Signer::new 2 Signer::sign ;;
         log | gaps)
             least_refused 1 Roster::read Roster::write Roster::try_clone Authenticator::write check Entry::read \
                 Entry::write Log::reserve Log::append OpenSegment::write check_segment

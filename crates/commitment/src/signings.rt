@@ -2,4 +2,4 @@
 
 mod places;
 
-pub use places::{SignedPlace, find, last_up_to};
+pub use places::{SignedPlace, find, keep_digest, last_up_to, make};

@@ -55,6 +55,26 @@ pub struct AckRef<'a> {
     pub signature: &'a SignatureText,
 }
 
+impl AckRef<'_> {
+    /// An acknowledgement with a copy of the signature. `AllocError` comes only where a growth was refused.
+    pub fn to_ack(&self, alloc: Global) -> Result<Ack, AllocError>
+        ensures { IfOk result (λ a. a ≡ ack_in self.now) }
+    {
+        let signature = self.signature.try_clone(alloc)?;
+        Ok(Ack {
+            by: self.by,
+            number: self.number,
+            prev: self.prev,
+            from: self.from,
+            seq: self.seq,
+            sender_prev: self.sender_prev,
+            body_hash: self.body_hash,
+            signature_hash: self.signature_hash,
+            signature,
+        })
+    }
+}
+
 impl Ack {
     /// A view of it.
     pub fn view(&self) -> AckRef<'_>
@@ -148,17 +168,6 @@ impl Signs for Ack {
     }
 
     fn try_clone(&self, alloc: Global) -> Result<Ack, AllocError> {
-        let signature = self.signature.try_clone(alloc)?;
-        Ok(Ack {
-            by: self.by,
-            number: self.number,
-            prev: self.prev,
-            from: self.from,
-            seq: self.seq,
-            sender_prev: self.sender_prev,
-            body_hash: self.body_hash,
-            signature_hash: self.signature_hash,
-            signature,
-        })
+        self.view().to_ack(alloc)
     }
 }

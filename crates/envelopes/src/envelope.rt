@@ -1,6 +1,6 @@
 //! Envelopes.
 
-ghost use Rattle.std.specs.Prelude.{◌≡◌};
+ghost use Rattle.std.specs.Prelude.{◌≡◌, IfOk};
 ghost use Rattle.envelopes.specs.Envelope.{envelope_in, envelope_item, envelope_message, envelope_shows};
 ghost use Rattle.envelopes.specs.Envelope.{envelope_value};
 
@@ -42,6 +42,24 @@ pub struct EnvelopeRef<'a> {
     pub body: &'a Body,
     /// The sender's signature of its log's hash at the SEND.
     pub signature: &'a SignatureText,
+}
+
+impl EnvelopeRef<'_> {
+    /// An envelope of copies of its body and signature. `AllocError` comes only where a growth was refused.
+    pub fn to_envelope(&self, alloc: Global) -> Result<Envelope, AllocError>
+        ensures { IfOk result (λ e. e ≡ envelope_in self.now) }
+    {
+        let body = self.body.try_clone(alloc)?;
+        let signature = self.signature.try_clone(alloc)?;
+        Ok(Envelope {
+            from: self.from,
+            to: self.to,
+            seq: self.seq,
+            prev: self.prev,
+            body,
+            signature,
+        })
+    }
 }
 
 impl Envelope {
@@ -101,15 +119,6 @@ impl Signs for Envelope {
     }
 
     fn try_clone(&self, alloc: Global) -> Result<Envelope, AllocError> {
-        let body = self.body.try_clone(alloc)?;
-        let signature = self.signature.try_clone(alloc)?;
-        Ok(Envelope {
-            from: self.from,
-            to: self.to,
-            seq: self.seq,
-            prev: self.prev,
-            body,
-            signature,
-        })
+        self.view().to_envelope(alloc)
     }
 }

@@ -35,7 +35,7 @@ unread h n time xid text (Ok a) is = no_memory (nothing_done n time a) is
 unread h n time xid text (Err body) is = (inr is, refl)
 
 -- what a call asks of a host that serves its procedure, or doesn't
-asked : (h : Host) (c : Call) (b : Bool) → serves h c.procedure ≡ b
+pub asked : (h : Host) (c : Call) (b : Bool) → serves h c.procedure ≡ b
     → host_ask_at h c.procedure c.arguments
     ≡ (if b then node_ask_at c.procedure c.arguments else Err ProcedureUnavailable)
 asked h c b is = ap (λ (x : Bool). if x then node_ask_at c.procedure c.arguments else Err ProcedureUnavailable) is

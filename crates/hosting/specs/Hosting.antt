@@ -46,6 +46,9 @@ use Rattle.peer_calls.specs.declared.call.Unasked.{Unasked}
 use Rattle.peer_calls.specs.declared.call.Unasked.TheVariants.{NoCall, Refused}
 use Rattle.hosting.specs.BaseGiving.{IsBased}
 use Rattle.hosting.specs.declared.host.Host.{Host}
+use Rattle.hosting.specs.declared.unwritten.Progress.{Progress}
+use Rattle.hosting.specs.declared.unwritten.Progress.TheVariants as progress
+use Rattle.hosting.specs.declared.unwritten.Unwritten.{Unwritten}
 use Rattle.request_streams.specs.declared.answerer.Outcome.{Outcome}
 use Rattle.request_streams.specs.declared.answerer.Outcome.TheVariants as outcomes
 
@@ -76,6 +79,10 @@ pub record IsShown (n : NodeParts) (r : Receipt) (results : List ℕ) : Type 0 w
   pub made : ack_at (sender_of n) r.ack ≡ Some ack
   pub at : IsReplyAt (sender_of n) r.reply envelope
   pub results_are : results ≡ delivered_text (Taken (ack_spelling ack) (reply_spelling envelope))
+
+-- the same results, of an answer that is still to be written
+abbrev pub unwritten_results : Unwritten → List ℕ
+unwritten_results u = delivered_text (Taken (ack_spelling u.ack) (reply_spelling u.reply))
 
 -- what a node that received a message, or refused it, answers
 abbrev pub IsDelivered : Result (Received Receipt) Refusal → NodeParts → (results : List ℕ) → Type 0
@@ -150,6 +157,17 @@ Does h n time (Segment first last) results n' = IsAudited n first last results �
 Does h n time (Stands a) results n' = IsStood n a results × (n' ≡ n)
 Does h n time (Base node after) results n' = IsBased n node after results × (n' ≡ n)
 
+-- what has its results written at once: all but that a message is to be received
+abbrev pub IsNoMessage : NodeAsk → Type 0
+IsNoMessage Null = Unit {0}
+IsNoMessage (Greet digest node) = Unit {0}
+IsNoMessage (Deliver text) = ⊥
+IsNoMessage (Acknowledge text) = Unit {0}
+IsNoMessage (Signed after) = Unit {0}
+IsNoMessage (Segment first last) = Unit {0}
+IsNoMessage (Stands a) = Unit {0}
+IsNoMessage (Base node after) = Unit {0}
+
 -- Memory was refused while it was done, or for its results: what was done then stands, and nothing else was done.
 abbrev pub MayDo : NodeParts → Timeval → NodeAsk → NodeParts → Type 0
 MayDo n time Null n' = n' ≡ n
@@ -186,6 +204,46 @@ abbrev pub IsReplied : Reply → Outcome → (text : List ℕ) → Type 0
 IsReplied reply outcomes.Replied text = text ≡ reply_text reply
 IsReplied reply outcomes.NoCall text = ⊥
 IsReplied reply outcomes.NoMemory text = Unit {0}
+
+-- A refusal was told by its number after SUCCESS; or SYSTEM_ERR was written, or memory was refused for that, too.
+abbrev pub IsRefused : Refusal → (xid : ℕ) → Outcome → (text : List ℕ) → Type 0
+IsRefused refusal xid outcomes.Replied text =
+    ((results : List ℕ) × IsNumber (refusal_number refusal) results × (text ≡ success_text xid ++ results))
+    ⊎ (text ≡ bare xid SystemError)
+IsRefused refusal xid outcomes.NoCall text = ⊥
+IsRefused refusal xid outcomes.NoMemory text = Unit {0}
+
+-- What a node shows of a message is left to be written; or SYSTEM_ERR was written, or memory was refused for that, too.
+abbrev pub IsLeft : NodeParts → Receipt → (xid : ℕ) → Progress → (text : List ℕ) → Type 0
+IsLeft n r xid (progress.Done outcome) text = IsReplied (record { xid = xid; body = SystemError }) outcome text
+IsLeft n r xid (progress.Unwritten u) text = (u.xid ≡ xid) × IsShown n r (unwritten_results u)
+
+-- a refusal is told at once
+abbrev pub IsRefusedAtOnce : Refusal → (xid : ℕ) → Progress → (text : List ℕ) → Type 0
+IsRefusedAtOnce refusal xid (progress.Done outcome) text = IsRefused refusal xid outcome text
+IsRefusedAtOnce refusal xid (progress.Unwritten u) text = ⊥
+
+-- what became of the answer to a message that a node received, or refused
+abbrev pub IsReceivedTold : Result (Received Receipt) Refusal → NodeParts → (xid : ℕ) → Progress → (text : List ℕ)
+    → Type 0
+IsReceivedTold (Ok (New r)) n xid p text = IsLeft n r xid p text
+IsReceivedTold (Ok (Repeat r)) n xid p text = IsLeft n r xid p text
+IsReceivedTold (Err refusal) n xid p text = IsRefusedAtOnce refusal xid p text
+
+-- An answer that was left to be written was written: its results after SUCCESS; or SYSTEM_ERR, or memory was refused
+-- for that, too.
+abbrev pub IsFinished : Unwritten → Outcome → (text : List ℕ) → Type 0
+IsFinished u outcomes.Replied text =
+    (text ≡ success_text u.xid ++ unwritten_results u) ⊎ (text ≡ bare u.xid SystemError)
+IsFinished u outcomes.NoCall text = ⊥
+IsFinished u outcomes.NoMemory text = Unit {0}
+
+-- This holds of what became of a record, and of the text of the answer: where it is left to be written, of whatever
+-- may be written.
+abbrev pub OnceFinished : (Outcome → List ℕ → Type 0) → Progress → (text : List ℕ) → Type 0
+OnceFinished Holds (progress.Done outcome) text = Holds outcome text
+OnceFinished Holds (progress.Unwritten u) text =
+    (outcome : Outcome) (finished : List ℕ) → IsFinished u outcome finished → Holds outcome finished
 
 -- the call that the program's value says
 abbrev pub call_of : Asked → Call

@@ -5,7 +5,9 @@ mod bases;
 mod host;
 mod ready;
 mod results;
+mod unwritten;
 
 pub use host::{Host, answer_request};
 pub use ready::Ready;
 pub use request_streams::Outcome;
+pub use unwritten::{Progress, Unwritten};

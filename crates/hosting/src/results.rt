@@ -1,28 +1,24 @@
 //! What is asked of a server is done, and its results are written.
 
-ghost use Rattle.std.specs.Prelude.{◌≡◌, ◌↔◌, ◌++◌, IsTrue, List, ℕ, None, OnErr, OnOk, Option, Some};
+ghost use Rattle.std.specs.Prelude.{◌≡◌, ◌↔◌, ◌++◌, IsTrue, List, ℕ, OnErr, OnOk, Option};
 ghost use Rattle.xdr.specs.Writing.{Adds};
 ghost use Rattle.authenticator.specs.Signed.{authenticator_value};
-ghost use Rattle.envelopes.specs.Acknowledgement.{ack_in};
-ghost use Rattle.envelopes.specs.Envelope.{envelope_in};
 ghost use Rattle.commitment.specs.RefusalNumbers.{refusal_number};
 ghost use Rattle.commitment.specs.Senders.LookUps.{IsLastSigned};
 ghost use Rattle.node_logs.specs.Nodes.{sender_of};
-ghost use Rattle.peer_calls.specs.Answers.{Taken, delivered_text};
 ghost use Rattle.peer_calls.specs.NodeRequests.{node_ask};
-ghost use Rattle.hosting.specs.Hosting.{Does, HasPair, IsAckTold, IsAudited, IsDelivered, IsGreeted, IsNumber};
-ghost use Rattle.hosting.specs.Hosting.{IsShown, IsSignedText, IsStood, MayDo, ack_spelling, audited_text, reply_spelling};
+ghost use Rattle.hosting.specs.Hosting.{Does, HasPair, IsAckTold, IsAudited, IsGreeted, IsNoMessage, IsNumber};
+ghost use Rattle.hosting.specs.Hosting.{IsSignedText, IsStood, MayDo, audited_text};
 
 use crate::bases::add_based;
 use crate::host::Host;
 use crate::ready::Ready;
 use authenticator::{Authenticator, LogVersion, is_same_hash};
-use commitment::{Received, Refusal};
-use envelopes::{AckRef, EnvelopeRef};
+use commitment::Refusal;
 use nfs_items::Time;
-use node_logs::{AckTaken, Receipt};
+use node_logs::AckTaken;
 use nodes::{HonestServer, ServerNode};
-use packets::{write_ack, write_answer_text, write_challenge, write_learn};
+use packets::{write_answer_text, write_learn};
 use peer_calls::{After, Greeting, NodeRequest, Numbers};
 use secure_log::SegmentFault;
 use std::alloc::{AllocError, Global};
@@ -33,7 +29,8 @@ const DONE: u32 = 0;
 
 const BEFORE: u32 = 10;
 
-/// Has a request done, and appends its results. Where memory is refused, a part of them may stand.
+/// Has a request done that asks for no message to be received, and appends its results. Where memory is refused, a part
+/// of them may stand.
 pub(crate) fn add_results<'r>(
     server: &mut HonestServer,
     alloc: Global,
@@ -43,6 +40,7 @@ pub(crate) fn add_results<'r>(
     request: &NodeRequest<'r>,
     out: &mut Vec<u8>,
 ) -> Result<(), AllocError>
+    requires { IsNoMessage (node_ask request.now) }
     ensures done { OnOk result ((results : List ℕ)
         × Does host.now server.old time (node_ask request.now) results server.new
         × (out.new.items ≡ out.old.items ++ results)) }
@@ -51,10 +49,7 @@ pub(crate) fn add_results<'r>(
     match request {
         NodeRequest::Null => Ok(()),
         NodeRequest::Greet(greeting) => add_greeted(greeting, host, out),
-        NodeRequest::Deliver(text) => {
-            let received = server.receive_incoming(alloc, time, ready.message(text));
-            add_delivered(server.server(), received, out)
-        }
+        NodeRequest::Deliver(_) => unreachable!(),
         NodeRequest::Acknowledge(text) => {
             let taken = server.take_incoming_ack(alloc, ready.acknowledgement(text));
             add_ack_told(taken, out)
@@ -79,7 +74,7 @@ fn add_greeted(greeting: &Greeting, host: &Host, out: &mut Vec<u8>) -> Result<()
 }
 
 /// Appends a refusal's number. Being out of memory has none, and is given back.
-fn add_refusal(refusal: Refusal, out: &mut Vec<u8>) -> Result<(), AllocError>
+pub(crate) fn add_refusal(refusal: Refusal, out: &mut Vec<u8>) -> Result<(), AllocError>
     ensures { OnOk result ((results : List ℕ) × IsNumber (refusal_number refusal) results
         × (out.new.items ≡ out.old.items ++ results)) }
 {
@@ -87,64 +82,6 @@ fn add_refusal(refusal: Refusal, out: &mut Vec<u8>) -> Result<(), AllocError>
         Some(number) => out.put_u32(number),
         None => Err(AllocError),
     }
-}
-
-/// Appends what a server shows of a message that it received, or its refusal.
-fn add_delivered(
-    server: &ServerNode,
-    received: Result<Received<Receipt>, Refusal>,
-    out: &mut Vec<u8>,
-) -> Result<(), AllocError>
-    ensures { OnOk result ((results : List ℕ) × IsDelivered received server.now results
-        × (out.new.items ≡ out.old.items ++ results)) }
-{
-    match received {
-        Ok(Received::New(receipt)) | Ok(Received::Repeat(receipt)) => {
-            add_shown(server, &receipt, out)
-        }
-        Err(refusal) => add_refusal(refusal, out),
-    }
-}
-
-/// Appends the acknowledgement of a message, and the envelope of its reply, if one is owed.
-fn add_shown(server: &ServerNode, receipt: &Receipt, out: &mut Vec<u8>) -> Result<(), AllocError>
-    ensures { OnOk result ((results : List ℕ) × IsShown server.now receipt.now results
-        × (out.new.items ≡ out.old.items ++ results)) }
-{
-    let Some(ack) = server.ack(receipt.ack.get()) else {
-        return Err(AllocError);
-    };
-    let Some(number) = receipt.reply else {
-        return add_ack(&ack, out);
-    };
-    let Some(envelope) = server.envelope(number.get()) else {
-        return Err(AllocError);
-    };
-    add_ack_and_reply(&ack, &envelope, out)
-}
-
-/// Appends an acknowledgement to which no reply belongs.
-fn add_ack(ack: &AckRef<'_>, out: &mut Vec<u8>) -> Result<(), AllocError>
-    ensures { Adds (delivered_text (Taken (ack_spelling (ack_in ack.now)) None)) out.old.items result out.new.items }
-{
-    out.put_u32(DONE)?;
-    write_ack(ack, out)?;
-    out.put_bool(false)
-}
-
-/// Appends an acknowledgement and the envelope of the reply.
-fn add_ack_and_reply(
-    ack: &AckRef<'_>,
-    envelope: &EnvelopeRef<'_>,
-    out: &mut Vec<u8>,
-) -> Result<(), AllocError>
-    ensures { Adds (delivered_text (Taken (ack_spelling (ack_in ack.now))
-        (reply_spelling (Some (envelope_in envelope.now))))) out.old.items result out.new.items }
-{
-    out.put_u32(DONE)?;
-    write_ack(ack, out)?;
-    out.put_bool(true)?;
-    write_challenge(envelope, out)
 }
 
 /// Appends what became of an acknowledgement.

@@ -1,12 +1,14 @@
 //! Keys that sign once.
 
-ghost use Rattle.std.specs.Prelude.{◌≡◌, ℕ, ◌<◌, ◌^◌, ◌+◌, ◌≤◌, Bool, not, IfOk, IfErr, List, ◌++◌, take};
+ghost use Rattle.std.specs.Prelude.{◌≡◌, ℕ, ◌<◌, ◌^◌, ◌+◌, ◌≤◌, Bool, not, IfOk, IfErr, List, [], ◌++◌, take};
 ghost use Rattle.std.specs.Prelude.{if◌then◌else◌, vec_len, vec_capacity};
 ghost use Rattle.sha2.specs.Sha256.{sha256};
 ghost use Rattle.lamport.specs.Fours.{four, four_bits};
+ghost use Rattle.lamport.specs.Bound.{BoundLeaf};
 ghost use Rattle.lamport.specs.Lamport.{LeafKey, digest_bit, end_to_end, secret, public_hash, leaf_hash};
 ghost use Rattle.lamport.specs.Lamport.{shown_secrets, other_hashes, word_bytes};
 
+use crate::bound::{BoundKey, SignatureTexts};
 use crate::buffers::TextBuffers;
 use crate::secrets::secret_text;
 use crate::shown::{add_four_pairs, four_digest_bits, leaf_start};
@@ -100,9 +102,24 @@ impl OneTimeKey {
         ensures shown { result.shown.items ≡ shown_secrets self digest.now }
         ensures other { result.other.items ≡ other_hashes self digest.now }
     {
-        let signature = self.texts(buffers, digest);
+        let texts = self.texts(digest);
         self.discard();
-        signature
+        let TextBuffers {
+            mut shown,
+            mut other,
+        } = buffers;
+        add_text(&mut shown, &texts.shown);
+        add_text(&mut other, &texts.other);
+        OneTimeSignature { shown, other }
+    }
+
+    /// Binds the key to a digest, which spends it: what comes of it signs this digest and no other. Nothing is
+    /// computed for it, and no memory is taken.
+    pub fn bind(self, digest: &[u8; 32]) -> BoundKey
+        ensures { result ≡ record { key = self; digest = digest.now } }
+    {
+        let OneTimeKey { master, leaf } = self;
+        BoundKey::new(master, leaf, *digest)
     }
 
     /// Spends the key without a signature.
@@ -110,20 +127,20 @@ impl OneTimeKey {
         let OneTimeKey { master: _, leaf: _ } = self;
     }
 
-    fn texts(&self, buffers: TextBuffers, digest: &[u8; 32]) -> OneTimeSignature
-        ensures shown { result.shown.items ≡ shown_secrets self.now digest.now }
-        ensures other { result.other.items ≡ other_hashes self.now digest.now }
+    /// The texts of a digest's signature.
+    pub(crate) fn texts(&self, digest: &[u8; 32]) -> SignatureTexts
+        ensures shown { result.shown ≡ shown_secrets self.now digest.now }
+        ensures other { result.other ≡ other_hashes self.now digest.now }
     {
-        let TextBuffers {
-            mut shown,
-            mut other,
-        } = buffers;
+        let mut shown = [0u8; TEXT_SIZE];
+        let mut other = [0u8; TEXT_SIZE];
         for turn in 0..PLACES / 4 {
             let bits = four_digest_bits(digest, 4 * turn);
-            add_four(&mut shown, &self.four_secrets(4 * turn, bits));
-            add_four(&mut other, &self.four_hashes(4 * turn, opposite(bits)));
+            let at = 128 * turn as usize;
+            put_four(&mut shown, at, &self.four_secrets(4 * turn, bits));
+            put_four(&mut other, at, &self.four_hashes(4 * turn, opposite(bits)));
         }
-        OneTimeSignature { shown, other }
+        SignatureTexts { shown, other }
     }
 
     // The secrets of four places from `first` on, each of its bit value.
@@ -157,28 +174,33 @@ impl OneTimeKey {
     }
 }
 
-/// Appends the bytes of four places, for which there is room.
-fn add_four(text: &mut Vec<u8>, pieces: &[[u8; 32]; 4])
-    requires { vec_len text.old + 128 ≤ vec_capacity text.old }
-    ensures items { (f : ℕ → List ℕ) (n : ℕ) → pieces.now ≡ four f n → text.old.items ≡ end_to_end f n →
-        text.new.items ≡ end_to_end f (n + 4) }
-    ensures len { vec_len text.new ≡ vec_len text.old + 128 }
-    ensures capacity { vec_capacity text.old ≤ vec_capacity text.new }
+/// Sets the bytes of four places after the first `at` bytes.
+fn put_four(text: &mut [u8; TEXT_SIZE], at: usize, pieces: &[[u8; 32]; 4])
+    requires { at + 128 ≤ TEXT_SIZE }
+    ensures { (f : ℕ → List ℕ) (n : ℕ) → pieces.now ≡ four f n → take at text.old ≡ end_to_end f n →
+        take (at + 128) text.new ≡ end_to_end f (n + 4) }
 {
-    add_32(text, &pieces[0]);
-    add_32(text, &pieces[1]);
-    add_32(text, &pieces[2]);
-    add_32(text, &pieces[3]);
+    put_32(text, at, &pieces[0]);
+    put_32(text, at + 32, &pieces[1]);
+    put_32(text, at + 64, &pieces[2]);
+    put_32(text, at + 96, &pieces[3]);
 }
 
-/// Appends 32 bytes, for which there is room.
-fn add_32(text: &mut Vec<u8>, bytes: &[u8; 32])
-    requires { vec_len text.old + 32 ≤ vec_capacity text.old }
-    ensures items { text.new.items ≡ text.old.items ++ bytes.now }
-    ensures len { vec_len text.new ≡ vec_len text.old + 32 }
-    ensures capacity { vec_capacity text.old ≤ vec_capacity text.new }
+/// Sets 32 bytes after the first `at`.
+fn put_32(text: &mut [u8; TEXT_SIZE], at: usize, bytes: &[u8; 32])
+    requires { at + 32 ≤ TEXT_SIZE }
+    ensures { take (at + 32) text.new ≡ take at text.old ++ bytes.now }
 {
-    text.extend_from_slice(bytes).unwrap();
+    text[at..at + 32].copy_from_slice(bytes);
+}
+
+/// Appends a text to nothing, in memory that has room for it.
+fn add_text(buffer: &mut Vec<u8>, text: &[u8; TEXT_SIZE])
+    requires empty { (buffer.old.items ≡ []) × (vec_len buffer.old ≡ 0) }
+    requires room { TEXT_SIZE ≤ vec_capacity buffer.old }
+    ensures { buffer.new.items ≡ text.now }
+{
+    buffer.extend_from_slice(text).unwrap();
 }
 
 /// The other value of each bit.

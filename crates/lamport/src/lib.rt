@@ -1,6 +1,7 @@
 //! Lamport's one-time keys over SHA-256: a key signs one digest and is spent.
 #![tactic(auto)]
 
+mod bound;
 mod buffers;
 mod key;
 mod keys;
@@ -9,6 +10,7 @@ mod leaves;
 mod secrets;
 mod shown;
 
+pub use bound::{BoundKey, SignatureTexts};
 pub use buffers::TextBuffers;
 pub use key::{OneTimeKey, OneTimeSignature, PLACES, TEXT_SIZE};
 pub use keys::LeafKeys;

@@ -6,7 +6,9 @@ pub mod laws;
 mod leaves;
 mod signature;
 mod signer;
+mod stored;
 mod text;
+mod texts;
 mod tree;
 
 pub use buffers::SignatureBuffers;

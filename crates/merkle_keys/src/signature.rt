@@ -3,38 +3,40 @@
 ghost use Rattle.std.specs.Prelude.{◌≡◌, ◌↔◌, IfOk, IsTrue, length};
 ghost use Rattle.merkle_keys.specs.Signing.{Signed};
 
+use crate::texts::Texts;
 use crate::tree::{leaf_count, path_end};
-use lamport::shown_key;
 use std::alloc::{AllocError, Global};
 use std::marker::Model;
 
 /// A signature of a digest: for each of the digest's bits a secret of a leaf, for each other bit value its
 /// public hash, and the leaf's authentication path: the siblings' hashes from the leaf up, the lowest first.
+///
+/// A signer's signature holds its key, bound to the digest, in place of the secrets and hashes. They are made
+/// each time that they are asked for, by 768 compressions of SHA-256 and in 16 KiB of the stack, or once by
+/// `make`. One that was read holds them.
 #[derive(Drop)]
 pub struct Signature {
     pub(crate) leaf: u32,
-    pub(crate) shown: Vec<u8>,
-    pub(crate) other: Vec<u8>,
+    pub(crate) texts: Texts,
     pub(crate) path: Vec<[u8; 32]>,
 }
 
 impl Model for Signature {
-    ghost use Rattle.std.specs.Prelude.{◌≡◌, ◌≤◌, length};
-    ghost use Rattle.lamport.specs.declared.key.TheConstants.{TEXT_SIZE};
+    ghost use Rattle.std.specs.Prelude.{◌≤◌, length};
     ghost use Rattle.merkle_keys.specs.Signing.{SignatureParts};
+    ghost use Rattle.merkle_keys.specs.Texts.{shown_in, other_in};
     ghost use Rattle.merkle_keys.specs.declared.signature.TheConstants.{MAX_HEIGHT};
 
     ghost Value = { SignatureParts };
 
     ghost view = { λ s. record {
       leaf = s.leaf;
-      shown = s.shown.items;
-      other = s.other.items;
+      shown = shown_in s.texts;
+      other = other_in s.texts;
       path = s.path.items;
     } };
 
-    ghost invariant = { λ s. (length s.shown.items ≡ TEXT_SIZE) × (length s.other.items ≡ TEXT_SIZE)
-        × (length s.path.items ≤ MAX_HEIGHT) };
+    ghost invariant = { λ s. length s.path.items ≤ MAX_HEIGHT };
 }
 
 /// The greatest height of a tree: it has 65,536 leaves.
@@ -48,38 +50,37 @@ impl Signature {
         self.leaf
     }
 
-    /// A copy. Takes memory three times, as `Signer::sign`.
+    /// A copy. Takes memory for the path, and where the secrets and hashes stand twice more.
     pub fn try_clone(&self, alloc: Global) -> Result<Signature, AllocError>
         ensures { IfOk result (λ s. s ≡ self.now) }
     {
-        let shown = Vec::from_slice(alloc, &self.shown)?;
-        let other = Vec::from_slice(alloc, &self.other)?;
+        let texts = self.texts.try_clone(alloc)?;
         let path = Vec::from_slice(alloc, &self.path)?;
         Ok(Signature {
             leaf: self.leaf,
-            shown,
-            other,
+            texts,
             path,
         })
     }
 
-    /// Whether another signature is the same: of the same leaf, with the same secrets, hashes and path. It
-    /// compares bytes, and takes no memory.
+    /// Makes the secrets and hashes of a signer's signature, so that they stand and aren't made again. Where
+    /// memory was refused they are made as before, each time that they are asked for. Takes memory twice,
+    /// `lamport::TEXT_SIZE` bytes each, and none where they stand.
+    pub fn make(&mut self, alloc: Global) -> Result<(), AllocError>
+        ensures { self.new ≡ self.old }
+    {
+        self.texts.make(alloc)
+    }
+
+    /// Whether another signature is the same: of the same leaf, with the same secrets, hashes and path. Two
+    /// of one key and digest are, and else bytes are compared. Takes no memory.
     pub fn is_same(&self, other: &Signature) -> bool
         ensures { IsTrue result ↔ (self.now ≡ other.now) }
     {
         self.leaf == other.leaf
             && is_same_path(&self.path, &other.path)
-            && is_same_text(&self.shown, &other.shown)
-            && is_same_text(&self.other, &other.other)
+            && self.texts.is_same(&other.texts)
     }
-}
-
-/// Whether two texts are the same.
-fn is_same_text(one: &[u8], other: &[u8]) -> bool
-    ensures { IsTrue result ↔ (one.now ≡ other.now) }
-{
-    one == other
 }
 
 /// Whether two paths are the same.
@@ -101,7 +102,7 @@ pub fn verify(root: &[u8; 32], height: u32, digest: &[u8; 32], signature: &Signa
     {
         return false;
     }
-    let start = shown_key(digest, &signature.shown, &signature.other);
+    let start = signature.texts.shown_key(digest);
     let end = path_end(signature.leaf, start, &signature.path);
     end.as_slice() == root.as_slice()
 }

@@ -8,8 +8,9 @@ ghost use Rattle.merkle_keys.specs.Signing.{Signed, signature_of};
 
 use crate::buffers::SignatureBuffers;
 use crate::signature::{MAX_HEIGHT, Signature};
+use crate::texts::Texts;
 use crate::tree::{leaf_count, sibling, tree_hashes, tree_hashes_by};
-use lamport::{LeafKeys, OneTimeSignature};
+use lamport::LeafKeys;
 use std::alloc::{AllocError, Global};
 use std::marker::Model;
 use std::thread::Threads;
@@ -49,8 +50,8 @@ impl From<AllocError> for SignFault {
 }
 
 /// A master secret's keys, of which each signs once, in order. It keeps the tree's hashes, 64 bytes for
-/// each leaf. The key of a leaf is made twice: for its hash, when the signer is made, and to sign, when it
-/// is taken out of `keys`, which gives each once. The master secret can't be read, copied or printed.
+/// each leaf. The key of a leaf is made for its hash, when the signer is made, and to sign, when it is taken
+/// out of `keys`, which gives each once; a signature holds it bound to its digest. The master secret can't be read, copied or printed.
 #[derive(Drop)]
 pub struct Signer {
     keys: LeafKeys,
@@ -124,7 +125,8 @@ impl Signer {
 
     /// Signs a digest by the next leaf: the leaf's number is the count of signings before. `KeysUsedUp`
     /// comes exactly after 2 to the height of them. After a fault nothing has changed: no key was taken.
-    /// Takes memory three times, before the key.
+    /// Takes memory once, before the key. The signature's secrets and hashes are made when they are asked
+    /// for.
     pub fn sign(&mut self, digest: &[u8; 32]) -> Result<Signature, SignFault>
         ensures used_up { (result ≡ Err SignFault.KeysUsedUp) ↔ (self.old.used ≡ 2 ^ self.old.height) }
         ensures signature { IfOk result
@@ -149,14 +151,12 @@ impl Signer {
         ensures signed { Signed (root self.old.master self.old.height) self.old.height digest.now result }
         ensures spent { self.new ≡ record self.old { used = self.old.used + 1 } }
     {
-        let SignatureBuffers { texts, path } = buffers;
         let leaf = self.keys.next();
-        let path = self.path(path, leaf);
-        let OneTimeSignature { shown, other } = self.keys.take().sign_into(texts, digest);
+        let path = self.path(buffers.path, leaf);
+        let key = self.keys.take().bind(digest);
         Signature {
             leaf,
-            shown,
-            other,
+            texts: Texts::Bound(key),
             path,
         }
     }

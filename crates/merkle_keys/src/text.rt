@@ -11,6 +11,7 @@ ghost use Rattle.xdr.specs.Writing.{Writes, Adds};
 ghost use Rattle.merkle_keys.specs.Signing.{signature_item, signature_value};
 
 use crate::signature::{MAX_HEIGHT, Signature};
+use crate::texts::Texts;
 use lamport::{OneMessage, TEXT_SIZE};
 use std::alloc::{AllocError, Global};
 use xdr::{FromXdr, ReadFault, Reader, Writer, XdrFault, all_or_nothing, put_back_on_err};
@@ -36,8 +37,7 @@ fn read_fields<'a>(alloc: Global, reader: &mut Reader<'a>) -> Result<Signature, 
     let path = read_path(alloc, reader)?;
     Ok(Signature {
         leaf,
-        shown,
-        other,
+        texts: Texts::read(shown, other),
         path,
     })
 }
@@ -71,7 +71,15 @@ impl Signature {
         ensures text { Writes signature_item (signature_value self.now) out.old.items result out.new.items }
     {
         let start = out.len();
-        let written = add_fields(self.leaf, &self.shown, &self.other, &self.path, out);
+        let written = match &self.texts {
+            Texts::Stored(texts) => {
+                add_fields(self.leaf, &texts.shown, &texts.other, &self.path, out)
+            }
+            Texts::Bound(key) => {
+                let made = key.texts();
+                add_fields(self.leaf, &made.shown, &made.other, &self.path, out)
+            }
+        };
         all_or_nothing(out, start, written)
     }
 
@@ -79,7 +87,8 @@ impl Signature {
     pub fn fits(&self)
         ensures { Fits signature_item (signature_value self.now) }
     {
-        parts_fit(self.leaf, &self.shown, &self.other, &self.path);
+        self.texts.have_sizes();
+        rest_fits(self.leaf, &self.path);
     }
 
     /// The digest of the text, which isn't written for that. Takes no memory.
@@ -89,8 +98,7 @@ impl Signature {
     {
         let mut text = OneMessage::new();
         text.update(&self.leaf.to_be_bytes());
-        text.update(&self.shown);
-        text.update(&self.other);
+        self.texts.hash_into(&mut text);
         hash_path(&self.path, &mut text);
         text.finalize()
     }
@@ -117,12 +125,11 @@ fn hash_each(path: &[[u8; 32]], text: &mut OneMessage)
     }
 }
 
-/// Parts of these lengths have a text: does nothing, and tells a caller's proof.
-fn parts_fit(leaf: u32, shown: &[u8], other: &[u8], path: &[[u8; 32]])
-    requires shown { length shown.now ≡ TEXT_SIZE }
-    requires other { length other.now ≡ TEXT_SIZE }
-    requires path { length path.now ≤ MAX_HEIGHT }
-    ensures { Fits signature_item (leaf, (shown.now, (other.now, path.now))) }
+/// A leaf and a path have a text beside any texts of their size: does nothing, and tells a caller's proof.
+fn rest_fits(leaf: u32, path: &[[u8; 32]])
+    requires { length path.now ≤ MAX_HEIGHT }
+    ensures { (shown other : List ℕ) → length shown ≡ TEXT_SIZE → length other ≡ TEXT_SIZE →
+        Fits signature_item (leaf, (shown, (other, path.now))) }
 {
     let _levels = path.len();
 }

@@ -1,5 +1,5 @@
 -- What the client and the server each do of an exchange alone.
--- Serves: send_text, write_answer, answer, receive_reply.
+-- Serves: send_text, answer, hear, receive_reply.
 use Rattle.std.proofs.Common.{◌≡◌, inr, ℕ, false, List, [], Result, Ok, Err, Option, Some}
 use Rattle.std.proofs.Common.{None}
 use Rattle.std.proofs.Common.{refl, sym, ap, subst, ◌∙◌}
@@ -24,9 +24,9 @@ use Rattle.node_logs.specs.declared.outcome.Receipt.{Receipt}
 use Rattle.nodes.specs.Delivery.{MayReceive, MayTake, SendsBody, WritesText}
 use Rattle.nodes.specs.Exchanges.Exchanges.{IsServed}
 use Rattle.nodes.specs.Faults.{Because}
-use Rattle.nodes.specs.Sides.{HasReceived, IsAnswered, IsEnvelopeText, IsReceivedAs, IsReplyAt, IsReplyText}
+use Rattle.nodes.specs.Sides.{HasAnswered, HasReceived, IsEnvelopeText, IsReceivedAs, IsReplyAt, IsReplyText}
 use Rattle.nodes.specs.Sides.{IsSentAs}
-use Rattle.nodes.specs.Sides.{IsShownOf, IsWrittenOf, StopsAnswering, StopsReceiving, StopsSending}
+use Rattle.nodes.specs.Sides.{IsShownOf, StopsAnswering, StopsReceiving, StopsSending}
 use Rattle.nodes.proofs.OfExchanges.Answered.{none_owed}
 use Rattle.nodes.proofs.OfExchanges.Shown.{envelope_shown}
 use Rattle.nodes.proofs.Unjoined.{ack_made, receipt_made, reply_logged}
@@ -132,23 +132,17 @@ pub record IsServedAs (s : NodeParts) (time : Timeval) (e : Envelope) (r : Recei
   -- it shows both
   pub shown : IsShownOf t r.ack r.reply ack envelope
   -- the reply is the one owed
-  pub served : s.lies ≡ false → (reply : Option (List ℕ)) (bytes : List ℕ) → IsReplyText envelope reply bytes
-      → IsServed s time e.body reply t
+  pub served : s.lies ≡ false → IsServed s time e.body (option_map (λ (f : Envelope). f.body) envelope) t
 
--- no reply is owed
-nothing : (s t : NodeParts) (time : Timeval) (e : Envelope) → IsServed s time e.body None t
-    → (reply : Option (List ℕ)) (bytes : List ℕ) → IsReplyText None reply bytes
-    → IsServed s time e.body reply t
-nothing s t time e h None bytes text = h
-nothing s t time e h (Some reply) bytes text = absurd text
-
--- the reply is the envelope's body
-something : (s t : NodeParts) (time : Timeval) (e f : Envelope) → IsServed s time e.body (Some f.body) t
-    → (reply : Option (List ℕ)) (bytes : List ℕ) → IsReplyText (Some f) reply bytes
-    → IsServed s time e.body reply t
-something s t time e f h None bytes text = absurd text
-something s t time e f h (Some reply) bytes text =
-    subst (λ (b : List ℕ). IsServed s time e.body (Some b) t) (sym text.1) h
+-- The reply that is written is the body of the envelope that is shown.
+pub as_written : (s t : NodeParts) (time : Timeval) (body : List ℕ) (o : Option Envelope)
+    (reply : Option (List ℕ)) (bytes : List ℕ) → IsReplyText o reply bytes
+    → IsServed s time body (option_map (λ (f : Envelope). f.body) o) t → IsServed s time body reply t
+as_written s t time body None None bytes text h = h
+as_written s t time body None (Some reply) bytes text h = absurd text
+as_written s t time body (Some e) None bytes text h = absurd text
+as_written s t time body (Some e) (Some reply) bytes text h =
+    subst (λ (b : List ℕ). IsServed s time body (Some b) t) (sym text.1) h
 
 -- What a server shows of a receipt, and what it did.
 pub served_as : (s t : NodeParts) (time : Timeval) (e : Envelope) (r : Receipt)
@@ -167,7 +161,7 @@ served_as s t time e r receives is =
         made = made;
         at = subst (λ (o : Option ℕ). IsReplyAt (sender_of t) o None) (sym none) tt;
       };
-      served = λ plain. nothing s t time e (none_owed s t time e.body e r refl receives none);
+      served = λ plain. none_owed s t time e.body e r refl receives none;
     }
     by a made (Some number) some =
         let x = reply_logged s t time e.body e r number refl receives is some in
@@ -178,46 +172,46 @@ served_as s t time e r receives is =
             made = made;
             at = subst (λ (o : Option ℕ). IsReplyAt (sender_of t) o (Some x.envelope)) (sym some) x.there;
           };
-          served = λ plain. something s t time e x.envelope (x.served plain);
+          served = λ plain. x.served plain;
         }
 
--- It received the envelope, and the texts of what it shows were written.
-pub answered : {X : Type 0} (items : X → List ℕ) (s s1 n : NodeParts) (time : Timeval) (e : Envelope)
-    (r : Receipt)
-    (result : Result (Option X) LinkFault) (ack bytes : List ℕ) → HasReceived s time e r s1
+-- It received the envelope, and what it shows was copied.
+pub answered : {X : Type 0} (ack : X → Ack) (reply : X → Option Envelope) (s s1 n : NodeParts) (time : Timeval)
+    (e : Envelope) (r : Receipt) (result : Result X LinkFault) → HasReceived s time e r s1
     → IsSender (sender_of s1)
     → n ≡ s1
     → ((a : Ack) (f : Option Envelope) → IsShownOf n r.ack r.reply a f
-    → IfOk result (λ o. IsWrittenOf a f (option_map items o) ack bytes))
-    → IfOk result (λ o. IsAnswered s time e (option_map items o) ack bytes s1)
-answered items s s1 n time e r (Err f) ack bytes has is node written = tt
-answered items s s1 n time e r (Ok o) ack bytes has is node written =
-    let x = served_as s s1 time e r has.receives is in
+    → IfOk result (λ x. (ack x ≡ a) × (reply x ≡ f)))
+    → IfOk result (λ x. HasAnswered s time e (ack x) (reply x) s1)
+answered ack reply s s1 n time e r (Err f) has is node shown = tt
+answered ack reply s s1 n time e r (Ok x) has is node shown =
+    let y = served_as s s1 time e r has.receives is in
+    let same = shown y.ack y.envelope
+    (subst (λ (m : NodeParts). IsShownOf m r.ack r.reply y.ack y.envelope) (sym node) y.shown) in
     record {
       receipt = r;
       received = has;
       sender = is;
-      ack = x.ack;
-      envelope = x.envelope;
-      shown = x.shown;
-      written =
-          written x.ack x.envelope (subst (λ (m : NodeParts). IsShownOf m r.ack r.reply x.ack x.envelope)
-          (sym node) x.shown);
+      shown = record {
+        made = y.shown.made ∙ ap Some (sym same.0);
+        at = subst (λ (o : Option Envelope). IsReplyAt (sender_of s1) r.reply o) (sym same.1) y.shown.at;
+      };
     }
 
 -- The reply is the one owed.
-pub answered_plainly : {X : Type 0} (items : X → List ℕ) (s s1 n : NodeParts) (time : Timeval) (e : Envelope)
-    (r : Receipt) (result : Result (Option X) LinkFault) (ack bytes : List ℕ) → s.lies ≡ false
+pub answered_plainly : {X : Type 0} (ack : X → Ack) (reply : X → Option Envelope) (s s1 n : NodeParts)
+    (time : Timeval) (e : Envelope) (r : Receipt) (result : Result X LinkFault) → s.lies ≡ false
     → HasReceived s time e r s1 → IsSender (sender_of s1) → n ≡ s1
     → ((a : Ack) (f : Option Envelope) → IsShownOf n r.ack r.reply a f
-    → IfOk result (λ o. IsWrittenOf a f (option_map items o) ack bytes))
-    → IfOk result (λ o. IsServed s time e.body (option_map items o) s1)
-answered_plainly items s s1 n time e r (Err f) ack bytes plain has is node written = tt
-answered_plainly items s s1 n time e r (Ok o) ack bytes plain has is node written =
-    let x = served_as s s1 time e r has.receives is in
-    let w = written x.ack x.envelope
-    (subst (λ (m : NodeParts). IsShownOf m r.ack r.reply x.ack x.envelope) (sym node) x.shown) in
-    x.served plain (option_map items o) bytes w.replies
+    → IfOk result (λ x. (ack x ≡ a) × (reply x ≡ f)))
+    → IfOk result (λ x. IsServed s time e.body (option_map (λ (f : Envelope). f.body) (reply x)) s1)
+answered_plainly ack reply s s1 n time e r (Err f) plain has is node shown = tt
+answered_plainly ack reply s s1 n time e r (Ok x) plain has is node shown =
+    let y = served_as s s1 time e r has.receives is in
+    let same = shown y.ack y.envelope
+    (subst (λ (m : NodeParts). IsShownOf m r.ack r.reply y.ack y.envelope) (sym node) y.shown) in
+    subst (λ (o : Option Envelope). IsServed s time e.body (option_map (λ (f : Envelope). f.body) o) s1)
+    (sym same.1) (y.served plain)
 
 -- It received the envelope, and memory was refused for the texts.
 pub not_answered : {X : Type 0} (s s1 n : NodeParts) (time : Timeval) (e : Envelope) (r : Receipt)

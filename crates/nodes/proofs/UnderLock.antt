@@ -4,7 +4,7 @@ use Rattle.std.proofs.Common.{◌≡◌, ◌⊎◌, inl, inr, ℕ, Bool, true, f
 use Rattle.std.proofs.Common.{Some, []}
 use Rattle.std.proofs.Common.{None, refl, sym, ap, subst, ◌∙◌}
 use Rattle.std.proofs.lemmas.Option.{same_Some}
-use Rattle.std.specs.Prelude.{IfErr, OnOk}
+use Rattle.std.specs.Prelude.{IfErr, IfOk, OnOk}
 use Rattle.std.specs.Option.{option_map}
 use Rattle.authenticator.specs.declared.member.Kind.TheVariants as kinds
 use Rattle.envelopes.specs.declared.envelope.Envelope.{Envelope}
@@ -27,7 +27,7 @@ use Rattle.nodes.specs.Exchanges.Laws.{IsAccepted}
 use Rattle.nodes.specs.Faults.{Because}
 use Rattle.nodes.specs.Shareds.{HasNotStrayed, IsAckRefused, IsCalled, IsExchanged, IsUnderLock, SharedParts}
 use Rattle.nodes.specs.Shareds.{StopsCalling, StopsExchange, asked, heard, received, sent, unheard, unsent}
-use Rattle.nodes.specs.Sides.{HasReceived, IsAnswered, IsAskedOf, IsEnvelopeText, IsReceivedAs, IsReplyAt}
+use Rattle.nodes.specs.Sides.{HasAnswered, HasReceived, IsAskedOf, IsEnvelopeText, IsReceivedAs, IsReplyAt}
 use Rattle.nodes.specs.Sides.{IsReplyText}
 use Rattle.nodes.specs.Sides.{IsReturnedAs, IsSentAs, IsTextOfAck, StopsAnswering, StopsReceiving}
 use Rattle.nodes.specs.Sides.{StopsReturning}
@@ -37,7 +37,7 @@ use Rattle.nodes.proofs.OfExchanges.Called.{call_acknowledged, call_reaches}
 use Rattle.nodes.proofs.OfExchanges.Reached.{ack_accepted, found}
 use Rattle.nodes.proofs.OfExchanges.Shown.{envelope_shown}
 use Rattle.authenticator.specs.Numbers.{number_in}
-use Rattle.nodes.proofs.OfSides.{because, weaker}
+use Rattle.nodes.proofs.OfSides.{as_written, because, weaker}
 
 -- ---- texts
 
@@ -150,14 +150,14 @@ accepts_ack c s to time body c1 s1 r a h is made joined =
     (subst (λ (k : Ack). IsAccepted (having_called c s body) k) same
     (ack_accepted s1 (having_called c s body) kinds.Server r.ack x.0 is x.1))
 
--- The client didn't take the acknowledgement.
+-- The client didn't take the acknowledgement, or was out of memory for what the server shows.
 pub not_asked_under : (c s : NodeParts) (to : ℕ) (time : Timeval) (body text : List ℕ)
-    (reply : Option (List ℕ))
-    (ack bytes : List ℕ) (fault : LinkFault) (c1 s1 c2 : NodeParts) (out : IsSentAs c to body text c1)
-    → HasNotStrayed s → HasNotStrayed s1 → IsAnswered s time out.envelope reply ack bytes s1
-    → ((a : Ack) → IsTextOfAck a ack → MayTakeAck c1 a (Err fault) c2) → StopsCalling c to time body fault c2
-not_asked_under c s to time body text reply ack bytes fault c1 s1 c2 out straight stays answer told =
-    by fault (told answer.ack answer.written.acknowledges)
+    (ack : Ack) (envelope : Option Envelope) (fault : LinkFault) (c1 s1 c2 : NodeParts)
+    (out : IsSentAs c to body text c1)
+    → HasNotStrayed s → HasNotStrayed s1 → HasAnswered s time out.envelope ack envelope s1
+    → MayTakeAck c1 ack (Err fault) c2 → StopsCalling c to time body fault c2
+not_asked_under c s to time body text ack envelope fault c1 s1 c2 out straight stays answer told =
+    by fault told
   where
     h : IsHeardOf c s to time body c1 s1 answer.receipt
     h = heard_of c s to time body text c1 s1 answer.receipt out answer.received
@@ -165,24 +165,26 @@ not_asked_under c s to time body text reply ack bytes fault c1 s1 c2 out straigh
     lock : IsUnderLock to s s1
     lock = record { called = h.number; straight = straight; stays = stays }
 
-    by : (f : LinkFault) → MayTakeAck c1 answer.ack (Err f) c2 → StopsCalling c to time body f c2
+    by : (f : LinkFault) → MayTakeAck c1 ack (Err f) c2 → StopsCalling c to time body f c2
     by KeysUsedUp may = absurd may
     by NoMemory may = heard s s1 answer.receipt lock h.heard tt (may ∙ h.is)
     by Failed (same, inl refuses) =
         heard s s1 answer.receipt lock h.heard
-        (inl (λ joined. refuses (accepts_ack c s to time body c1 s1 answer.receipt answer.ack h answer.sender
+        (inl (λ joined. refuses (accepts_ack c s to time body c1 s1 answer.receipt ack h answer.sender
         answer.shown.made joined))) (same ∙ h.is)
     by Failed (same, inr lacks) =
         heard s s1 answer.receipt lock h.heard
         (inr (subst (λ (n : NodeParts). LacksNumbers 1 n) (sym same) lacks)) (same ∙ h.is)
 
 -- The client took it.
-pub asked_under : (c s : NodeParts) (to : ℕ) (time : Timeval) (body text : List ℕ) (reply : Option (List ℕ))
-    (ack bytes : List ℕ) (c1 s1 c2 : NodeParts) (out : IsSentAs c to body text c1) → HasNotStrayed s
-    → HasNotStrayed s1
-    → IsAnswered s time out.envelope reply ack bytes s1 → IsServed s time out.envelope.body reply s1
-    → ((a : Ack) → IsTextOfAck a ack → MayTakeAck c1 a (Ok tt) c2) → IsAskedOf c to time body reply bytes c2
-asked_under c s to time body text reply ack bytes c1 s1 c2 out straight stays answer served told =
+pub asked_under : (c s : NodeParts) (to : ℕ) (time : Timeval) (body text : List ℕ) (ack : Ack)
+    (envelope : Option Envelope) (reply : Option (List ℕ)) (bytes : List ℕ) (c1 s1 c2 : NodeParts)
+    (out : IsSentAs c to body text c1) → HasNotStrayed s → HasNotStrayed s1
+    → HasAnswered s time out.envelope ack envelope s1
+    → IsServed s time out.envelope.body (option_map (λ (f : Envelope). f.body) envelope) s1
+    → IsReplyText envelope reply bytes
+    → MayTakeAck c1 ack (Ok tt) c2 → IsAskedOf c to time body reply bytes c2
+asked_under c s to time body text ack envelope reply bytes c1 s1 c2 out straight stays answer served written taken =
     let h = heard_of c s to time body text c1 s1 answer.receipt out answer.received in
     record {
       server = s;
@@ -191,17 +193,43 @@ asked_under c s to time body text reply ack bytes c1 s1 c2 out straight stays an
       receipt = answer.receipt;
       asked = record {
         heard = h.heard;
-        ack = answer.ack;
+        ack = ack;
         made = answer.shown.made;
-        taken = told answer.ack answer.written.acknowledges
-            ∙ ap (λ (n : NodeParts). with_ack n answer.ack) h.is;
+        taken = taken ∙ ap (λ (n : NodeParts). with_ack n ack) h.is;
       };
       sender = answer.sender;
-      envelope = answer.envelope;
+      envelope = envelope;
       shown = answer.shown.at;
-      written = answer.written.replies;
-      served = subst (λ (b : List ℕ). IsServed s time b reply s1) out.says served;
+      written = written;
+      served = subst (λ (b : List ℕ). IsServed s time b reply s1) out.says
+          (as_written s s1 time out.envelope.body envelope reply bytes written served);
     }
+
+-- What came of writing what the server shows, and of taking its acknowledgement: the call was taken.
+pub asked_where_heard : {X : Type 0} (items : X → List ℕ) (result : Result (Option X) LinkFault)
+    (c s : NodeParts) (to : ℕ) (time : Timeval) (body text : List ℕ) (ack : Ack) (envelope : Option Envelope)
+    (bytes : List ℕ) (c1 s1 c2 : NodeParts) (out : IsSentAs c to body text c1)
+    → HasNotStrayed s → HasNotStrayed s1 → HasAnswered s time out.envelope ack envelope s1
+    → IsServed s time out.envelope.body (option_map (λ (f : Envelope). f.body) envelope) s1
+    → IfOk result (λ r. IsReplyText envelope (option_map items r) bytes)
+    → OnOk result (MayTakeAck c1 ack (Ok tt) c2)
+    → IfOk result (λ r. IsAskedOf c to time body (option_map items r) bytes c2)
+asked_where_heard items (Ok r) c s to time body text ack e bytes c1 s1 c2 out straight stays has served w taken =
+    asked_under c s to time body text ack e (option_map items r) bytes c1 s1 c2 out straight stays has served w
+    taken
+asked_where_heard items (Err f) c s to time body text ack e bytes c1 s1 c2 out straight stays has served w taken =
+    tt
+
+-- Or it wasn't.
+pub not_asked_where_heard : {X : Type 0} (result : Result X LinkFault)
+    (c s : NodeParts) (to : ℕ) (time : Timeval) (body text : List ℕ) (ack : Ack) (envelope : Option Envelope)
+    (c1 s1 c2 : NodeParts) (out : IsSentAs c to body text c1)
+    → HasNotStrayed s → HasNotStrayed s1 → HasAnswered s time out.envelope ack envelope s1
+    → IfErr result (λ f. MayTakeAck c1 ack (Err f) c2)
+    → IfErr result (λ f. StopsCalling c to time body f c2)
+not_asked_where_heard (Ok x) c s to time body text ack e c1 s1 c2 out straight stays has told = tt
+not_asked_where_heard (Err f) c s to time body text ack e c1 s1 c2 out straight stays has told =
+    not_asked_under c s to time body text ack e f c1 s1 c2 out straight stays has told
 
 -- ---- the reply
 

@@ -29,6 +29,13 @@ WritesText t v (Err KeysUsedUp) bytes = ⊥
 WritesText t v (Err NoMemory) bytes = Unit {0}
 WritesText t v (Err Failed) bytes = ⊥
 
+-- A call made a copy of a value, or was refused memory.
+abbrev pub IsCopyOf : {X : Type 0} → X → Result X LinkFault → Type 0
+IsCopyOf x (Ok copy) = copy ≡ x
+IsCopyOf x (Err KeysUsedUp) = ⊥
+IsCopyOf x (Err NoMemory) = Unit {0}
+IsCopyOf x (Err Failed) = ⊥
+
 -- A call copied an envelope's body, or was refused memory.
 abbrev pub CopiesBody : {X : Type 0} (bytes : X → List ℕ) → Envelope → Result X LinkFault → Type 0
 CopiesBody bytes e (Ok x) = (bytes x ≡ e.body) × (length (bytes x) ≤ MAX_BODY)

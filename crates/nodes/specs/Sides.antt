@@ -90,17 +90,14 @@ pub record IsWrittenOf (ack : Ack) (envelope : Option Envelope) (reply : Option 
   pub acknowledges : IsTextOfAck ack ack_bytes
   pub replies : IsReplyText envelope reply bytes
 
--- The server received an envelope that is to it, and these are the texts of its acknowledgement and of its
--- reply's envelope, and the reply's body.
-pub record IsAnswered (s : NodeParts) (time : Timeval) (e : Envelope) (reply : Option (List ℕ))
-    (ack_bytes bytes : List ℕ) (s' : NodeParts) : Type 0 where
+-- The server received an envelope that is to it, and shows this acknowledgement, and this envelope of its reply, if
+-- it owed one.
+pub record HasAnswered (s : NodeParts) (time : Timeval) (e : Envelope) (ack : Ack) (envelope : Option Envelope)
+    (s' : NodeParts) : Type 0 where
   pub receipt : Receipt
   pub received : HasReceived s time e receipt s'
   pub sender : IsSender (sender_of s')
-  pub ack : Ack
-  pub envelope : Option Envelope
   pub shown : IsShownOf s' receipt.ack receipt.reply ack envelope
-  pub written : IsWrittenOf ack envelope reply ack_bytes bytes
 
 -- It stopped before the RECV, or, out of memory for what it shows, after it. Failed: it refuses the envelope, or
 -- else its log lacks numbers for what it would log.

@@ -1,6 +1,6 @@
 //! Handing what one node shows to another that awaits it.
 
-ghost use Rattle.std.specs.Prelude.{◌≡◌, ◌≤◌, IfOk, OnOk, None, Some, length};
+ghost use Rattle.std.specs.Prelude.{◌≡◌, ◌≤◌, IfErr, IfOk, OnOk, None, Some, length};
 ghost use Rattle.secure_log.specs.LogEntries.Chain.{span};
 ghost use Rattle.secure_log.specs.declared.log_entries.entry.TheConstants.{MAX_BODY};
 ghost use Rattle.authenticator.specs.declared.member.Kind.TheVariants as kinds;
@@ -12,11 +12,12 @@ ghost use Rattle.envelopes.specs.declared.acknowledgement.Ack.{Ack};
 ghost use Rattle.commitment.specs.Senders.LookUps.{ack_at, envelope_at};
 ghost use Rattle.commitment.specs.Receiver.{Finds};
 ghost use Rattle.commitment.specs.Senders.Sender.{IsSender};
+ghost use Rattle.node_logs.specs.Sending.{Sends};
 ghost use Rattle.node_logs.specs.Steps.Nodes.{receiver_of, sender_of};
-ghost use Rattle.gateway.specs.declared.links.fault.LinkFault.TheVariants.{Failed};
+ghost use Rattle.gateway.specs.declared.links.fault.LinkFault.TheVariants.{Failed, NoMemory};
 ghost use Rattle.nodes.specs.Exchanges.Reaching.{AckReaches, Reaches, ack_told};
 ghost use Rattle.nodes.specs.Exchanges.Laws.{IsAccepted};
-ghost use Rattle.nodes.specs.Delivery.{CopiesBody, MayReceive, MayTake, MayTakeAck, ReceivesNew, SendsBody};
+ghost use Rattle.nodes.specs.Delivery.{CopiesBody, IsCopyOf, MayReceive, MayTake, MayTakeAck, ReceivesNew, SendsBody};
 ghost use Rattle.nodes.specs.Delivery.{TakesAwaited, TakesNew, WritesText, fault_of};
 
 use crate::client::ClientNode;
@@ -64,11 +65,24 @@ pub(crate) fn send(
     let Ok(copy) = bytes.to_vec(alloc) else {
         return Err(LinkFault::NoMemory);
     };
-    let sent = client.call(to, Body::new(copy));
+    let sent = call(client, to, Body::new(copy));
     client.node().is_honest();
     match sent {
         Ok(number) => Ok(number),
         Err(refusal) => Err(fault_of(refusal)),
+    }
+}
+
+/// The client sends a body to a node, and its signature is made.
+fn call(client: &mut ClientNode, to: u32, body: Body) -> Result<Number, Refusal>
+    ensures { Sends client.old to body result client.new }
+{
+    match client.call(to, body) {
+        Ok(number) => {
+            client.make_signature(number.get());
+            Ok(number)
+        }
+        Err(refusal) => Err(refusal),
     }
 }
 
@@ -113,6 +127,72 @@ pub(crate) fn write_ack(node: &NodeLog, number: Number, text: &mut Vec<u8>) -> R
     let Some(ack) = node.ack(number.get()) else {
         return Err(LinkFault::Failed);
     };
+    match ack.write(text) {
+        Ok(()) => Ok(()),
+        Err(_) => Err(LinkFault::NoMemory),
+    }
+}
+
+/// A copy of the envelope of the SEND with a number. `NoMemory` comes only where a growth was refused.
+pub(crate) fn copy_envelope(
+    node: &NodeLog,
+    number: Number,
+    alloc: Global,
+) -> Result<Envelope, LinkFault>
+    ensures { (e : Envelope) → envelope_at (sender_of node.now) number ≡ Some e → IsCopyOf e result }
+{
+    let Some(envelope) = node.envelope(number.get()) else {
+        return Err(LinkFault::Failed);
+    };
+    match envelope.to_envelope(alloc) {
+        Ok(copy) => Ok(copy),
+        Err(_) => Err(LinkFault::NoMemory),
+    }
+}
+
+/// A copy of the acknowledgement that the RECV with a number makes, as `copy_envelope`.
+pub(crate) fn copy_ack(node: &NodeLog, number: Number, alloc: Global) -> Result<Ack, LinkFault>
+    ensures { (a : Ack) → ack_at (sender_of node.now) number ≡ Some a → IsCopyOf a result }
+{
+    let Some(ack) = node.ack(number.get()) else {
+        return Err(LinkFault::Failed);
+    };
+    match ack.to_ack(alloc) {
+        Ok(copy) => Ok(copy),
+        Err(_) => Err(LinkFault::NoMemory),
+    }
+}
+
+/// Writes an envelope's text, in place of what the bytes were, and gives a copy of its body. Its signature is
+/// made for it, and kept with its digest.
+pub(crate) fn write_owned_envelope(
+    envelope: &mut Envelope,
+    alloc: Global,
+    text: &mut Vec<u8>,
+) -> Result<Vec<u8>, LinkFault>
+    ensures same { envelope.new ≡ envelope.old }
+    ensures written { OnOk result (IsText envelope_text (envelope_value envelope.old) text.new.items) }
+    ensures body { IfOk result (λ v. v.items ≡ envelope.old.body) }
+    ensures size { IfOk result (λ v. length v.items ≤ MAX_BODY) }
+    ensures refused { IfErr result (λ f. f ≡ NoMemory) }
+{
+    let _made = envelope.signature.make(alloc);
+    text.clear();
+    if envelope.write(text).is_err() {
+        return Err(LinkFault::NoMemory);
+    }
+    match envelope.body.bytes().to_vec(alloc) {
+        Ok(copy) => Ok(copy),
+        Err(_) => Err(LinkFault::NoMemory),
+    }
+}
+
+/// Writes an acknowledgement's text, in place of what the bytes were.
+pub(crate) fn write_owned_ack(ack: &Ack, text: &mut Vec<u8>) -> Result<(), LinkFault>
+    ensures written { OnOk result (IsText ack_text (ack_value ack.now) text.new.items) }
+    ensures refused { IfErr result (λ f. f ≡ NoMemory) }
+{
+    text.clear();
     match ack.write(text) {
         Ok(()) => Ok(()),
         Err(_) => Err(LinkFault::NoMemory),
@@ -228,7 +308,27 @@ pub(crate) fn deliver_call(
     write_envelope(client.node(), number, text)?;
     let shown = signature_of(client.node(), number);
     let incoming = Incoming::envelope(alloc, client.node().roster(), text, shown);
-    receive(server, alloc, time, incoming)
+    let received = receive(server, alloc, time, incoming);
+    make_reply(server, &received);
+    received
+}
+
+/// Makes the signature of the reply to what was received, if one is owed.
+fn make_reply(server: &mut ServerNode, received: &Result<Receipt, LinkFault>)
+    ensures { server.new ≡ server.old }
+{
+    if let Ok(receipt) = received {
+        make_sent(server, receipt.reply);
+    }
+}
+
+/// Makes the signature at a number, if one is given.
+fn make_sent(server: &mut ServerNode, number: Option<Number>)
+    ensures { server.new ≡ server.old }
+{
+    if let Some(sent) = number {
+        server.make_signature(sent.get());
+    }
 }
 
 /// Hands the envelope of the server's SEND with a number to the client.

@@ -1,8 +1,7 @@
 //! Servers that haven't strayed, to be shared.
 
-ghost use Rattle.std.specs.Prelude.{◌≡◌, ◌≤◌, ◌↔◌, false, IfErr, IfOk, IfSome, IsOk, length};
+ghost use Rattle.std.specs.Prelude.{◌≡◌, ◌↔◌, false, IfErr, IfOk, IsOk};
 ghost use Rattle.std.specs.Option.{option_map};
-ghost use Rattle.secure_log.specs.declared.log_entries.entry.TheConstants.{MAX_BODY};
 ghost use Rattle.envelopes.specs.declared.envelope.Envelope.{Envelope};
 ghost use Rattle.envelopes.specs.declared.acknowledgement.Ack.{Ack};
 ghost use Rattle.node_logs.specs.AckTaking.{TakesAck};
@@ -12,11 +11,11 @@ ghost use Rattle.nodes.specs.Delivery.{MayTakeAck, TakesAwaited};
 ghost use Rattle.nodes.specs.Exchanges.Exchanges.{IsServed};
 ghost use Rattle.nodes.specs.Exchanges.Laws.{IsAccepted};
 ghost use Rattle.nodes.specs.Shareds.{HasNotStrayed};
-ghost use Rattle.nodes.specs.Sides.{IsAnswered, IsEnvelopeText, IsTextOfAck, StopsAnswering};
+ghost use Rattle.nodes.specs.Sides.{HasAnswered, IsEnvelopeText, IsTextOfAck, StopsAnswering};
 
 use crate::deliver::take_ack;
 use crate::server::ServerNode;
-use crate::sides::answer;
+use crate::sides::{Shown, answer};
 use authenticator::Number;
 use commitment::{Incoming, Received, Refusal};
 use envelopes::{Ack, Envelope};
@@ -78,34 +77,37 @@ impl HonestServer {
         self.server
     }
 
-    /// Receives an envelope's text at a time, and what it shows of it is written, in place of what the bytes
-    /// were: its acknowledgement's text, and that of its reply's envelope, if one is owed. Gives the reply's
-    /// body, which is the one owed. The server stays one that hasn't strayed. `KeysUsedUp` comes only where
-    /// fewer than two keys are left, `NoMemory` only where a growth was refused, `Failed` only where the
-    /// message isn't new to the server, or refused by it, or its log lacks numbers for what would be logged.
+    /// Receives an envelope's text at a time. Gives what it shows of it: its acknowledgement, and its reply's
+    /// envelope, if one is owed, whose body is the one owed. The server stays one that hasn't strayed.
+    /// `KeysUsedUp` comes only where fewer than two keys are left, `NoMemory` only where a growth was refused,
+    /// `Failed` only where the message isn't new to the server, or refused by it, or its log lacks numbers for
+    /// what would be logged.
     pub(crate) fn answer(
         &mut self,
         alloc: Global,
         time: Time,
         call: Incoming<'_, Envelope>,
-        ack: &mut Vec<u8>,
-        reply: &mut Vec<u8>,
-    ) -> Result<Option<Vec<u8>>, LinkFault>
+    ) -> Result<Shown, LinkFault>
         ensures straight { HasNotStrayed self.old }
         ensures stays { HasNotStrayed self.new }
         ensures answered { (e : Envelope) → IsEnvelopeText e call.entry
-            → IfOk result (λ r. IsAnswered self.old time e
-            (option_map (λ v. v.items) r) ack.new.items reply.new.items self.new) }
+            → IfOk result (λ r. HasAnswered self.old time e r.ack r.reply self.new) }
         ensures served { (e : Envelope) → IsEnvelopeText e call.entry → IfOk result (λ r.
-            IsServed self.old time e.body (option_map (λ v. v.items) r) self.new) }
+            IsServed self.old time e.body (option_map (λ f. f.body) r.reply) self.new) }
         ensures stops { (e : Envelope) → IsEnvelopeText e call.entry → IfErr result (λ f.
             StopsAnswering self.old time e call.entry f self.new) }
-        ensures size { IfOk result (λ r. IfSome r (λ v. length v.items ≤ MAX_BODY)) }
     {
         self.server.node().is_honest();
-        let result = answer(&mut self.server, alloc, time, call, ack, reply);
+        let result = answer(&mut self.server, alloc, time, call);
         self.server.node().is_honest();
         result
+    }
+
+    /// Keeps the digest of the signature of an envelope that this server sent, as `Node::keep_digest`.
+    pub fn keep_digest(&mut self, envelope: &Envelope)
+        ensures { self.new ≡ self.old }
+    {
+        self.server.keep_digest(envelope);
     }
 
     /// Takes an acknowledgement's text, which it is to await: of another, `Failed`, and also where its log has

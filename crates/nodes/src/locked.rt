@@ -1,17 +1,21 @@
 //! An exchange between a client and a server under a lock, which is held for what the server does alone.
 
-ghost use Rattle.std.specs.Prelude.{◌≡◌, ◌≤◌, IfErr, IfOk, IfSome, OnOk, length};
+ghost use Rattle.std.specs.Prelude.{◌≡◌, ◌≤◌, Err, IfErr, IfOk, IfSome, Ok, OnOk, length};
 ghost use Rattle.std.specs.Option.{option_map};
 ghost use Rattle.secure_log.specs.declared.log_entries.entry.TheConstants.{MAX_BODY};
 ghost use Rattle.envelopes.specs.declared.envelope.Envelope.{Envelope};
-ghost use Rattle.nodes.specs.Shareds.{IsCalled, StopsCalling};
-ghost use Rattle.nodes.specs.Sides.{IsAskedOf, IsEnvelopeText, IsReturnedAs, StopsReturning};
+ghost use Rattle.envelopes.specs.declared.acknowledgement.Ack.{Ack};
+ghost use Rattle.nodes.specs.Delivery.{MayTakeAck};
+ghost use Rattle.nodes.specs.Shareds.{HasNotStrayed, IsCalled, StopsCalling};
+ghost use Rattle.nodes.specs.Sides.{IsAskedOf, IsEnvelopeText, IsReplyText, IsReturnedAs, IsTextOfAck};
+ghost use Rattle.nodes.specs.Sides.{StopsReturning};
 
 use crate::client::ClientNode;
 use crate::deliver::{last_number, signature_of, take_ack};
 use crate::honest::HonestServer;
-use crate::sides::{receive_reply, send_text};
+use crate::sides::{Shown, receive_reply, send_text, write_shown};
 use commitment::Incoming;
+use envelopes::{Ack, Envelope};
 use gateway::links::LinkFault;
 use nfs_items::Time;
 use std::alloc::Global;
@@ -26,6 +30,8 @@ pub(crate) struct Texts {
     pub(crate) ack: Vec<u8>,
     /// The reply's envelope.
     pub(crate) reply: Vec<u8>,
+    /// That envelope, with its signature made.
+    pub(crate) sent: Option<Envelope>,
 }
 
 /// A client's call to the server of a number, which lies under a lock.
@@ -56,8 +62,8 @@ pub(crate) fn call<R: Wait>(
 }
 
 /// The client sends, the server answers under the lock, and the client takes its acknowledgement. The call is read
-/// and its signature checked before the lock is taken, by the client's roster. Gives the
-/// body of the reply, if one is owed, whose envelope's text stands in `texts`.
+/// and its signature checked before the lock is taken, by the client's roster, and what the server signed is made
+/// after it. Gives the body of the reply, if one is owed, whose envelope's text stands in `texts`.
 fn ask<R: Wait>(
     rt: &R,
     server: &Mutex<HonestServer>,
@@ -77,13 +83,33 @@ fn ask<R: Wait>(
     send_text(client, to, alloc, bytes, &mut texts.call)?;
     let shown = signature_of(client.node(), last_number(client.node()));
     let incoming = Incoming::envelope(alloc, client.node().roster(), &texts.call, shown);
-    let answered = server
-        .lock(rt)
-        .answer(alloc, time, incoming, &mut texts.ack, &mut texts.reply);
-    let reply = match answered {
+    let answered = server.lock(rt).answer(alloc, time, incoming);
+    match answered {
+        Ok(shown) => hear(client, shown, texts, alloc),
+        Err(fault) => Err(fault),
+    }
+}
+
+/// What a server shows is written, and the client takes its acknowledgement. Gives the body of the reply, if there
+/// is one.
+fn hear(
+    client: &mut ClientNode,
+    shown: Shown,
+    texts: &mut Texts,
+    alloc: Global,
+) -> Result<Option<Vec<u8>>, LinkFault>
+    ensures written { IfOk result (λ r.
+        IsReplyText shown.reply (option_map (λ v. v.items) r) texts.new.reply.items) }
+    ensures taken { OnOk result (MayTakeAck client.old shown.ack (Ok tt) client.new) }
+    ensures stops { IfErr result (λ f. MayTakeAck client.old shown.ack (Err f) client.new) }
+    ensures size { IfOk result (λ r. IfSome r (λ v. length v.items ≤ MAX_BODY)) }
+{
+    let mut shown = shown;
+    let reply = match write_shown(&mut shown, alloc, &mut texts.ack, &mut texts.reply) {
         Ok(reply) => reply,
         Err(fault) => return Err(fault),
     };
+    texts.sent = shown.reply;
     match take_ack(client, alloc, Incoming::new(&texts.ack)) {
         Ok(()) => Ok(reply),
         Err(fault) => Err(fault),
@@ -107,8 +133,26 @@ fn bring_back<R: Wait>(
     match receive_reply(client, alloc, &texts.reply, &mut texts.call) {
         Ok(()) => {
             let incoming = Incoming::ack(alloc, client.node().roster(), &texts.call);
-            server.lock(rt).take_awaited(alloc, incoming)
+            take_back(&mut server.lock(rt), alloc, incoming, &texts.sent)
         }
         Err(fault) => Err(fault),
     }
+}
+
+/// The server takes an acknowledgement, as `HonestServer::take_awaited`, of the envelope that it sent, whose digest
+/// isn't made again.
+fn take_back(
+    server: &mut HonestServer,
+    alloc: Global,
+    text: Incoming<'_, Ack>,
+    sent: &Option<Envelope>,
+) -> Result<(), LinkFault>
+    ensures straight { HasNotStrayed server.old }
+    ensures stays { HasNotStrayed server.new }
+    ensures told { (a : Ack) → IsTextOfAck a text.entry → MayTakeAck server.old a result server.new }
+{
+    if let Some(envelope) = sent {
+        server.keep_digest(envelope);
+    }
+    server.take_awaited(alloc, text)
 }

@@ -60,6 +60,7 @@ impl<'a, R: Wait> Shared<'a, R> {
                 call: Vec::new(alloc),
                 ack: Vec::new(alloc),
                 reply: Vec::new(alloc),
+                sent: None,
             },
             failed: false,
         }

@@ -1,8 +1,9 @@
 -- A call through a pipe to a server in the same process.
 -- Serves: answer, call_through_pipe.
-use Rattle.std.proofs.Common.{◌≡◌, ℕ, false, List, Result, Ok, Err, Option, Some, None, refl, sym, ap, subst}
+use Rattle.std.proofs.Common.{◌≡◌, ℕ, false, List, Result, Ok, Err, Option, Some, None, sym, ap, subst}
 use Rattle.std.proofs.Common.{◌∙◌}
 use Rattle.std.specs.Prelude.{IfOk}
+use Rattle.std.specs.Option.{option_map}
 use Rattle.envelopes.specs.Envelope.{envelope_text, envelope_value}
 use Rattle.envelopes.specs.declared.envelope.Envelope.{Envelope}
 use Rattle.commitment.specs.Senders.Sender.{IsSender}
@@ -14,7 +15,7 @@ use Rattle.node_logs.specs.Nodes.{NodeParts, sender_of}
 use Rattle.node_logs.specs.Receiving.{Receives, ReceivesEnvelope}
 use Rattle.node_logs.specs.declared.outcome.Receipt.{Receipt}
 use Rattle.nodes.specs.Exchanges.Exchanges.{IsServed}
-use Rattle.nodes.specs.Sides.{IsEnvelopeText, IsReplyAt, IsReplyText}
+use Rattle.nodes.specs.Sides.{IsEnvelopeText, IsReplyAt}
 use Rattle.nodes.proofs.OfExchanges.Texts.{one_envelope, reads_back}
 use Rattle.nodes.proofs.OfSides.{IsServedAs, served_as}
 use Rattle.remote.specs.Remotes.{RemoteParts}
@@ -47,13 +48,12 @@ gives : (s s' : NodeParts) (time : Timeval) (e : Envelope) (r : Receipt) (carrie
 gives s s' time e r carried bytes h text = by h.envelope carried text h.served
   where
     by : (o : Option Envelope) (c : Carried) → IsTextIn o c bytes
-        → (s.lies ≡ false → (reply : Option (List ℕ)) (b : List ℕ) → IsReplyText o reply b
-        → IsServed s time e.body reply s')
+        → (s.lies ≡ false → IsServed s time e.body (option_map (λ (f : Envelope). f.body) o) s')
         → Gives s time e c bytes s'
-    by None Acknowledged t served = λ plain. served plain None bytes tt
+    by None Acknowledged t served = λ plain. served plain
     by None Answered t served = absurd t
     by (Some f) Acknowledged t served = absurd t
-    by (Some f) Answered t served = (f, (t, λ plain. served plain (Some f.body) bytes (t, refl)))
+    by (Some f) Answered t served = (f, (t, λ plain. served plain))
 
 -- What it gives for a call.
 pub gives_for : (s s' : NodeParts) (time : Timeval) (call bytes : List ℕ) (e : Envelope) (r : Receipt)

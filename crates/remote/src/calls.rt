@@ -51,7 +51,7 @@ pub(crate) fn begin(
     }
 }
 
-/// Logs the SEND of a call, with room made for the text of its envelope. Gives its number.
+/// Logs the SEND of a call, with room made for the text of its envelope, and makes its signature. Gives its number.
 fn send(
     client: &mut ClientNode,
     server: u32,
@@ -70,7 +70,10 @@ fn send(
     reserve(text)?;
     let body = body_of(bytes, alloc)?;
     match client.call(server, body) {
-        Ok(number) => Ok(number),
+        Ok(number) => {
+            client.make_signature(number.get());
+            Ok(number)
+        }
         Err(refusal) => Err(fault_of(refusal)),
     }
 }

@@ -1,6 +1,6 @@
 -- What a server was asked with shows that its log was put back.
 -- Serves: lost, signed_before, Held::answer.
-use Rattle.std.proofs.Common.{◌≡◌, ℕ, List, Option, Result, Ok, Some, None, refl, sym, subst, ◌∙◌}
+use Rattle.std.proofs.Common.{◌≡◌, ℕ, List, Option, Result, Ok, Some, None, refl, subst}
 use Rattle.std.specs.Prelude.{IfNone, IsSome}
 use Rattle.authenticator.specs.Signed.{authenticator_value}
 use Rattle.authenticator.specs.declared.authenticator.Authenticator.{Authenticator}

@@ -1,7 +1,7 @@
 //! A server under a lock, which answers the requests of a connection.
 
-ghost use Rattle.std.specs.Prelude.{◌≡◌, ◌⊎◌, false, IfSome, IsSome, None, true, ℕ};
-ghost use Rattle.hosting.specs.Hosting.{IsAnsweredUnderLock};
+ghost use Rattle.std.specs.Prelude.{◌≡◌, ◌⊎◌, false, IfSome, IsSome, List, None, true, ℕ};
+ghost use Rattle.hosting.specs.Hosting.{IsAnsweredUnderLock, IsFinished, OnceFinished};
 ghost use Rattle.request_streams.specs.Serving.{IsAnswerIf};
 ghost use Rattle.server_process.specs.Checking.{LogsCheck, counted, is_due};
 ghost use Rattle.server_process.specs.PutBack.{IsPutBack, WasSignedBefore};
@@ -11,8 +11,9 @@ use crate::put_back::{SignedBefore, signed_before};
 use crate::server::AddressKind;
 use crate::status::{Tally, audited_to};
 use authenticator::Roster;
+use envelopes::Envelope;
 use frames::Bound;
-use hosting::{Host, Ready, answer_request};
+use hosting::{Host, Progress, Ready, Unwritten, answer_request};
 use nfs_items::Time;
 use nodes::{Clock, HonestServer};
 use peer_connections::{
@@ -123,9 +124,10 @@ impl Held {
         }
     }
 
-    /// Answers a record. One that shows that the log was put back is answered, too; once it was shown that, nothing is
-    /// done, and no answer is given: a key that signed before the log was put back isn't to sign again. Where memory is
-    /// refused for looking at what a record shows, nothing is done, and there is no answer.
+    /// Answers a record; the answer to a message that was received is left to be written. One that shows that the log was
+    /// put back is answered, too; once it was shown that, nothing is done, and no answer is given: a key that signed before
+    /// the log was put back isn't to sign again. Where memory is refused for looking at what a record shows, nothing is
+    /// done, and there is no answer.
     fn answer<'r>(
         &mut self,
         alloc: Global,
@@ -134,21 +136,31 @@ impl Held {
         ready: Ready<'r>,
         bytes: &'r [u8],
         out: &mut Vec<u8>,
-    ) -> Outcome
-        ensures answered { IsAnswerIf (IsAnsweredUnderLock host.now) bytes.now out.new.items result }
-        ensures ended { IsSome self.old.put_back → (self.new ≡ self.old) × (result ≡ Outcome.NoCall) }
+    ) -> Progress
+        ensures answered { OnceFinished (λ outcome text. IsAnswerIf (IsAnsweredUnderLock host.now) bytes.now text outcome)
+            result out.new.items }
+        ensures ended { IsSome self.old.put_back → (self.new ≡ self.old) × (result ≡ Progress.Done Outcome.NoCall) }
         ensures shown { (number : ℕ) → WasSignedBefore self.old.server bytes.now number →
-            IsSome self.new.put_back ⊎ ((self.new ≡ self.old) × (result ≡ Outcome.NoMemory)) }
+            IsSome self.new.put_back ⊎ ((self.new ≡ self.old) × (result ≡ Progress.Done Outcome.NoMemory)) }
     {
         if self.put_back.is_some() {
-            return Outcome::NoCall;
+            return Progress::Done(Outcome::NoCall);
         }
         let Ok(put_back) = signed_before(&self.server, alloc, bytes) else {
-            return Outcome::NoMemory;
+            return Progress::Done(Outcome::NoMemory);
         };
-        let outcome = answer_request(&mut self.server, alloc, time, host, ready, bytes, out);
+        let progress = answer_request(&mut self.server, alloc, time, host, ready, bytes, out);
         self.put_back = put_back;
-        outcome
+        progress
+    }
+
+    /// Keeps the digest of the signature of an envelope that the server sent, unless its log was put back.
+    fn keep_digest(&mut self, envelope: &Envelope)
+        ensures { self.new ≡ self.old }
+    {
+        if self.put_back.is_none() {
+            self.server.keep_digest(envelope);
+        }
     }
 }
 
@@ -165,7 +177,8 @@ pub(crate) struct Seat<'a, T> {
 }
 
 /// A server under a lock, which others use too. The lock is held while one request is answered, and while a CHECK is
-/// logged after it; the request's signature is checked before that.
+/// logged after it. The request's signature is checked before that, and the answer to a message is signed and written
+/// after it; then the lock is held shortly again, to keep the digest of the reply's signature.
 #[derive(Drop)]
 pub(crate) struct LockedServer<'a, R, C, T, W, E> {
     rt: &'a R,
@@ -213,6 +226,29 @@ impl<'a, R: Wait, C: Clock, T: std::time::Clock, W, E> LockedServer<'a, R, C, T,
             output,
         }
     }
+
+    /// The answer as it stands: what was left to be written is written now.
+    fn finish(&self, alloc: Global, progress: Progress, out: &mut Vec<u8>) -> Outcome
+        ensures { (bytes : List ℕ) → OnceFinished (λ outcome text. IsAnswerIf (IsAnsweredUnderLock self.now) bytes text
+            outcome) progress out.old.items → IsAnswerIf (IsAnsweredUnderLock self.now) bytes out.new.items result }
+    {
+        match progress {
+            Progress::Done(outcome) => outcome,
+            Progress::Unwritten(unwritten) => self.write(alloc, unwritten, out),
+        }
+    }
+
+    /// Writes an answer, and lets the server keep the digest of its reply's signature.
+    fn write(&self, alloc: Global, unwritten: Unwritten, out: &mut Vec<u8>) -> Outcome
+        ensures { IsFinished unwritten result out.new.items }
+    {
+        let mut unwritten = unwritten;
+        let outcome = unwritten.finish(alloc, out);
+        if let Some(reply) = &unwritten.reply {
+            self.held.lock(self.rt).keep_digest(reply);
+        }
+        outcome
+    }
 }
 
 /// A node takes no long record.
@@ -240,7 +276,7 @@ impl<'a, R: Wait, C: Clock, T: std::time::Clock, W: Write, E: Write> Answerer
         let time = self.clock.now();
         let mut held = self.held.lock(self.rt);
         let before = held.entries().len();
-        let outcome = held.answer(alloc, time, &self.host, ready, bytes, out);
+        let progress = held.answer(alloc, time, &self.host, ready, bytes, out);
         let standing = shown(held.entries(), before, bytes, self.seat.kind);
         let received = is_received(held.entries(), before);
         let unchecked = held.check(alloc, received);
@@ -251,6 +287,7 @@ impl<'a, R: Wait, C: Clock, T: std::time::Clock, W: Write, E: Write> Answerer
         if let Some(standing) = standing {
             self.seat.show(self.rt, standing);
         }
+        let outcome = self.finish(alloc, progress, out);
         if let Some(last) = audited_to(alloc, bytes, out) {
             self.tally.lock(self.rt).audited(last);
         }

@@ -14,7 +14,7 @@ returns-in_err-write_success-clause-refused c =
 pub returns-clause-done : goal.returns-clause-done
 returns-clause-done c =
     let front : c.write_success.new.out.items ≡ success_text c.args.xid =
-    c.in_ok-write_success.ensures ∙ ap (λ (xs : List ℕ). xs ++ success_text c.args.xid) c.requires in
+    c.in_ok-write_success.ensures ∙ ap (λ (xs : List ℕ). xs ++ success_text c.args.xid) c.requires.empty in
     subst (λ (xs : List ℕ). OnOk c.add_results.result ((results : List ℕ)
     × Does c.args.host.now c.args.server.now c.args.time (node_ask c.args.request.now) results c.add_results.new.server
     × (c.add_results.new.out.items ≡ xs ++ results)))

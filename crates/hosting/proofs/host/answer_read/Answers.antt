@@ -1,7 +1,4 @@
-use Rattle.hosting.specs.Hosting.{done}
 use Rattle.hosting.proofs.host.answer_read.Goals as goal
 
-pub returns-in-Ok : goal.returns-in-Ok
-returns-in-Ok c =
-    let d = c.in-Ok.ensures.done in
-    done d.0 d.1 d.2
+pub returns-in-Deliver : goal.returns-in-Deliver
+returns-in-Deliver c = rw (c.in-Deliver.is) (c.deliver.ensures c.args.host.now)

@@ -1,4 +1,5 @@
-use Rattle.std.proofs.Common.{◌≡◌, ℕ, ◌+◌, ◌*◌, not, ap, ◌∙◌, arith}
+use Rattle.std.proofs.Common.{◌≡◌, ℕ, ◌+◌, ◌*◌, List, take, not, ap, sym, ◌∙◌, arith, refl}
+use Rattle.std.proofs.lemmas.List.{take_all}
 use Rattle.lamport.specs.Lamport.{digest_bit}
 use Rattle.lamport.specs.declared.key.TheConstants.{PLACES}
 use Rattle.lamport.proofs.LeafTexts.{shown_front, other_front, shown_front_none, other_front_none}
@@ -7,42 +8,46 @@ use Rattle.lamport.proofs.key.OneTimeKey.texts.Goals as goal
 
 pub loop-turn-init : goal.loop-turn-init
 loop-turn-init c = record {
-  shown = rw shown_front_none c.args.buffers.shown_room.0;
-  shown_len = c.args.buffers.shown_room.1;
-  shown_room = c.args.buffers.shown_room.2;
-  other = rw other_front_none c.args.buffers.other_room.0;
-  other_len = c.args.buffers.other_room.1;
-  other_room = c.args.buffers.other_room.2;
+  shown_size = refl;
+  shown = rw shown_front_none refl;
+  other_size = refl;
+  other = rw other_front_none refl;
 }
 
--- a turn adds the bytes of four places to each text
+-- a turn sets the bytes of four places of each text
 pub loop-turn-preserved : goal.loop-turn-preserved
 unfolding shown_front other_front
 loop-turn-preserved c =
     let so_far = c.loop-turn.invariant in
-    let n : ℕ = 4 * c.loop-turn.turn in
+    let turn = c.loop-turn.turn in
+    let n : ℕ = 4 * turn in
     let key = c.args.self.now in
     let bit = digest_bit c.args.digest.now in
-    let next : n + 4 ≡ 4 * (c.loop-turn.turn + 1) = omega arith in
+    let next : n + 4 ≡ 4 * (turn + 1) = omega arith in
+    let end : 128 * (turn + 1) ≡ 128 * turn + 128 = omega arith in
     let secrets = c.four_secrets.ensures bit c.four_digest_bits-bits.ensures in
     let others = c.opposite.ensures bit n c.four_digest_bits-bits.ensures in
     let hashes = c.four_hashes.ensures (λ (place : ℕ). not (bit place)) others in
     record {
-      shown = c.add_four.ensures.items _ n secrets so_far.shown ∙ ap (shown_front key c.args.digest.now) next;
-      shown_len = omega (arith, c.add_four.ensures.len, so_far.shown_len);
-      shown_room = omega (arith, c.add_four.ensures.capacity, so_far.shown_room);
-      other = c.add_four-in-loop-turn.ensures.items _ n hashes so_far.other
+      shown_size = omega (arith, so_far.shown_size);
+      other_size = omega (arith, so_far.other_size);
+      shown = ap (λ (k : ℕ). take k c.put_four.new.text) end ∙ c.put_four.ensures _ n secrets so_far.shown
+          ∙ ap (shown_front key c.args.digest.now) next;
+      other = ap (λ (k : ℕ). take k c.put_four-in-loop-turn.new.text) end ∙ c.put_four-in-loop-turn.ensures _ n hashes so_far.other
           ∙ ap (other_front key c.args.digest.now) next;
-      other_len = omega (arith, c.add_four-in-loop-turn.ensures.len, so_far.other_len);
-      other_room = omega (arith, c.add_four-in-loop-turn.ensures.capacity, so_far.other_room);
     }
 
+-- after all places each text is whole
 pub returns-clause-shown : goal.returns-clause-shown
 returns-clause-shown c =
     let all : 4 * c.loop-turn.turn ≡ PLACES = omega arith in
-    rw (shown_front_all, ← all) c.loop-turn.invariant.shown
+    let text : List ℕ = c.loop-turn.shown in
+    let whole : text ≡ take (128 * c.loop-turn.turn) text = sym (take_all _ text (omega (arith, c.loop-turn.invariant.shown_size))) in
+    rw (shown_front_all, ← all) (whole ∙ c.loop-turn.invariant.shown)
 
 pub returns-clause-other : goal.returns-clause-other
 returns-clause-other c =
     let all : 4 * c.loop-turn.turn ≡ PLACES = omega arith in
-    rw (other_front_all, ← all) c.loop-turn.invariant.other
+    let text : List ℕ = c.loop-turn.other in
+    let whole : text ≡ take (128 * c.loop-turn.turn) text = sym (take_all _ text (omega (arith, c.loop-turn.invariant.other_size))) in
+    rw (other_front_all, ← all) (whole ∙ c.loop-turn.invariant.other)

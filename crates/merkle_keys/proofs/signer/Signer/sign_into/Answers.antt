@@ -1,5 +1,6 @@
 use Rattle.std.proofs.Common.{◌≤◌, length, ap, ◌∙◌}
-use Rattle.lamport.proofs.ShownKeys.{length-shown_secrets, length-other_hashes}
+use Rattle.lamport.specs.Bound.{BoundLeaf}
+use Rattle.lamport.specs.Lamport.{shown_secrets, other_hashes}
 use Rattle.merkle_keys.specs.declared.signature.TheConstants.{MAX_HEIGHT}
 use Rattle.merkle_keys.proofs.Paths.{length-authentication_path}
 use Rattle.merkle_keys.proofs.LeafSignatures.{leaf_signature_signs, signature_of_parts}
@@ -8,16 +9,13 @@ use Rattle.merkle_keys.proofs.signer.Signer.sign_into.Goals as goal
 pub invariant_of-result : goal.invariant_of-result
 invariant_of-result c =
     let low : c.args.self.now.height ≤ MAX_HEIGHT = rw (← c.self.view_is) c.self.invariant.low in
-    let levels = ap length c.path-path.ensures ∙ length-authentication_path _ _ _ _ in (
-      ap length c.sign_into-shown.ensures.shown ∙ length-shown_secrets _ _,
-      ap length c.sign_into-shown.ensures.other ∙ length-other_hashes _ _,
-      rw levels low,
-    )
+    let levels = ap length c.path-path.ensures ∙ length-authentication_path _ _ _ _ in rw levels low
 
 pub returns-clause-signature : goal.returns-clause-signature
 returns-clause-signature c =
-    let shown = rw c.take.ensures.key at c.sign_into-shown.ensures.shown in
-    let other = rw c.take.ensures.key at c.sign_into-shown.ensures.other in
+    let key = rw c.take.ensures.key at c.bind-key.ensures in
+    let shown = ap (λ (k : BoundLeaf). shown_secrets k.key k.digest) key in
+    let other = ap (λ (k : BoundLeaf). other_hashes k.key k.digest) key in
     let path = rw (← c.self.view_is, c.next-leaf.ensures) at c.path-path.ensures in
     rw (c.next-leaf.ensures, ← c.self.view_is) (signature_of_parts _ _ _ _ _ _ _ shown other path)
 
