@@ -3,7 +3,7 @@
 
 The ways of a crate are one, and all the ways of each library of the repository that its line names. `rt` of kit
 13f sums up each library once a call, so there ways cost next to nothing. That of kit 13b sums it up once for each way,
-twice in a run of the gate: a millisecond each time. A bound keeps crates.txt readable. Ends with 1 where there are more
+twice in a run of the gate: two milliseconds each time. A bound keeps crates.txt readable. Ends with 1 where there are more
 than WAYS in all.
 
 An import names a crate that may only pass on what it names, from a crate that may only pass it on again. Who reads it
