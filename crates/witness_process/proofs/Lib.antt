@@ -1,4 +1,5 @@
 pub mod UnderLock
+pub mod OfAnswers
 pub mod OfLines
 pub mod OfRosters
 mod OfListed

@@ -1,6 +1,6 @@
 -- What a server greets with, and for what a witness ends.
 -- Serves: told_in, digest_in, ask, Elsewhere::ending.
-use Rattle.std.proofs.Common.{◌≡◌, ℕ, List, Option, Some, None, refl, sym, subst}
+use Rattle.std.proofs.Common.{◌≡◌, ℕ, List, Option, Some, None, refl}
 use Rattle.std.specs.Prelude.{IfSome}
 use Rattle.std.specs.Option.{option_map_or}
 use Rattle.peer_calls.specs.Answers.{greeted_at}
@@ -9,7 +9,6 @@ use Rattle.peer_calls.specs.declared.answers.Greeted.TheVariants.{Other}
 use Rattle.witness_process.specs.Rosters.{HasGreeted, HasTold, IsChosen, IsEnding, digest_of, ending_after}
 use Rattle.witness_process.specs.Rosters.{later_with, roster_with}
 use Rattle.witness_process.specs.declared.elsewhere.OtherRoster.{OtherRoster}
-use Rattle.witness_process.specs.declared.orders.Ending.{Ending}
 use Rattle.witness_process.specs.declared.orders.Ending.TheVariants.{EpochBegun, Stopped}
 use Rattle.witness_process.specs.declared.orders.KnownRoster.{KnownRoster}
 

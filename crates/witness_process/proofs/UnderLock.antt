@@ -1,4 +1,4 @@
--- An answer is one by books that lay under a lock.
+-- An answer is one by the books that were asked.
 -- Serves: answered.
 use Rattle.std.proofs.Common.{◌≡◌, List, ℕ, refl}
 use Rattle.rpc.specs.Call.{message_at}
@@ -11,14 +11,13 @@ use Rattle.watching.specs.Answers.{AnswersRecord}
 use Rattle.watching.specs.Shown.{StandingParts}
 use Rattle.watching.specs.declared.answer.Outcome.TheVariants as outcomes
 use Rattle.watching.specs.declared.results.Host.{Host}
-use Rattle.witness_process.specs.Answered.{IsAnsweredUnderLock}
+use Rattle.witness_process.specs.Answered.{IsAnsweredBy}
 
-pub under_lock : (h : Host) (standing : StandingParts) (bytes text : List ℕ) (left : StandingParts)
+pub by_books : (h : Host) (standing : StandingParts) (bytes text : List ℕ) (left : StandingParts)
     → beginning_of left.books ≡ beginning_of standing.books
     → AnswersRecord h standing (judged WITNESS_PROGRAM (message_at bytes)) outcomes.Replied text left
-    → IsAnswerIf (IsAnsweredUnderLock h.digest) bytes text streams.Replied
-under_lock h standing bytes text left same answers = record {
-  standing = standing;
+    → IsAnswerIf (IsAnsweredBy standing h.digest) bytes text streams.Replied
+by_books h standing bytes text left same answers = record {
   host = h;
   own = refl;
   left = left;

@@ -1,5 +1,5 @@
 -- Which of the rosters that a witness knows a server goes by, and when that is of a later epoch than its own.
-use Rattle.std.specs.Prelude.{◌≡◌, ◌&&◌, ℕ, Bool, List, Option, Some, None, find, nat_lt}
+use Rattle.std.specs.Prelude.{◌≡◌, ◌&&◌, ℕ, List, Option, Some, None, find, nat_lt}
 use Rattle.std.specs.Option.{option_map_or}
 use Rattle.std.specs.Str.{bytes_eq}
 use Rattle.peer_calls.specs.Answers.{greeted_at}

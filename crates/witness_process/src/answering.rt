@@ -75,6 +75,7 @@ impl<'a, R, T> Bound for LockedWatch<'a, R, T> {
 impl<'a, R: Wait, T: Clock> Answerer for LockedWatch<'a, R, T> {
     ghost answers = { λ l bytes text. IsAnsweredUnderLock l.digest bytes text };
 
+    #[tactic(auto, using(crate::proofs::OfAnswers::under_lock))]
     fn answer(&mut self, alloc: Global, bytes: &[u8], out: &mut Vec<u8>) -> Outcome {
         let mut watch = self.watch.lock(self.rt);
         watch.look(self.clock);

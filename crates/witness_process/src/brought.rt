@@ -1,20 +1,16 @@
 //! Whose node's book a packet is for.
 
-use peer_calls::{WITNESS_PROGRAM, judge_call};
+ghost use Rattle.std.specs.Prelude.{◌≡◌, IfOk, option_map};
+ghost use Rattle.peer_calls.specs.WitnessRequests.{witness_ask};
+ghost use Rattle.witness_process.specs.Answered.{IsAbout, ask_in, asks_for_faults};
+
+use peer_calls::{WITNESS_PROGRAM, WitnessRequest, judge_call, read_witness_request};
+use rpc::ReplyBody;
 use std::alloc::{AllocError, Global};
 use xdr::{Reader, Writer};
 
 /// DELIVER.
-pub(crate) const DELIVER: u32 = 2;
-
-/// TOLD and CASE, and the first and the last procedure whose arguments begin with a node.
-const TOLD: u32 = 4;
-
-const CASE: u32 = 6;
-
-const WANTED: u32 = 3;
-
-const BASE: u32 = 7;
+const DELIVER: u32 = 2;
 
 /// The number of a packet with an authenticator.
 pub(crate) const AUTHENTICATOR: u32 = 1;
@@ -45,24 +41,59 @@ pub(crate) fn brought_in(bytes: &[u8]) -> Option<Brought> {
     brought_by(asked.arguments)
 }
 
-/// The node that a record is about: whose packet it delivers, or of whom it asks; None where it is about none.
-pub(crate) fn node_in(bytes: &[u8]) -> Option<u32> {
-    let asked = judge_call(WITNESS_PROGRAM, bytes).ok()?;
-    match asked.procedure {
-        DELIVER => Some(brought_by(asked.arguments)?.node),
-        WANTED..=BASE => Reader::new(asked.arguments).u32().ok(),
-        _ => None,
+/// What a record asks of a witness: None where it is no call of its program, or its arguments don't decode. `AllocError`
+/// comes only where a growth was refused.
+pub(crate) fn request_in(
+    alloc: Global,
+    bytes: &[u8],
+) -> Result<Option<WitnessRequest<'_>>, AllocError>
+    ensures { IfOk result (λ request. option_map witness_ask request ≡ ask_in bytes.now) }
+{
+    let Ok(asked) = judge_call(WITNESS_PROGRAM, bytes) else {
+        return Ok(None);
+    };
+    match read_witness_request(alloc, asked.procedure, asked.arguments) {
+        Ok(request) => Ok(Some(request)),
+        Err(ReplyBody::SystemError) => Err(AllocError),
+        Err(_) => Ok(None),
     }
 }
 
-/// The procedure that a record calls, if it is a call of a witness's program.
-pub(crate) fn procedure_of(bytes: &[u8]) -> Option<u32> {
-    Some(judge_call(WITNESS_PROGRAM, bytes).ok()?.procedure)
+/// The node that a request is about: whose packet it delivers, or of whom it asks; None where it is about none.
+pub(crate) fn node_in(request: &WitnessRequest<'_>) -> Option<u32>
+    ensures { IsAbout (witness_ask request.now) result }
+{
+    match request {
+        WitnessRequest::Null => None,
+        WitnessRequest::Greet(_) => None,
+        WitnessRequest::Deliver(packet) => node_brought(packet),
+        WitnessRequest::Wanted(of) => Some(of.node),
+        WitnessRequest::Told(of) => Some(of.node),
+        WitnessRequest::Shown(of) => Some(of.node),
+        WitnessRequest::Case(of) => Some(of.node),
+        WitnessRequest::Base(of) => Some(of.node),
+    }
 }
 
-/// Whether a record asks what is said of a node, or for the evidence against it.
-pub(crate) fn asks_for_faults(bytes: &[u8]) -> bool {
-    matches!(procedure_of(bytes), Some(TOLD | CASE))
+/// Whether a request is for what is said of a node, or for the evidence against it.
+pub(crate) fn asks_for_faults(request: &WitnessRequest<'_>) -> bool
+    ensures { result ≡ asks_for_faults (witness_ask request.now) }
+{
+    match request {
+        WitnessRequest::Told(_) => true,
+        WitnessRequest::Case(_) => true,
+        _ => false,
+    }
+}
+
+/// Whether a request delivers a packet.
+pub(crate) fn is_delivery(request: &WitnessRequest<'_>) -> bool {
+    matches!(request, WitnessRequest::Deliver(_))
+}
+
+/// Whose book a packet is for.
+fn node_brought(packet: &[u8]) -> Option<u32> {
+    Some(brought_by(packet)?.node)
 }
 
 /// Of whom a packet is; nothing is checked of the rest.

@@ -4,28 +4,30 @@ ghost use Rattle.std.specs.Prelude.{◌≡◌, ◌↔◌, ◌==◌, IfOk, IfSome
 ghost use Rattle.std.specs.Prelude.{option_map};
 ghost use Rattle.std.specs.Arc.{arc_value};
 ghost use Rattle.authenticator.specs.Roster.{kind_number};
+ghost use Rattle.peer_calls.specs.WitnessRequests.{witness_ask};
 ghost use Rattle.request_streams.specs.Serving.{IsAnswerIf};
 ghost use Rattle.watching.specs.Answers.{standing_number};
 ghost use Rattle.witness_books.specs.Books.{beginning_of};
 ghost use Rattle.witness_books.specs.node_book.Replies.{indication_in, reply_in};
 ghost use Rattle.witness_books.specs.node_book.witness_spec.Refusals.{NothingToAudit};
 ghost use Rattle.witness_books.specs.node_book.witness_spec.Replies.{Refused};
-ghost use Rattle.witness_process.specs.Answered.{IsAnsweredUnderLock};
+ghost use Rattle.witness_process.specs.Answered.{IsAnsweredByBooks, SaysWorse, asks_for_faults, is_worse};
 ghost use Rattle.witness_process.specs.Overlaps.{AreLetGo, BeginsAt, IsDeliveredTo, IsSettled, IsShown, IsTrusted};
 ghost use Rattle.witness_process.specs.Overlaps.{IsTrustedBy, MayGo, NotesShown, ShowsEither, TellsBoth, WentOn};
 ghost use Rattle.witness_process.specs.Overlaps.{clients_of, worse, worse_of};
 
 use crate::account::Account;
-use crate::brought::{DELIVER, asks_for_faults, procedure_of};
+use crate::brought::{asks_for_faults, is_delivery};
 use crate::watch::answered;
 use authenticator::{Authenticator, Checked, Kind, Member, Roster};
 use challenge::{Base, Evidence};
+use peer_calls::WitnessRequest;
 use request_streams::Outcome;
 use std::alloc::{AllocError, Global};
 use std::mem;
 use std::sync::Arc;
 use watching::packet_texts::learn_packet;
-use watching::{Delivered, Host, Said, Standing, StartFault};
+use watching::{Delivered, Host, NodeTold, Said, Standing, StartFault};
 use witness_books::{EventOf, Indication, Refusal, Reply, ReplyOf};
 use witness_service::SignatureCache;
 
@@ -117,26 +119,34 @@ impl NodeBooks {
         }
     }
 
-    /// Answers a record that is about the server: of a packet below the base, and of what is told of a server that they
-    /// alone expose, by the books from which these went on.
+    /// Answers a record with a request that is about the server: of a packet below the base, and of the faults of a server
+    /// of which they say worse, by the books from which these went on. `NoMemory` comes, too, where what both say can't be
+    /// told for want of memory.
+    #[tactic(auto, using(crate::proofs::OfAnswers::by_current, crate::proofs::OfAnswers::by_new, crate::proofs::OfAnswers::by_worse, crate::proofs::OfAnswers::by_first, crate::proofs::OfAnswers::by_second))]
     pub(crate) fn answer(
         &mut self,
         alloc: Global,
         cache: &mut SignatureCache,
         host: &Host,
+        request: &WitnessRequest<'_>,
         bytes: &[u8],
         out: &mut Vec<u8>,
     ) -> Outcome
-        ensures { IsAnswerIf (IsAnsweredUnderLock host.now.digest) bytes.now out.new.items result }
+        ensures { IsAnswerIf (IsAnsweredByBooks self.old (asks_for_faults (witness_ask request.now)) host.now.digest)
+            bytes.now out.new.items result }
     {
         let Some(before) = &mut self.before else {
             return answered(&mut self.current, alloc, cache, host, bytes, out);
         };
-        if asks_for_faults(bytes) && before.is_exposed(alloc, self.node) {
-            return answered(&mut before.standing, alloc, cache, host, bytes, out);
+        if asks_for_faults(request) {
+            return match says_worse(&mut self.current, &mut before.standing, alloc, self.node) {
+                Ok(true) => answered(&mut before.standing, alloc, cache, host, bytes, out),
+                Ok(false) => answered(&mut self.current, alloc, cache, host, bytes, out),
+                Err(AllocError) => Outcome::NoMemory,
+            };
         }
         let outcome = answered(&mut self.current, alloc, cache, host, bytes, out);
-        if procedure_of(bytes) == Some(DELIVER) && is_below_base(out) {
+        if is_delivery(request) && is_below_base(out) {
             return answered(&mut before.standing, alloc, cache, host, bytes, out);
         }
         outcome
@@ -281,15 +291,6 @@ impl Before {
         }
     }
 
-    /// Whether they expose the server. Where memory is refused they count as if they didn't.
-    fn is_exposed(&mut self, alloc: Global, node: u32) -> bool {
-        match self.standing.told(alloc, node) {
-            Ok(Some(told)) => told.indication == Indication::Exposed,
-            Ok(None) => false,
-            Err(AllocError) => false,
-        }
-    }
-
     /// Whether they trust the server. Where memory is refused they count as if they didn't.
     fn is_trusted(&mut self, alloc: Global, node: u32) -> bool
         ensures told { IsTrue result → IsTrustedBy node self.old.standing.books }
@@ -331,6 +332,31 @@ fn worse_account(current: Account, earlier: Account) -> Account
         earlier
     } else {
         current
+    }
+}
+
+/// Whether those from which books went on say worse of a node than these. `AllocError` comes only where a growth was
+/// refused.
+fn says_worse(
+    current: &mut Standing,
+    before: &mut Standing,
+    alloc: Global,
+    node: u32,
+) -> Result<bool, AllocError>
+    ensures { IfOk result (λ is_worse. SaysWorse node current.old before.old is_worse current.new before.new) }
+{
+    let told = current.told(alloc, node)?;
+    let earlier = before.told(alloc, node)?;
+    Ok(is_worse(&told, &earlier))
+}
+
+/// Whether what was told first is less bad than what was told second, where something was told.
+fn is_worse(told: &Option<NodeTold>, earlier: &Option<NodeTold>) -> bool
+    ensures { result ≡ is_worse told.now earlier.now }
+{
+    match (told, earlier) {
+        (Some(told), Some(earlier)) => rank(told.indication) < rank(earlier.indication),
+        _ => false,
     }
 }
 

@@ -1,11 +1,12 @@
 //! All books of a witness: of each server that it audits books of its own, which may go on by a base, and one set of books
 //! for all other members.
 
+ghost use Rattle.std.specs.Prelude.{◌≡◌, IfSome, None};
 ghost use Rattle.request_streams.specs.Serving.{IsAnswerIf};
-ghost use Rattle.witness_process.specs.Answered.{IsAnsweredUnderLock};
+ghost use Rattle.witness_process.specs.Answered.{IsAnsweredBySets, IsPlaceOf, books_about, books_of};
 
 use crate::account::Account;
-use crate::brought::node_in;
+use crate::brought::{node_in, request_in};
 use crate::overlap::{NodeBooks, forwarded};
 use crate::watch::answered;
 use authenticator::{Authenticator, Checked, Roster};
@@ -44,7 +45,7 @@ impl BookSets {
             add_own(alloc, &mut own, &roster, node, one, time)?;
         }
         for server in servers {
-            if !has_own(&own, *server) {
+            if place_of(&own, *server).is_none() {
                 add_own(alloc, &mut own, &roster, *server, Vec::new(alloc), time)?;
             }
         }
@@ -64,7 +65,9 @@ impl BookSets {
         Account::ask(&mut self.shared, alloc, node)
     }
 
-    /// Answers a record.
+    /// Answers a record: where it is about a server with books of its own, by these. `NoMemory` is the answer, too, where
+    /// it can't be read for want of memory.
+    #[tactic(auto, using(crate::proofs::OfAnswers::by_shared, crate::proofs::OfAnswers::by_all_others, crate::proofs::OfAnswers::by_own))]
     pub(crate) fn answer(
         &mut self,
         alloc: Global,
@@ -73,16 +76,17 @@ impl BookSets {
         bytes: &[u8],
         out: &mut Vec<u8>,
     ) -> Outcome
-        ensures { IsAnswerIf (IsAnsweredUnderLock host.now.digest) bytes.now out.new.items result }
+        ensures { IsAnswerIf (IsAnsweredBySets self.old host.now.digest) bytes.now out.new.items result }
     {
-        if let Some(node) = node_in(bytes) {
-            for own in self.own.iter_mut() {
-                if own.node == node {
-                    return own.answer(alloc, cache, host, bytes, out);
-                }
-            }
+        let request = match request_in(alloc, bytes) {
+            Ok(Some(request)) => request,
+            Ok(None) => return answered(&mut self.shared, alloc, cache, host, bytes, out),
+            Err(AllocError) => return Outcome::NoMemory,
+        };
+        match place_about(&self.own, node_in(&request)) {
+            Some(place) => self.own[place].answer(alloc, cache, host, &request, bytes, out),
+            None => answered(&mut self.shared, alloc, cache, host, bytes, out),
         }
-        answered(&mut self.shared, alloc, cache, host, bytes, out)
     }
 
     /// Hands a packet that is for the book of a node to the books. `AllocError` comes only where a growth was refused.
@@ -227,14 +231,26 @@ impl BookSets {
     }
 }
 
-/// Whether books of a node are among these.
-fn has_own(own: &[NodeBooks], node: u32) -> bool {
-    for one in own {
-        if one.node == node {
-            return true;
+/// The place of the books of a node, if there is one and it has some among these.
+fn place_about(own: &[NodeBooks], node: Option<u32>) -> Option<usize>
+    ensures found { IfSome result (IsPlaceOf own.now (books_about node own.now)) }
+    ensures none { result ≡ None → books_about node own.now ≡ None }
+{
+    place_of(own, node?)
+}
+
+/// The place of the books of a node, if it has some among these.
+#[tactic(auto, using(crate::proofs::OfAnswers::is_place))]
+fn place_of(own: &[NodeBooks], node: u32) -> Option<usize>
+    ensures found { IfSome result (IsPlaceOf own.now (books_of node own.now)) }
+    ensures none { result ≡ None → books_of node own.now ≡ None }
+{
+    for place in 0..own.len() {
+        if own[place].node == node {
+            return Some(place);
         }
     }
-    false
+    None
 }
 
 /// Adds new books of a node, from its base, if there is one. `AllocError` comes only where a growth was refused.

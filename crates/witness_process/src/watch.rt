@@ -2,7 +2,7 @@
 
 ghost use Rattle.std.specs.Prelude.{IfSome};
 ghost use Rattle.request_streams.specs.Serving.{IsAnswerIf};
-ghost use Rattle.witness_process.specs.Answered.{IsAnsweredUnderLock};
+ghost use Rattle.witness_process.specs.Answered.{IsAnsweredBy, IsAnsweredBySets};
 ghost use Rattle.witness_process.specs.Lines.{IsSaidAt};
 
 use crate::brought::{brought_by, brought_in};
@@ -110,7 +110,7 @@ impl Watch {
         bytes: &[u8],
         out: &mut Vec<u8>,
     ) -> Outcome
-        ensures { IsAnswerIf (IsAnsweredUnderLock digest.now) bytes.now out.new.items result }
+        ensures { IsAnswerIf (IsAnsweredBySets self.old.books digest.now) bytes.now out.new.items result }
     {
         self.host.digest = *digest;
         let outcome = self
@@ -403,7 +403,7 @@ impl Watch {
 }
 
 /// Answers a record by the books.
-#[tactic(auto, using(crate::proofs::UnderLock::under_lock))]
+#[tactic(auto, using(crate::proofs::UnderLock::by_books))]
 pub(crate) fn answered(
     standing: &mut Standing,
     alloc: Global,
@@ -412,7 +412,7 @@ pub(crate) fn answered(
     bytes: &[u8],
     out: &mut Vec<u8>,
 ) -> Outcome
-    ensures { IsAnswerIf (IsAnsweredUnderLock host.now.digest) bytes.now out.new.items result }
+    ensures { IsAnswerIf (IsAnsweredBy standing.old host.now.digest) bytes.now out.new.items result }
 {
     match answer_request(standing, alloc, cache, host, bytes, out) {
         watching::Outcome::Replied => Outcome::Replied,
