@@ -51,27 +51,22 @@ where
     E: Write,
 {
     let Serving { shared, route } = serving;
-    let Context {
-        rt,
-        alloc,
-        clock,
-        phase,
-        ..
-    } = shared.context;
+    let context = shared.context;
+    let (rt, alloc, clock) = (context.rt, context.alloc, context.clock);
     // Where it can't be set, replies come later, and nothing else changes.
     let _ = stream.set_nodelay(true);
     set_timeouts(stream);
     let presence = presence_of(alloc, stream)?;
     let waiting = Mutex::new(Waiting::without_end());
-    let input = PeerStream::new(rt, clock, stream, phase, &waiting);
+    let input = PeerStream::new(rt, clock, stream, context.phase, &waiting);
     let Ok(input) = BufReader::with_capacity(alloc, READ_AHEAD, input) else {
         return Err(Cause::Stream(StreamFault::NoMemory, None));
     };
     let mut reader = RecordReader::new(Counting::new(input));
-    let mut writer = Counting::new(PeerStream::new(rt, clock, stream, phase, &waiting));
+    let mut writer = Counting::new(PeerStream::new(rt, clock, stream, context.phase, &waiting));
     let mut times = SystemClock::new(clock);
-    let flights = shared.context.flights;
-    let courier = TcpCourier::new(shared.context, shared.client, route);
+    let flights = context.flights;
+    let courier = TcpCourier::new(context, shared.client, route);
     let own = [Mutex::new(courier)];
     let mut link = SharedRemote::new(rt, alloc, shared.client, &own, flights, presence);
     let mut gateway = Gateway::new();
