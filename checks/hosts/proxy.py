@@ -2,6 +2,7 @@
 that is off at times, and ones that count round trips."""
 
 import socket
+import sys
 import threading
 import time
 from collections import Counter
@@ -341,6 +342,10 @@ class Rough(Way):
         self.connections += 1
         for ends in (near, far, self.count), (far, near, lambda _: None):
             threading.Thread(target=self.carry, args=ends, daemon=True).start()
+
+    def smooth(self):
+        """Carries each record from now on as it came."""
+        self.every = sys.maxsize
 
     def count(self, call: bytes):
         """Counts the calls that come, by their procedures."""

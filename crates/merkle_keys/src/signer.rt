@@ -51,7 +51,8 @@ impl From<AllocError> for SignFault {
 
 /// A master secret's keys, of which each signs once, in order. It keeps the tree's hashes, 64 bytes for
 /// each leaf. The key of a leaf is made for its hash, when the signer is made, and to sign, when it is taken
-/// out of `keys`, which gives each once; a signature holds it bound to its digest. The master secret can't be read, copied or printed.
+/// out of `keys`, which gives each once; a signature holds it bound to its digest. No call gives out the master
+/// secret, and none prints it.
 #[derive(Drop)]
 pub struct Signer {
     keys: LeafKeys,

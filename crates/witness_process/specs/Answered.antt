@@ -107,7 +107,8 @@ pub record IsAnsweredByWorse (node : ℕ) (current before : StandingParts) (dige
   pub says : SaysWorse node current before worse current' before'
   pub answers : IsAnsweredByWhich worse current' before' digest record_bytes text
 
--- What asks for faults of a node while other books stand beside its own, and what doesn't.
+-- By books beside which others may stand: what is asked of the faults of their node by those that say the worse, all else
+-- by either.
 abbrev pub IsAnsweredBeside : Option Before → (faults : Bool) → (node : ℕ) → (current : StandingParts)
     → (digest record_bytes text : List ℕ) → Type 0
 IsAnsweredBeside None faults node current digest record_bytes text = IsAnsweredBy current digest record_bytes text
@@ -116,7 +117,7 @@ IsAnsweredBeside (Some before) true node current digest record_bytes text =
 IsAnsweredBeside (Some before) false node current digest record_bytes text =
     IsAnsweredByEither current before.standing digest record_bytes text
 
--- By the books of a server, and those from which they went on.
+-- the same by the books of a server
 abbrev pub IsAnsweredByBooks : NodeBooks → (faults : Bool) → (digest record_bytes text : List ℕ) → Type 0
 IsAnsweredByBooks b faults digest record_bytes text =
     IsAnsweredBeside b.before faults b.node b.current digest record_bytes text
