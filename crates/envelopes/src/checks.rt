@@ -1,10 +1,13 @@
 //! Checks of envelopes and acknowledgements that come from elsewhere.
 
-ghost use Rattle.std.specs.Prelude.{◌↔◌, IsTrue};
-ghost use Rattle.secure_log.specs.authenticator.Signed.{IsSignedBy};
+ghost use Rattle.std.specs.Prelude.{◌≡◌, ◌↔◌, Err, IfErr, IsSome, IsTrue, List, OnOk, ℕ};
+ghost use Rattle.secure_log.specs.authenticator.Roster.{member_of};
+ghost use Rattle.secure_log.specs.authenticator.declared.member.Member.{Member};
+ghost use Rattle.secure_log.specs.authenticator.Signed.{IsSignedBy, IsSignedIn};
+ghost use Rattle.envelopes.specs.declared.envelope.Envelope.{Envelope};
 ghost use Rattle.envelopes.specs.Envelope.{envelope_shows};
 ghost use Rattle.envelopes.specs.Acknowledgement.{ack_shows};
-ghost use Rattle.envelopes.specs.Checking.{ChecksEnvelope, ChecksAck};
+ghost use Rattle.envelopes.specs.Checking.{ChecksEnvelope, ChecksAck, IsTextOf};
 
 use crate::acknowledgement::Ack;
 use crate::envelope::Envelope;
@@ -27,6 +30,20 @@ pub fn check_envelope(
         Err(TextFault::NoMemory) => return Err(Refusal::NoMemory),
         Err(TextFault::NotAText) => return Err(Refusal::Garbage),
     };
+    match check_sent(roster, &envelope) {
+        Ok(()) => Ok(Checked::vouch(roster, envelope)),
+        Err(refusal) => Err(refusal),
+    }
+}
+
+/// Checks that an envelope goes from a member that signed it to another, else why it doesn't.
+fn check_sent(roster: &Roster, envelope: &Envelope) -> Result<(), Refusal>
+    ensures signed { OnOk result (IsSignedIn roster.now (envelope_shows envelope.now)) }
+    ensures two { OnOk result (¬ (envelope.now.from ≡ envelope.now.to)) }
+    ensures receiver { OnOk result (IsSome (member_of roster.now envelope.now.to)) }
+    ensures fault { IfErr result (λ e. (bytes : List ℕ) → IsTextOf bytes envelope.now →
+        ChecksEnvelope roster.now bytes (λ (c : Envelope × Member). c.0) (λ c. c.1) (Err e)) }
+{
     if envelope.from == envelope.to {
         return Err(Refusal::Garbage);
     }
@@ -36,10 +53,10 @@ pub fn check_envelope(
     if roster.member(envelope.to).is_none() {
         return Err(Refusal::UnknownNode);
     }
-    if !sent_by(&sender, &envelope) {
+    if !sent_by(&sender, envelope) {
         return Err(Refusal::BadSignature);
     }
-    Ok(Checked::vouch(roster, envelope))
+    Ok(())
 }
 
 /// Checks an acknowledgement's text: `Garbage` where it is none, else `UnknownNode` where who signs it is no

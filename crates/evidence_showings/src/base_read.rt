@@ -1,10 +1,11 @@
 //! Bases from their texts (RFC 4506).
 
-ghost use Rattle.std.specs.Prelude.{◌≡◌, IfNone, IfOk, IfSome, IsTrue, MatchResult, Ok, false};
+ghost use Rattle.std.specs.Prelude.{◌≡◌, [], IfErr, IfNone, IfOk, IfSome, IsTrue, MatchResult, None, Ok, false};
+ghost use Rattle.std.specs.Bool.{OnTrue};
 ghost use Rattle.xdr.specs.Item.{Value, opaque, pair};
 ghost use Rattle.xdr.specs.Reading.{GivesUnless, read_at};
 ghost use Rattle.xdr.specs.ReadFault.{xdr_fault};
-ghost use Rattle.xdr.specs.Texts.Text.{GivesText, IsText};
+ghost use Rattle.xdr.specs.Texts.Text.{GivesText, IsText, text_at};
 ghost use Rattle.xdr.specs.Texts.TextFault.{is_no_text};
 ghost use Rattle.xdr.specs.declared.texts.text.TextFault.TheVariants.{NoMemory};
 ghost use Rattle.authenticator.specs.Numbers.{number_item};
@@ -234,6 +235,22 @@ fn base_of(alloc: Global, bytes: &[u8]) -> Result<BaseText, TextFault>
     ensures exact { GivesText is_no_text base_text base_value bytes.now result }
     ensures written { IfOk result (λ b. SaysNoMore b.log_version b.showing) }
 {
+    match read_whole(alloc, bytes) {
+        Ok(read) => match read.into_base(alloc) {
+            Ok(Some(base)) => Ok(base),
+            Ok(None) => Err(TextFault::NotAText),
+            Err(AllocError) => Err(TextFault::NoMemory),
+        },
+        Err(fault) => Err(fault),
+    }
+}
+
+/// A base as it stands in a text, where the bytes are one to their end.
+#[tactic(auto, unfolding(xdr::specs::Texts::Text::text_at))]
+fn read_whole(alloc: Global, bytes: &[u8]) -> Result<ReadBase, TextFault>
+    ensures read { IfOk result (λ b. read_at base_item bytes.now ≡ Ok (read_base_value b, [])) }
+    ensures fault { IfErr result (λ e. OnTrue (is_no_text e) (text_at base_text bytes.now ≡ None)) }
+{
     let mut reader = Reader::new(bytes);
     let read = match ReadBase::read(alloc, &mut reader) {
         Ok(read) => read,
@@ -243,9 +260,5 @@ fn base_of(alloc: Global, bytes: &[u8]) -> Result<BaseText, TextFault>
     if !reader.rest().is_empty() {
         return Err(TextFault::NotAText);
     }
-    match read.into_base(alloc) {
-        Ok(Some(base)) => Ok(base),
-        Ok(None) => Err(TextFault::NotAText),
-        Err(AllocError) => Err(TextFault::NoMemory),
-    }
+    Ok(read)
 }

@@ -1,8 +1,9 @@
 //! Bases as texts (RFC 4506).
 
 ghost use Rattle.std.specs.Prelude.{◌≡◌, ◌≤◌, IsTrue, length};
-ghost use Rattle.xdr.specs.Item.{spelling};
+ghost use Rattle.xdr.specs.Item.{opaque, pair, spelling};
 ghost use Rattle.xdr.specs.Writing.{Adds, Writes};
+ghost use Rattle.authenticator.specs.Numbers.{number_item};
 ghost use Rattle.authenticator.specs.declared.member.LogVersion.TheVariants.{One, Two};
 ghost use Rattle.evidence_spec.specs.Base.{BaseParts, MAX_STATE, base_item, base_value, begun_item, begun_value};
 ghost use Rattle.evidence_spec.specs.Showing.{links_follow, showing_item, showing_value};
@@ -95,8 +96,7 @@ fn add_plain_base(
 {
     out.put_u32(1)?;
     showing.write(out)?;
-    at.write(out)?;
-    out.put_opaque(state)
+    add_state(at, state, out)
 }
 
 fn add_worded_base(
@@ -113,6 +113,15 @@ fn add_worded_base(
     out.put_u32(2)?;
     let _has_words = showing.has_words();
     showing.write_words(out)?;
+    add_state(at, state, out)
+}
+
+/// Appends the number of a base and the bytes of the state there.
+fn add_state(at: Number, state: &[u8], out: &mut Vec<u8>) -> Result<(), AllocError>
+    requires { length state.now ≤ MAX_STATE }
+    ensures { Adds (spelling (pair number_item (opaque MAX_STATE)) (at, state.now))
+        out.old.items result out.new.items }
+{
     at.write(out)?;
     out.put_opaque(state)
 }

@@ -1,8 +1,11 @@
 //! Packets from bytes.
 
-ghost use Rattle.std.specs.Prelude.{IfOk};
+ghost use Rattle.std.specs.Prelude.{Err, IfOk, List, ℕ};
+ghost use Rattle.envelopes.specs.secure_log.Checking.{ChecksSegment};
+ghost use Rattle.envelopes.specs.secure_log.authenticator.declared.member.LogVersion.{LogVersion};
+ghost use Rattle.envelopes.specs.secure_log.authenticator.declared.member.Member.{Member};
 ghost use Rattle.packets.specs.Packet.{answer_number, content_at};
-ghost use Rattle.packets.specs.Judging.{GivesDelivery, judged, judged_option};
+ghost use Rattle.packets.specs.Judging.{GivesDelivery, Refuses, judged, judged_option};
 ghost use Rattle.packets.specs.Delivered.{IsUnder, delivery_in};
 ghost use Rattle.packets.specs.Uses.{MayUse};
 
@@ -105,7 +108,7 @@ fn read_challenge<C: SignatureCheck>(
 }
 
 /// A closing is checked each time, by the call that hashes the segment's chain once; it is kept then.
-#[tactic(auto, using(crate::proofs::Judged::answered, crate::proofs::Judged::given, crate::proofs::Using::may_stay))]
+#[tactic(auto, using(crate::proofs::Judged::given, crate::proofs::Using::may_stay))]
 fn read_answer<C: SignatureCheck>(
     alloc: Global,
     roster: &Roster,
@@ -124,10 +127,22 @@ fn read_answer<C: SignatureCheck>(
             signatures.keep_closing(alloc, &segment);
             Ok(Packet::Answer(segment))
         }
-        Err(SegmentFault::UnknownNode) => Err(Refusal::UnknownNode),
-        Err(SegmentFault::BadSignature) => Err(Refusal::BadSignature),
-        Err(SegmentFault::NoMemory) => Err(Refusal::NoMemory),
-        Err(_) => Err(Refusal::Garbage),
+        Err(fault) => Err(refusal_for(fault)),
+    }
+}
+
+/// The refusal of an answer whose segment has a fault: `Garbage` also where it doesn't end in its closing.
+#[tactic(auto, using(crate::proofs::Judged::answered))]
+fn refusal_for(fault: SegmentFault) -> Refusal
+    ensures { (members : List Member) → (version : LogVersion) → (bytes : List ℕ)
+        → ChecksSegment version members bytes (Err fault)
+        → Refuses (judged_option members (content_at (answer_number version) bytes)) result }
+{
+    match fault {
+        SegmentFault::UnknownNode => Refusal::UnknownNode,
+        SegmentFault::BadSignature => Refusal::BadSignature,
+        SegmentFault::NoMemory => Refusal::NoMemory,
+        _ => Refusal::Garbage,
     }
 }
 

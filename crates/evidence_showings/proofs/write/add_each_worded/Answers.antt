@@ -1,12 +1,14 @@
 use Rattle.std.proofs.Common.{◌≡◌, ◌+◌, ◌++◌, ◌<◌, ◌∙◌, ℕ, List, ap, append_assoc, arith, drop, length, rules}
-use Rattle.std.proofs.Common.{subst, sym}
+use Rattle.std.proofs.Common.{append-nil, subst, sym}
+use Rattle.std.proofs.lemmas.List.{drop_all}
 use Rattle.std.specs.List.{AllByRecursion, flat_map}
 use Rattle.xdr.specs.Item.{spelling}
 use Rattle.authenticator.specs.declared.member.LogVersion.TheVariants.{Two}
 use Rattle.evidence_spec.specs.secure_log.LogEntries.Words.{MaySkip}
-use Rattle.evidence_spec.specs.Showing.{link_item, link_value, numbered}
+use Rattle.evidence_spec.specs.Showing.{ShownLink, link_item, link_value, numbered}
 use Rattle.evidence_showings.specs.Showings.{numbered_link}
 use Rattle.evidence_showings.proofs.Words.{head_is}
+use Rattle.evidence_showings.proofs.Written.{refused_after}
 use Rattle.evidence_showings.proofs.write.add_each_worded.Goals as goal
 
 -- what is written is the text of one link more
@@ -39,3 +41,30 @@ loop-place-preserved c =
         ),
       );
     }
+
+-- what the link skips, and its number, may stand in a word
+pub add_worded_link-requires : goal.add_worded_link-requires
+add_worded_link-requires c =
+    let there : c.loop-place.place < length c.args.links.now = search rules in
+    let x = c.index-links-place.result in
+    let here = head_is c.args.links.now c.loop-place.place x there c.index-links-place.is in
+    let skips = subst (λ ks. AllByRecursion (MaySkip Two) (numbered c.loop-place.number ks)) here
+    c.loop-place.invariant.skips in
+    (skips.0.0, omega (arith, skips.0.1, c.from.ensures, c.skipped.ensures))
+
+-- the links before the one that was refused stand, and a part of that
+pub returns-in_err-add_worded_link : goal.returns-in_err-add_worded_link
+returns-in_err-add_worded_link c =
+    refused_after _ c.args.out.now.items c.loop-place.invariant.text.0 c.loop-place.out.items _
+    c.from_residual.result c.from_residual.ensures.0 c.loop-place.invariant.text.1.0 c.in_err-add_worded_link.ensures
+
+-- no link is left
+pub returns : goal.returns
+returns c =
+    let front = c.loop-place.invariant.text.0 in
+    let more : List ShownLink → List ℕ = λ ks.
+    flat_map (λ l. spelling (link_item Two) (link_value Two l)) (numbered c.loop-place.number ks) in
+    c.loop-place.invariant.text.1.0
+    ∙ ap (λ t. c.args.out.now.items ++ t) (sym (c.loop-place.invariant.text.1.1
+    ∙ ap (λ ks. front ++ more ks) (drop_all c.loop-place.place c.args.links.now c.loop-place-test.false)
+    ∙ append-nil front))
