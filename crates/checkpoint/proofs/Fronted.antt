@@ -1,10 +1,10 @@
 -- A text of a state is the text up to its files, and its files.
 -- Serves: state_text, state_digest, add_front.
-use Rattle.std.proofs.Common.{◌≡◌, ℕ, List, [], ◌++◌, map, Result, Ok, Err, ap, ◌∙◌, append_assoc}
+use Rattle.std.proofs.Common.{◌≡◌, ℕ, List, [], ◌++◌, map, Result, Ok, Err, sym, ap, ◌∙◌, append_assoc}
 use Rattle.std.specs.FinMap as finite
 use Rattle.std.proofs.lemmas.List.{append-nil}
 use Rattle.xdr.specs.Item.{Item, Value, array, spelling, number_spelling}
-use Rattle.xdr.specs.Writing.{Adds}
+use Rattle.xdr.specs.Writing.{Adds, Begins}
 use Rattle.nfs_items.specs.Timeval.{Timeval, timeval, timeval_value}
 use Rattle.mount_types.specs.Mounts.{max_mounts}
 use Rattle.nfs_laws.specs.fs_spec.Maxima.{max_files}
@@ -53,6 +53,14 @@ pub added_after : {E : Type 0} (first rest old mid new : List ℕ) (r : Result (
 added_after first rest old mid new (Ok x) e h = h ∙ ap (λ t. t ++ rest) e ∙ append_assoc old first rest
 added_after first rest old mid new (Err x) e h =
     (first ++ h.0, h.1 ∙ ap (λ t. t ++ h.0) e ∙ append_assoc old first h.0)
+
+-- where nothing was added
+pub unchanged : (old new : List ℕ) → new ≡ old → Begins old new
+unchanged old new e = ([], e ∙ sym (append-nil old))
+
+-- a part that may stand after a text that was added
+pub further : (old first mid new : List ℕ) → mid ≡ old ++ first → Begins mid new → Begins old new
+further old first mid new e h = (first ++ h.0, h.1 ∙ ap (λ t. t ++ h.0) e ∙ append_assoc old first h.0)
 
 -- what was added, under another name
 pub instead : {X : Type 0} (f : X → List ℕ) (x y : X) (old mid : List ℕ) → mid ≡ old ++ f x → x ≡ y → mid
