@@ -16,10 +16,6 @@ pub record IsStateOf (b : BaseParts) (s : State) : Type 0 where
   pub few_sends : len s.sends ≤ MAX_KNOWN
   pub sends : SendsLieBelow b.log_version s b.at
 
--- No state is one whose text a base's bytes are so.
-abbrev pub HasNoBytesState : BaseParts → Type 0
-HasNoBytesState b = (s : State) → ¬ IsStateOf b s
-
 -- No state has its CHECK at a base's number.
 abbrev pub HasNoCheck : BaseParts → Type 0
 HasNoCheck b = (s : State) → ¬ IsCheckAt b s

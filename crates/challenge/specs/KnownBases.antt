@@ -89,18 +89,21 @@ pub record IsUnsigned (ms : List Member) (bytes : List ℕ) : Type 0 where
   pub of_member : IsBaseOf base state member
   pub unsigned : ¬ IsSignedBy member base.showing.closing
 
--- What checking a base's text answers: the base with its state, and the member; or Garbage where the bytes
--- are no base's text, or that of one that doesn't end in its closing, or has no state, or is not of its
--- member; UnknownNode where its node is no member; else BadSignature where that one didn't sign it.
+-- Why a base's text is refused: Garbage where the bytes are no base's text, or that of one that doesn't end in its
+-- closing, or has no state, or is not of its member; UnknownNode where its node is no member; else BadSignature where
+-- that one didn't sign it.
+abbrev pub RefusesBase : (ms : List Member) (bytes : List ℕ) → Refusal → Type 0
+RefusesBase ms bytes Garbage = (text_at base_text bytes ≡ None) ⊎ (IsUnsound bytes ⊎ IsOfAnother ms bytes)
+RefusesBase ms bytes UnknownNode = IsOfStranger ms bytes
+RefusesBase ms bytes BadSignature = IsUnsigned ms bytes
+RefusesBase ms bytes NoMemory = Unit {0}
+
+-- What checking a base's text answers: the base with its state, and the member; or why it is refused.
 abbrev pub ChecksBase : {C : Type 0} (ms : List Member) (bytes : List ℕ) (value : C → KnownBase)
     (member : C → Member) → Result C Refusal → Type 0
 ChecksBase ms bytes value member (Ok c) =
     IsGoodText ms bytes (parts_of (value c)) (member c) (value c).state
-ChecksBase ms bytes value member (Err Garbage) =
-    (text_at base_text bytes ≡ None) ⊎ (IsUnsound bytes ⊎ IsOfAnother ms bytes)
-ChecksBase ms bytes value member (Err UnknownNode) = IsOfStranger ms bytes
-ChecksBase ms bytes value member (Err BadSignature) = IsUnsigned ms bytes
-ChecksBase ms bytes value member (Err NoMemory) = Unit {0}
+ChecksBase ms bytes value member (Err refusal) = RefusesBase ms bytes refusal
 
 -- The text of a good base is taken, as that base with its state and member, unless memory ran out.
 abbrev pub TakesGood : {C : Type 0} (ms : List Member) (bytes : List ℕ) (value : C → KnownBase)

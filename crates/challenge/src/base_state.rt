@@ -6,7 +6,7 @@ ghost use Rattle.evidence_showings.specs.Showings.{Ends};
 ghost use Rattle.secure_log.specs.LogEntries.Chain.{zeros};
 ghost use Rattle.evidence_showings.specs.evidence_spec.Base.{HasState, IsBaseOf, SendsLieBelow};
 ghost use Rattle.evidence_showings.specs.evidence_spec.Showing.{Shows, shown_logged};
-ghost use Rattle.challenge.specs.BaseStates.{HasNoBytesState, HasNoCheck, HasNoState, IsStateOf};
+ghost use Rattle.challenge.specs.BaseStates.{HasNoCheck, HasNoState, IsStateOf};
 ghost use Rattle.challenge.specs.BaseStates.{LinkIs, link_at};
 ghost use Rattle.authenticator.specs.Numbers.{number_in};
 ghost use Rattle.secure_log.specs.declared.log_entries.entry.Entry.TheVariants.{Check};
@@ -33,13 +33,7 @@ pub(crate) fn state_of(alloc: Global, base: &BaseText) -> Result<Option<State>, 
     let Some(link) = link_at_number(base) else {
         return Ok(None);
     };
-    let Some(state) = bytes_state(alloc, base)? else {
-        return Ok(None);
-    };
-    if !is_check_of(link, &state_digest(alloc, &state)?) {
-        return Ok(None);
-    }
-    Ok(Some(state))
+    bytes_state(alloc, base, link)
 }
 
 /// Whether a base that is of a member's node, with its state, is of the version of the member's log and of
@@ -112,34 +106,63 @@ fn is_check_of(link: &ShownLink, digest: &[u8; 32]) -> bool
     link.is_same(&ShownLink::of_logged(link.skipped(), &check))
 }
 
-/// The state whose text a base's bytes are, where it is of the showing's node and knows few messages, of
-/// which those sent have numbers below the base's.
-fn bytes_state(alloc: Global, base: &BaseText) -> Result<Option<State>, AllocError>
-    ensures some { IfOk result (λ o. IfSome o (λ s. IsStateOf base.now s.state)) }
-    ensures none { IfOk result (λ o. IfNone o (HasNoBytesState base.now)) }
+/// The state whose text a base's bytes are, where the base has it. The showing shows no other hash at 0 than
+/// 32 zero bytes, and the link is that of a CHECK at the base's number.
+fn bytes_state(
+    alloc: Global,
+    base: &BaseText,
+    link: &ShownLink,
+) -> Result<Option<State>, AllocError>
+    requires zero { (mark : List ℕ) → Shows base.now.showing 0 mark → mark ≡ zeros }
+    requires link { LinkIs base.now link.now }
+    ensures some { IfOk result (λ o. IfSome o (λ s. HasState base.now s.state)) }
+    ensures none { IfOk result (λ o. IfNone o (HasNoState base.now)) }
 {
     a_text_has_one_state();
-    let state = match read_state(alloc, base.state()) {
-        Ok(state) => state,
-        Err(StateFault::NoMemory) => return Err(AllocError),
-        Err(_) => return Ok(None),
-    };
+    match read_state(alloc, base.state()) {
+        Ok(state) => match has_state(alloc, base, link, &state) {
+            Ok(true) => Ok(Some(state)),
+            Ok(false) => Ok(None),
+            Err(AllocError) => Err(AllocError),
+        },
+        Err(StateFault::NoMemory) => Err(AllocError),
+        Err(_) => Ok(None),
+    }
+}
+
+/// Whether a base has a state whose text its bytes are.
+fn has_state(
+    alloc: Global,
+    base: &BaseText,
+    link: &ShownLink,
+    state: &State,
+) -> Result<bool, AllocError>
+    requires zero { (mark : List ℕ) → Shows base.now.showing 0 mark → mark ≡ zeros }
+    requires link { LinkIs base.now link.now }
+    requires text { IsStateText state.now.state base.now.state }
+    ensures { IfOk result (λ b. IsTrue b ↔ HasState base.now state.now.state) }
+{
+    if !knows_few(alloc, base, state)? {
+        return Ok(false);
+    }
+    let digest = state_digest(alloc, state)?;
+    Ok(is_check_of(link, &digest))
+}
+
+/// Whether a state whose text a base's bytes are is of the showing's node and knows few messages, of which
+/// those sent have numbers below the base's.
+fn knows_few(alloc: Global, base: &BaseText, state: &State) -> Result<bool, AllocError>
+    requires { IsStateText state.now.state base.now.state }
+    ensures { IfOk result (λ b. IsTrue b ↔ IsStateOf base.now state.now.state) }
+{
     if state.node() != base.showing().node() {
-        return Ok(None);
+        return Ok(false);
     }
     if state.received().len() > MAX_KNOWN as usize || state.sends().len() > MAX_KNOWN as usize {
-        return Ok(None);
+        return Ok(false);
     }
-    if !sends_lie_below(
-        alloc,
-        base.log_version(),
-        &state,
-        base.state(),
-        base.at().get(),
-    )? {
-        return Ok(None);
-    }
-    Ok(Some(state))
+    let (version, number) = (base.log_version(), base.at().get());
+    sends_lie_below(alloc, version, state, base.state(), number)
 }
 
 /// Whether the words of a state's sends have numbers below one, in a log of a version. They are read from the

@@ -3,6 +3,7 @@
 use authenticator::Number;
 use evidence_showings::Mark;
 use replay::ReplayFault;
+use std::fmt;
 use thiserror::Error;
 
 /// What evidence shows, if it is accepted; else why it isn't.
@@ -24,35 +25,49 @@ pub enum Finding {
 #[derive(Clone, Copy, Debug, PartialEq, Eq, Error)]
 pub enum NotAccepted {
     /// A showing or the log is of another node than the evidence.
-    #[error("what is shown is of another node")]
     AnotherNode,
     /// The roster has the node, and its log is of another version than the evidence.
-    #[error("the evidence is of another log version than the node's")]
     OtherVersion,
     /// The log doesn't begin with the first entry, after 32 zero bytes.
-    #[error("the log is not shown from its first entry on")]
     NotFromStart,
     /// A showing begins at 0, or skips what a log of its version may not, or what is shown doesn't end in its
     /// closing's node, word and hash.
-    #[error("what is shown does not end in what closes it")]
     NotClosed,
     /// A closing isn't signed by the member of the roster that it names.
-    #[error("what closes it is not signed by the node")]
     NotSigned,
     /// The base isn't good: it shows another hash than 32 zero bytes at 0, or no CHECK of its state at its
     /// number, or its bytes are no text of a state of that node and its kind, or the state knows too many
     /// messages, or one that was sent later.
-    #[error("the base is not good")]
     NoGoodBase,
     /// The log doesn't begin right after the base's number, with the hash that the base shows there.
-    #[error("the log does not follow on the base")]
     NotFromBase,
     /// No two marks are shown at the number.
-    #[error("no two hashes are shown at the number")]
     NoTwoMarks,
     /// A replay finds no fault.
-    #[error("the log has no fault")]
     NoFault,
+}
+
+impl fmt::Display for NotAccepted {
+    fn fmt<W: fmt::Write>(&self, f: &mut fmt::Formatter<W>) -> fmt::Result {
+        f.write_str(self.words())
+    }
+}
+
+impl NotAccepted {
+    /// Why it isn't accepted.
+    fn words(self) -> &'static str {
+        match self {
+            NotAccepted::AnotherNode => "what is shown is of another node",
+            NotAccepted::OtherVersion => "the evidence is of another log version than the node's",
+            NotAccepted::NotFromStart => "the log is not shown from its first entry on",
+            NotAccepted::NotClosed => "what is shown does not end in what closes it",
+            NotAccepted::NotSigned => "what closes it is not signed by the node",
+            NotAccepted::NoGoodBase => "the base is not good",
+            NotAccepted::NotFromBase => "the log does not follow on the base",
+            NotAccepted::NoTwoMarks => "no two hashes are shown at the number",
+            NotAccepted::NoFault => "the log has no fault",
+        }
+    }
 }
 
 impl Finding {

@@ -168,6 +168,17 @@ IsNoMessage (Segment first last) = Unit {0}
 IsNoMessage (Stands a) = Unit {0}
 IsNoMessage (Base node after) = Unit {0}
 
+-- what is told of a node that is only looked at
+abbrev pub OnlyLooks : NodeAsk → Type 0
+OnlyLooks Null = Unit {0}
+OnlyLooks (Greet digest node) = Unit {0}
+OnlyLooks (Deliver text) = ⊥
+OnlyLooks (Acknowledge text) = ⊥
+OnlyLooks (Signed after) = Unit {0}
+OnlyLooks (Segment first last) = Unit {0}
+OnlyLooks (Stands a) = Unit {0}
+OnlyLooks (Base node after) = Unit {0}
+
 -- Memory was refused while it was done, or for its results: what was done then stands, and nothing else was done.
 abbrev pub MayDo : NodeParts → Timeval → NodeAsk → NodeParts → Type 0
 MayDo n time Null n' = n' ≡ n

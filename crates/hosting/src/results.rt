@@ -8,7 +8,8 @@ ghost use Rattle.commitment.specs.Senders.LookUps.{IsLastSigned};
 ghost use Rattle.node_logs.specs.Nodes.{sender_of};
 ghost use Rattle.peer_calls.specs.NodeRequests.{node_ask};
 ghost use Rattle.hosting.specs.Hosting.{Does, HasPair, IsAckTold, IsAudited, IsGreeted, IsNoMessage, IsNumber};
-ghost use Rattle.hosting.specs.Hosting.{IsSignedText, IsStood, MayDo, audited_text};
+ghost use Rattle.hosting.specs.Hosting.{IsSignedText, IsStood, MayDo, OnlyLooks, audited_text};
+ghost use Rattle.nfs_items.specs.Timeval.{Timeval};
 
 use crate::bases::add_based;
 use crate::host::Host;
@@ -47,17 +48,37 @@ pub(crate) fn add_results<'r>(
     ensures refused { OnErr result (MayDo server.old time (node_ask request.now) server.new) }
 {
     match request {
-        NodeRequest::Null => Ok(()),
-        NodeRequest::Greet(greeting) => add_greeted(greeting, host, out),
-        NodeRequest::Deliver(_) => unreachable!(),
         NodeRequest::Acknowledge(text) => {
             let taken = server.take_incoming_ack(alloc, ready.acknowledgement(text));
             add_ack_told(taken, out)
         }
-        NodeRequest::Signed(after) => add_signed(server.server(), alloc, after, out),
-        NodeRequest::Segment(numbers) => add_segment(server.server(), alloc, numbers, out),
-        NodeRequest::Stands(authenticator) => add_stood(server.server(), authenticator, out),
-        NodeRequest::Base(asked) => add_based(server.server(), alloc, asked, out),
+        _ => add_looked_up(server.server(), alloc, host, request, out),
+    }
+}
+
+/// Appends the results of a request for which a server is only looked at. Where memory is refused, a part of them may
+/// stand.
+fn add_looked_up(
+    server: &ServerNode,
+    alloc: Global,
+    host: &Host,
+    request: &NodeRequest<'_>,
+    out: &mut Vec<u8>,
+) -> Result<(), AllocError>
+    requires { OnlyLooks (node_ask request.now) }
+    ensures { (time : Timeval) → OnOk result ((results : List ℕ)
+        × Does host.now server.now time (node_ask request.now) results server.now
+        × (out.new.items ≡ out.old.items ++ results)) }
+{
+    match request {
+        NodeRequest::Null => Ok(()),
+        NodeRequest::Greet(greeting) => add_greeted(greeting, host, out),
+        NodeRequest::Deliver(_) => unreachable!(),
+        NodeRequest::Acknowledge(_) => unreachable!(),
+        NodeRequest::Signed(after) => add_signed(server, alloc, after, out),
+        NodeRequest::Segment(numbers) => add_segment(server, alloc, numbers, out),
+        NodeRequest::Stands(authenticator) => add_stood(server, authenticator, out),
+        NodeRequest::Base(asked) => add_based(server, alloc, asked, out),
     }
 }
 

@@ -2,6 +2,7 @@
 
 use crate::client::Pending;
 use std::alloc::Global;
+use std::fmt;
 use thiserror::Error;
 
 /// What came back for a call.
@@ -17,17 +18,31 @@ pub enum Carried {
 #[derive(Clone, Copy, Debug, PartialEq, Eq, Error)]
 pub enum CourierFault {
     /// The server says that it has too few keys left.
-    #[error("the server's keys are used up")]
     KeysUsedUp,
     /// The server says that it doesn't take what was brought.
-    #[error("the server refuses")]
     Refused,
     /// The server can't be reached.
-    #[error("the server can't be reached")]
     Lost,
     /// A growth was refused.
-    #[error("out of memory")]
     NoMemory,
+}
+
+impl fmt::Display for CourierFault {
+    fn fmt<W: fmt::Write>(&self, f: &mut fmt::Formatter<W>) -> fmt::Result {
+        f.write_str(self.words())
+    }
+}
+
+impl CourierFault {
+    /// What is said of it.
+    fn words(self) -> &'static str {
+        match self {
+            CourierFault::KeysUsedUp => "the server's keys are used up",
+            CourierFault::Refused => "the server refuses",
+            CourierFault::Lost => "the server can't be reached",
+            CourierFault::NoMemory => "out of memory",
+        }
+    }
 }
 
 /// The way to a server on another host. Nothing is supposed of what it brings back: who calls by it checks

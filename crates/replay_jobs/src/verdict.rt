@@ -7,7 +7,7 @@ ghost use Rattle.replay_jobs.specs.Jobs.{HasRoom, job_verdict, verdict_told};
 
 use crate::plain::PlainJob;
 use authenticator::{Authenticator, Number};
-use replay::{ReplayFault, SharedState, Verdict, replay_entries};
+use replay::{ReplayFault, SharedState, State, Verdict, replay_entries};
 use std::alloc::{AllocError, Global};
 use std::sync::Arc;
 
@@ -66,7 +66,7 @@ fn shared(alloc: Global, verdict: Verdict) -> Result<JobVerdict, AllocError>
 {
     match verdict {
         Verdict::Sound(state, found) => {
-            let state = SharedState::new(alloc, &state)?;
+            let state = share(alloc, state)?;
             match Arc::new(alloc, found) {
                 Ok(found) => Ok(JobVerdict::Sound(state, found)),
                 Err(_) => Err(AllocError),
@@ -74,4 +74,11 @@ fn shared(alloc: Global, verdict: Verdict) -> Result<JobVerdict, AllocError>
         }
         Verdict::Fault(fault, number) => Ok(JobVerdict::Fault(fault, number)),
     }
+}
+
+/// A state to be shared. `AllocError` comes only where a growth was refused.
+fn share(alloc: Global, state: State) -> Result<SharedState, AllocError>
+    ensures { IfOk result (λ s. s ≡ state.state) }
+{
+    SharedState::new(alloc, &state)
 }
