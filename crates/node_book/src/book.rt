@@ -163,6 +163,8 @@ fn two_notes(
         × (reply_in notes.1 ≡ reply_in (reply_of step.now decided.now))) }
 {
     let first = note_of(alloc, step, decided)?;
-    let second = note_of(alloc, step, decided)?;
-    Ok((first, second))
+    match note_of(alloc, step, decided) {
+        Ok(second) => Ok((first, second)),
+        Err(refused) => Err(refused),
+    }
 }

@@ -1,7 +1,7 @@
 //! What a step is to do is decided: nothing changes here.
 
 ghost use Rattle.std.specs.Prelude.{◌≡◌, ◌↔◌, ◌+◌, ◌<◌, ◌≤◌, ◌&&◌, false, nat_le, nat_lt, IfErr, IfOk, IsTrue};
-ghost use Rattle.std.specs.Prelude.{length, option_map};
+ghost use Rattle.std.specs.Prelude.{length, option_map, MatchBool};
 ghost use Rattle.std.specs.Arc.{arc_value};
 ghost use Rattle.witness_spec.specs.Limits as limits;
 ghost use Rattle.witness_spec.specs.Owing as owing;
@@ -11,7 +11,9 @@ ghost use Rattle.witness_book_laws.specs.Books.{book_indication, exposed, job_of
 ghost use Rattle.witness_book_laws.specs.Ready.{IsOfLog, IsReady};
 ghost use Rattle.witness_spec.specs.Pairs.{number_of};
 ghost use Rattle.witness_spec.specs.Starting.{is_below, start_number};
+ghost use Rattle.witness_spec.specs.Refusals as refusals;
 ghost use Rattle.witness_spec.specs.Replies as spec;
+ghost use Rattle.witness_book_laws.specs.Going.{evidence_accepted, first_evidence};
 ghost use Rattle.witness_book_laws.specs.Replying.{BookOwes, reply_to_answer, reply_to_begin};
 ghost use Rattle.witness_book_laws.specs.Replying.{reply_to_forward};
 ghost use Rattle.witness_book_laws.specs.Replying.{reply_to_learn};
@@ -141,19 +143,47 @@ impl Rows {
         ensures ok { IfOk result (DecidesAnswer (book_in self.now) segment.now) }
         ensures err { IfErr result (λ _. reply_to_answer (book_in self.now) segment.now ≡ spec.Accepted) }
     {
-        let Stage::Wanted(first, last) = &self.stage else {
-            return Ok(AnswerDecision::NotAsked);
-        };
-        let given = segment.closed().segment();
-        if given.first() != *first || given.closing().word.number(given.log_version()) != *last {
+        if !self.is_asked(segment) {
             return Ok(AnswerDecision::NotAsked);
         }
         let share = segment.try_clone()?;
+        match self.evidence_in(alloc, segment) {
+            Ok(evidence) => Ok(AnswerDecision::Accepted(share, evidence)),
+            Err(refused) => Err(refused),
+        }
+    }
+
+    /// Whether a segment is the one that is asked for.
+    fn is_asked(&self, segment: &SharedSegment) -> bool
+        ensures { MatchBool result
+            (reply_to_answer (book_in self.now) segment.now ≡ spec.Accepted)
+            (reply_to_answer (book_in self.now) segment.now ≡ spec.Refused refusals.NotAsked) }
+    {
+        let Stage::Wanted(first, last) = &self.stage else {
+            return false;
+        };
+        let given = segment.closed().segment();
+        given.first() == *first && given.closing().word.number(given.log_version()) == *last
+    }
+
+    /// What a segment that is asked for exposes: nothing where the node is exposed already.
+    fn evidence_in(
+        &self,
+        alloc: Global,
+        segment: &SharedSegment,
+    ) -> Result<Option<Arc<Evidence>>, AllocError>
+        requires ready { IsReady (book_in self.now) }
+        requires base { BaseIsOfLog (base_in self.now.base) self.now.log_version }
+        requires of_log { segment.now.segment.log_version ≡ self.now.log_version }
+        requires asked { reply_to_answer (book_in self.now) segment.now ≡ spec.Accepted }
+        ensures { IfOk result (λ e. evidence_accepted (book_in self.now) segment.now.segment
+            ≡ first_evidence (book_in self.now).evidence (option_map arc_value e)) }
+    {
         if self.is_exposed() {
-            return Ok(AnswerDecision::Accepted(share, None));
+            return Ok(None);
         }
         let evidence = self.fork_by_segment(alloc, segment)?;
-        Ok(AnswerDecision::Accepted(share, shared(alloc, evidence)?))
+        shared(alloc, evidence)
     }
 
     /// Of an acknowledgement: whether its challenge is open.
@@ -355,11 +385,21 @@ impl Rows {
 fn shared(alloc: Global, evidence: Option<Evidence>) -> Result<Option<Arc<Evidence>>, AllocError>
     ensures { IfOk result (λ e. option_map arc_value e ≡ evidence) }
 {
-    let Some(evidence) = evidence else {
-        return Ok(None);
-    };
-    match Arc::new(alloc, evidence) {
-        Ok(evidence) => Ok(Some(evidence)),
+    match evidence {
+        Some(evidence) => match share_of(alloc, evidence) {
+            Ok(share) => Ok(Some(share)),
+            Err(refused) => Err(refused),
+        },
+        None => Ok(None),
+    }
+}
+
+/// A value to be shared. `AllocError` comes only where a growth was refused.
+fn share_of<T: Drop>(alloc: Global, value: T) -> Result<Arc<T>, AllocError>
+    ensures { IfOk result (λ share. arc_value share ≡ value) }
+{
+    match Arc::new(alloc, value) {
+        Ok(share) => Ok(share),
         Err(_) => Err(AllocError),
     }
 }

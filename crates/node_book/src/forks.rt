@@ -105,16 +105,39 @@ impl Rows {
             (fork_of (base_in self.now.base) self.now.log_version (book_in self.now).learned
             (book_in self.now).segments new number)) }
     {
-        if let Some(old) = base_showing(alloc, &self.base, number.get())? {
-            return Ok(self.evidence_of_fork(number, old, Some(new)));
+        match base_showing(alloc, &self.base, number.get()) {
+            Ok(Some(old)) => Ok(self.evidence_of_fork(number, old, Some(new))),
+            Ok(None) if number.get() == 0 => {
+                Ok(self.evidence_of_fork(Number::new(0), new, None))
+            }
+            Ok(None) => self.fork_with_kept(alloc, new, number),
+            Err(refused) => Err(refused),
         }
-        if number.get() == 0 {
-            return Ok(self.evidence_of_fork(Number::new(0), new, None));
+    }
+
+    /// Evidence of a fork with what is kept, where no base shows a number that isn't 0.
+    fn fork_with_kept(
+        &self,
+        alloc: Global,
+        new: Showing,
+        number: Number,
+    ) -> Result<Option<Evidence>, AllocError>
+        requires fits { FitsTogether (book_in self.now) }
+        requires words { HasWordsOf self.now.log_version new }
+        ensures { IfOk result (λ e. e ≡ evidence_of (book_in self.now)
+            (option_map (λ kept. spec.Fork (record {
+              log_version = self.now.log_version;
+              at = number;
+              a = kept;
+              b = Some new;
+            })) (kept_before self.now.log_version (book_in self.now).learned
+            (book_in self.now).segments number))) }
+    {
+        match self.showing_kept(alloc, number.get()) {
+            Ok(Some(kept)) => Ok(self.evidence_of_fork(number, kept, Some(new))),
+            Ok(None) => Ok(None),
+            Err(refused) => Err(refused),
         }
-        let Some(old) = self.showing_kept(alloc, number.get())? else {
-            return Ok(None);
-        };
-        Ok(self.evidence_of_fork(number, old, Some(new)))
     }
 
     /// What is kept that showed a hash at a number: the learned authenticator with the number, else the

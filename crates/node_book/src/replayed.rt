@@ -1,6 +1,6 @@
 //! Evidence of replays that found faults.
 
-ghost use Rattle.std.specs.Prelude.{◌≡◌, ◌++◌, ◌+◌, ◌≤◌, List, IfOk, length, take};
+ghost use Rattle.std.specs.Prelude.{◌≡◌, ◌++◌, ◌+◌, ◌≤◌, [], List, IfOk, length, take};
 ghost use Rattle.secure_log.specs.LogEntries.Chain.{Logged};
 ghost use Rattle.challenge.specs.Charges.{charge_in};
 ghost use Rattle.evidence_spec.specs.Evidence.{charge_value, is_whole_charge};
@@ -120,11 +120,28 @@ fn shown_of(
         skips: Vec::with_capacity(alloc, count)?,
         entries: Vec::with_capacity(alloc, count)?,
     };
-    for segment in segments {
-        add_segment(alloc, segment, &mut shown)?;
+    match add_segments(alloc, segments, faulty, &mut shown) {
+        Ok(()) => Ok(shown),
+        Err(refused) => Err(refused),
     }
-    add_segment(alloc, faulty, &mut shown)?;
-    Ok(shown)
+}
+
+/// Appends the entries of segments and of another after them, each with what is skipped before it. Where a
+/// growth was refused, some may have been appended.
+fn add_segments(
+    alloc: Global,
+    segments: &[SharedSegment],
+    faulty: &SharedSegment,
+    shown: &mut ShownEntries,
+) -> Result<(), AllocError>
+    requires { IsShown shown.old [] }
+    ensures { IfOk result (λ _. IsShown shown.new
+        (entries_of (segments_in segments.now) ++ faulty.now.segment.entries)) }
+{
+    for segment in segments {
+        add_segment(alloc, segment, shown)?;
+    }
+    add_segment(alloc, faulty, shown)
 }
 
 /// Appends a copy of each entry of a segment, with what is skipped before it. Where a growth was refused, some

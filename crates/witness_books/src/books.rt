@@ -20,7 +20,7 @@ ghost use Rattle.witness_books.specs.Starts.{MayStart, StartFails, handed};
 ghost use Rattle.witness_books.specs.Witnessed.{AreStarted};
 
 use crate::laws::steps_keep_the_headline;
-use crate::note::{Note, event_twice, note_refusal};
+use crate::note::{Note, event_twice, note_refusal, notes_of};
 use crate::route::{Routed, refuse_event, route};
 use crate::start::{StartFault, books_at_first, check_start, share_bases};
 use authenticator::{Checked, Member, Roster};
@@ -214,16 +214,12 @@ impl Books {
         ensures stays { is_refusal (reply_in result.0) ≡ true → self.new ≡ self.old }
     {
         what_leaves_books();
-        let (one, two) = match event_twice(alloc, &event) {
-            Ok(events) => events,
-            Err(AllocError) => return (refuse_event(event, Refusal::NoMemory), None),
-        };
-        match self.step_noting(alloc, event) {
-            (reply, None) => (reply, None),
-            (reply, Some((first, second))) => {
-                let notes = (Note::new(one, first), Note::new(two, second));
-                (reply, Some(notes))
+        match event_twice(alloc, &event) {
+            Ok(events) => {
+                let (reply, replies) = self.step_noting(alloc, event);
+                (reply, notes_of(events, replies))
             }
+            Err(AllocError) => (refuse_event(event, Refusal::NoMemory), None),
         }
     }
 
