@@ -14,9 +14,10 @@ PAGE = ROOT / "docs" / "man" / "nfsacc.1"
 
 TEXT = r'"((?:[^"\\]|\\.)*)"'
 CONSTANT = re.compile(rf"const (\w+): &str =\s*{TEXT};")
-COMMAND = re.compile(r"fn (\w+)<'a>\(alloc: Global\) -> Result<Command<'a>, AllocError>.*?\n\{\n(.*?)\n\}\n", re.S)
-CALL = re.compile(r"\.(about|after_help|arg)\(")
-JOINED = re.compile(r'= (\w+)_commands\(alloc\)\?|(\w+)_command\(alloc\)|new\(alloc, "rpc"\)')
+ARGUMENTS = re.compile(r"static (\w+): \[ArgumentRow<'static>; \d+\] = \[\n?(.*?)\];\n", re.S)
+ARGUMENT = re.compile(rf"(\w+)!\(((?:{TEXT}|[^)\"])*)\)", re.S)
+ROW = re.compile(r"fn (\w+)_row\(\) -> CommandRow<'static>.*?\n\{\n    CommandRow \{\n(.*?)\n    \}\n\}\n", re.S)
+COMMANDS = re.compile(r"fn commands<'a>.*?\n\{\n(.*?)\n\}\n", re.S)
 
 INTRO = """.SH DESCRIPTION
 A server of NFS version 2 (RFC 1094) whose log holds it to account: each reply is signed, witnesses replay the log, and
@@ -33,7 +34,7 @@ rosters, epochs), CLIENTS.md (\\fBserve\\fR), CHECKING.md (evidence), SCRIPTS.md
 
 @dataclasses.dataclass
 class Argument:
-    """An argument of a command, by the function of command_line that makes it."""
+    """An argument of a command, by the macro of command_line that makes its row."""
 
     kind: str
     name: str
@@ -42,25 +43,17 @@ class Argument:
 
     @property
     def is_option(self):
-        return not self.kind.endswith("_argument")
+        return self.kind != "place"
 
     @property
     def is_needed(self):
-        return self.kind == "needed_option" or not self.is_option
+        return self.kind in ("needed", "place")
 
     def spelled(self):
         if not self.is_option:
             return f"\\fI{escaped(self.value)}\\fR"
         word = f"\\fB\\-\\-{escaped(self.name)}\\fR"
         return word if self.value is None else f"{word} \\fI{escaped(self.value)}\\fR"
-
-
-@dataclasses.dataclass
-class Body:
-    """The body of a function that makes a command, and the constants of its file."""
-
-    text: str
-    constants: dict[str, str]
 
 
 @dataclasses.dataclass
@@ -84,81 +77,43 @@ def unquoted(text):
     return re.sub(r"\\(.)", lambda found: {"n": "\n"}.get(found[1], found[1]), text, flags=re.S)
 
 
-def closing(text, start):
-    """Where the bracket closes that is open before a place."""
-    depth, at = 1, start
-    while depth:
-        if text[at] == '"':
-            at = re.compile(TEXT, re.S).match(text, at).end() - 1
-        depth += {"(": 1, ")": -1}.get(text[at], 0)
-        at += 1
-    return at - 1
-
-
 def values(text, constants):
-    """The strings and names of constants between commas, as texts; `alloc` is left out."""
+    """The strings and names of constants between commas, as texts."""
     found = re.findall(rf"{TEXT}|(\w+)", text, re.S)
-    return [constants[name] if name in constants else unquoted(string) for string, name in found if name != "alloc"]
+    return [constants[name] if name in constants else unquoted(string) for string, name in found]
 
 
-def argument_of(text, constants):
-    kind, inside = re.fullmatch(r"\s*(\w+)\((.*)\)\s*,?\s*", text, re.S).groups()
+def argument_of(kind, inside, constants):
+    """The argument of a row of a table."""
     words = values(inside, constants)
     if kind == "flag":
         return Argument(kind, words[0], None, words[1])
-    if kind == "file_argument":
-        return Argument(kind, "file", "FILE", words[0])
-    if kind in ("file_option", "prefix_option"):
-        return Argument(kind, words[0], {"file_option": "FILE", "prefix_option": "PREFIX"}[kind], words[1])
-    if kind in ("word_option", "needed_option", "number_option", "word_argument"):
+    if kind in ("word", "needed", "place"):
         return Argument(kind, *words)
     raise ValueError(f"what {kind} makes is not known here")
 
 
-def command_of(name, body, bodies):
-    """The subcommand that a part of a function's body makes; the body may begin with that of another function."""
-    command, constants = Command(name, "", "", []), body.constants
-    for other in re.findall(r"(\w+)\(alloc\)\?\s*\.arg", body.text):
-        command = command_of(name, bodies[other], bodies)
-    for call in CALL.finditer(body.text):
-        inside = body.text[call.end():closing(body.text, call.end())]
-        if call[1] == "about":
-            command.about, = values(inside, constants)
-        elif call[1] == "after_help":
-            command.notes, = values(inside, constants)
-        elif call[1] == "arg":
-            command.arguments.append(argument_of(inside, constants))
-    return command
-
-
-def read_bodies():
-    """The functions that make commands, by their names."""
-    bodies = {}
-    for path in sorted(SOURCES.glob("*.rt")):
-        text = path.read_text()
-        constants = {name: unquoted(string) for name, string in CONSTANT.findall(text)}
-        bodies |= {name: Body(body, constants) for name, body in COMMAND.findall(text)}
-    return bodies
+def command_of(name, text, tables, constants):
+    """The subcommand whose row has these fields."""
+    about, = values(re.search(rf"about: ({TEXT})", text, re.S)[1], constants)
+    notes = re.search(r"notes: Some\((\w+)\)", text)
+    table = re.search(r"arguments: &(\w+)", text)
+    arguments = ARGUMENT.finditer(tables[table[1]]) if table else []
+    return Command(name, about, constants[notes[1]] if notes else "",
+                   [argument_of(each[1], each[2], constants) for each in arguments])
 
 
 def read_commands():
     """What the program says of itself, and its subcommands in the order of its help."""
-    bodies = read_bodies()
-
-    def joined(body):
-        names = []
-        for found in JOINED.finditer(body.text):
-            if found[1]:
-                names += joined(bodies[f"{found[1]}_commands"])
-            else:
-                names.append(found[2] or "rpc")
-        return names
-
-    first = bodies["first_commands"]
-    of_rpc, of_all = (Body(text, first.constants) for text in re.split(r'(?<=new\(alloc, )(?="nfsacc")', first.text))
-    commands = [command_of(name, of_rpc if name == "rpc" else bodies[f"{name}_command"], bodies)
-                for name in joined(bodies["commands"])]
-    return command_of("nfsacc", of_all, bodies), commands
+    rows, own = {}, None
+    for path in sorted(SOURCES.glob("*.rt")):
+        text = path.read_text()
+        constants = {name: unquoted(string) for name, string in CONSTANT.findall(text)}
+        tables = dict(ARGUMENTS.findall(text))
+        rows |= {name: command_of(name, fields, tables, constants) for name, fields in ROW.findall(text)}
+        own = COMMANDS.search(text) or own
+    about = unquoted(re.search(rf"\.about\(\s*{TEXT}", own[1], re.S)[1])
+    return Command("nfsacc", about, "", []), [rows[name] for name in re.findall(r"(\w+)_row\(\)", own[1])]
 
 
 def synopsis(command):

@@ -1,5 +1,5 @@
 -- What the matches of these commands ask for. Serves: hosts_request_in.
-use Rattle.std.proofs.Common.{◌≡◌, ◌∙◌, true, List, [], Option, Some, codes, refl, sym, ap, unwrap_or}
+use Rattle.std.proofs.Common.{◌≡◌, ◌∙◌, true, List, [], Some, codes, refl, sym, ap, unwrap_or}
 use Rattle.clap.specs.Walk.{Row, Text, first_of}
 use Rattle.clap.specs.Simple.{subcommand_of}
 use Rattle.clap.specs.Faults.{fault_of}

@@ -1,11 +1,11 @@
 -- What the matches of these commands ask for. Serves: keys_request_in.
-use Rattle.std.proofs.Common.{◌≡◌, ◌∙◌, List, [], Option, Some, codes, refl, sym, ap, unwrap_or}
+use Rattle.std.proofs.Common.{◌≡◌, ◌∙◌, List, [], Some, codes, refl, sym, ap, unwrap_or}
 use Rattle.clap.specs.Walk.{Row, Text, first_of}
 use Rattle.clap.specs.Simple.{subcommand_of}
 use Rattle.clap.specs.Faults.{fault_of}
 use Rattle.command_line.specs.CommandLine.{Secret, Member, Rosters, asked_in, commands}
 use Rattle.command_line.specs.Keys.{MemberAsked, member_asked, RostersAsked, rosters_asked}
-use Rattle.command_line.proofs.Asked.{are_plain, asked_is}
+use Rattle.command_line.proofs.Asked.{asked_is}
 
 -- `secret` asks for the name that its matches hold
 pub secret_is : (words : List Text) (rows : List Row) (name : Text) → fault_of commands words ≡ []

@@ -1,5 +1,5 @@
 -- The numbers, the addresses and the lists in what a party on a host of its own is asked.
-use Rattle.std.specs.Prelude.{◌≡◌, ℕ, Option, Some, None, IfSome, IsSome, map, option_map}
+use Rattle.std.specs.Prelude.{◌≡◌, Option, Some, None, IfSome, IsSome, map, option_map}
 use Rattle.std.specs.Net.Addr.{IsLoopbackV4, IsLoopbackV6}
 use Rattle.std.specs.Net.Grammar.{IsSocketText}
 use Rattle.std.specs.declared.net.socket_addr.SocketAddr.{SocketAddr}

@@ -1,5 +1,5 @@
 -- What the words after `server`, `gateway`, `witness`, `ask`, `stop` and `status` ask for.
-use Rattle.std.specs.Prelude.{Bool, List, [], ◌∷◌, Option, codes, option_map, unwrap_or}
+use Rattle.std.specs.Prelude.{Bool, List, [], ◌∷◌, Option, codes}
 use Rattle.clap.specs.Walk.{Row, Text, first_of}
 use Rattle.clap.specs.Simple.{App, new_app, with_rule}
 use Rattle.command_line.specs.Serve.{is_flag_set, flag_option, needed_option, word_argument, word_in}

@@ -1,5 +1,5 @@
 -- What the words after `secret`, `member` and `rosters` ask for.
-use Rattle.std.specs.Prelude.{List, [], ◌∷◌, Option, codes, unwrap_or}
+use Rattle.std.specs.Prelude.{List, [], ◌∷◌, Option, codes}
 use Rattle.clap.specs.Walk.{Row, Text, first_of}
 use Rattle.clap.specs.Simple.{App, new_app, with_rule}
 use Rattle.command_line.specs.Serve.{needed_option, word_argument, word_in, word_option}

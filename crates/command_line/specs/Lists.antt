@@ -1,5 +1,5 @@
 -- Lists in words, with commas between their items.
-use Rattle.std.specs.Prelude.{◌≡◌, ◌==◌, ◌<◌, ⊤, ℕ, List, [], ◌∷◌, Option, Some, None, length, option_map}
+use Rattle.std.specs.Prelude.{◌≡◌, ◌==◌, ◌<◌, ⊤, List, [], ◌∷◌, Option, Some, None, length, option_map}
 use Rattle.std.specs.List.{after_first, before_first, position_or_len, slice_split}
 use Rattle.clap.specs.Walk.{Text}
 use Rattle.command_line.specs.ServeOrders.{Writes}

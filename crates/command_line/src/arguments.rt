@@ -1,16 +1,14 @@
-//! The arguments of a command, as rows of a table.
+//! Commands and their arguments, as rows of a table.
 
-ghost use Rattle.std.specs.Prelude.{◌≡◌, IfOk, false, map};
-ghost use Rattle.clap.specs.Words.{app_of, rule_of};
-ghost use Rattle.command_line.specs.Arguments.{row_rule, with_rules};
-ghost use Rattle.command_line.specs.CommandLine.{flag};
-ghost use Rattle.command_line.specs.Serve.{needed_option, word_argument, word_option};
+ghost use Rattle.std.specs.Prelude.{◌≡◌, IfOk, false};
+ghost use Rattle.clap.specs.Words.{app_of, new_app, rule_of};
+ghost use Rattle.command_line.specs.Arguments.{row_app, row_rule, with_commands};
 
 use clap::{Arg, ArgAction, Command};
 use std::alloc::{AllocError, Global};
 
 /// How an argument is given.
-#[derive(Clone, Copy, Debug, PartialEq, Eq)]
+#[derive(Clone, Copy)]
 pub(crate) enum Form {
     /// As `--` and its name.
     Flag,
@@ -23,61 +21,75 @@ pub(crate) enum Form {
 }
 
 /// An argument of a command: how it is given, its name, that of its word, and what its help says.
-#[derive(Clone, Copy, Debug)]
+#[derive(Clone, Copy)]
 pub(crate) struct ArgumentRow<'a> {
-    form: Form,
-    name: &'a str,
-    value: &'a str,
-    help: &'a str,
+    pub(crate) form: Form,
+    pub(crate) name: &'a str,
+    pub(crate) value: &'a str,
+    pub(crate) help: &'a str,
 }
 
-/// A flag.
-pub(crate) fn flag<'a>(name: &'a str, help: &'a str) -> ArgumentRow<'a>
-    ensures { row_rule result ≡ flag name.now }
-{
-    ArgumentRow {
-        form: Form::Flag,
-        name,
-        value: "",
-        help,
-    }
+/// A subcommand: its name, what it does, what its help ends with, and its arguments.
+#[derive(Clone, Copy)]
+pub(crate) struct CommandRow<'a> {
+    pub(crate) name: &'a str,
+    pub(crate) about: &'a str,
+    pub(crate) notes: Option<&'a str>,
+    pub(crate) arguments: &'a [ArgumentRow<'a>],
 }
 
-/// An option with a word after it.
-pub(crate) fn word<'a>(name: &'a str, value: &'a str, help: &'a str) -> ArgumentRow<'a>
-    ensures { row_rule result ≡ word_option name.now }
-{
-    ArgumentRow {
-        form: Form::Word,
-        name,
-        value,
-        help,
-    }
+/// The row of a flag.
+macro_rules! flag {
+    ($name:expr, $help:expr) => {
+        ArgumentRow {
+            form: Form::Flag,
+            name: $name,
+            value: "",
+            help: $help,
+        }
+    };
 }
 
-/// An option that must be given, with a word after it.
-pub(crate) fn needed<'a>(name: &'a str, value: &'a str, help: &'a str) -> ArgumentRow<'a>
-    ensures { row_rule result ≡ needed_option name.now }
-{
-    ArgumentRow {
-        form: Form::Needed,
-        name,
-        value,
-        help,
-    }
+/// The row of an option with a word after it.
+macro_rules! word {
+    ($name:expr, $value:expr, $help:expr) => {
+        ArgumentRow {
+            form: Form::Word,
+            name: $name,
+            value: $value,
+            help: $help,
+        }
+    };
 }
 
-/// A word that must be given.
-pub(crate) fn place<'a>(name: &'a str, value: &'a str, help: &'a str) -> ArgumentRow<'a>
-    ensures { row_rule result ≡ word_argument name.now }
-{
-    ArgumentRow {
-        form: Form::Place,
-        name,
-        value,
-        help,
-    }
+/// The row of an option that must be given, with a word after it.
+macro_rules! needed {
+    ($name:expr, $value:expr, $help:expr) => {
+        ArgumentRow {
+            form: Form::Needed,
+            name: $name,
+            value: $value,
+            help: $help,
+        }
+    };
 }
+
+/// The row of a word that must be given.
+macro_rules! place {
+    ($name:expr, $value:expr, $help:expr) => {
+        ArgumentRow {
+            form: Form::Place,
+            name: $name,
+            value: $value,
+            help: $help,
+        }
+    };
+}
+
+pub(crate) use flag;
+pub(crate) use needed;
+pub(crate) use place;
+pub(crate) use word;
 
 /// The argument of a row, which isn't one for subcommands.
 fn arg_of<'a>(alloc: Global, row: &ArgumentRow<'a>) -> Arg<'a>
@@ -93,18 +105,40 @@ fn arg_of<'a>(alloc: Global, row: &ArgumentRow<'a>) -> Arg<'a>
     }
 }
 
-/// A command with the arguments of these rows more, in their order. One function adds them all, since the prover's time for a
-/// command grows with the arguments that stand in a function beside it.
-pub(crate) fn with_rows<'a>(
+/// The command of a row, without its arguments.
+fn named<'a>(alloc: Global, row: &CommandRow<'a>) -> Command<'a>
+    ensures { app_of result ≡ new_app row.now.name.now }
+{
+    let command = Command::new(alloc, row.name).about(row.about);
+    match row.notes {
+        Some(notes) => command.after_help(notes),
+        None => command,
+    }
+}
+
+/// The command of a row, with its arguments in their order.
+fn command_of<'a>(alloc: Global, row: &CommandRow<'a>) -> Result<Command<'a>, AllocError>
+    ensures { IfOk result (λ c. app_of c ≡ row_app row.now) }
+{
+    let mut command = named(alloc, row);
+    for argument in row.arguments {
+        command = command.arg(arg_of(alloc, argument))?;
+    }
+    Ok(command)
+}
+
+/// A command with the subcommands of these rows more, in their order. One loop adds them all, since the prover's
+/// time for a function grows with the commands that stand in it.
+pub(crate) fn with_commands<'a>(
     alloc: Global,
     command: Command<'a>,
-    rows: &[ArgumentRow<'a>],
+    rows: &[CommandRow<'a>],
 ) -> Result<Command<'a>, AllocError>
-    ensures { IfOk result (λ c. app_of c ≡ with_rules (app_of command.entry) (map row_rule rows.now)) }
+    ensures { IfOk result (λ c. app_of c ≡ with_commands (app_of command.entry) rows.now) }
 {
     let mut command = command;
     for row in rows {
-        command = command.arg(arg_of(alloc, row))?;
+        command = command.subcommand(command_of(alloc, row)?)?;
     }
     Ok(command)
 }

@@ -15,11 +15,12 @@ use crate::member_numbers::range_within;
 use crate::serve_numbers::number_within;
 use authenticator::MAX_NODE;
 use std::alloc::Global;
+use std::error::Error;
+use std::fmt;
 use std::net::{IpAddr, Ipv4Addr, SocketAddr};
-use thiserror::Error;
 
 /// What `nfsacc server` is asked, with its numbers read.
-#[derive(Clone, Copy, Debug)]
+#[derive(Clone, Copy)]
 pub struct ServerOrder<'a> {
     /// The name of the file with the secret bytes.
     pub secret: &'a str,
@@ -42,7 +43,7 @@ pub struct ServerOrder<'a> {
 }
 
 /// What `nfsacc gateway` is asked, with its numbers read.
-#[derive(Debug, Drop)]
+#[derive(Drop)]
 pub struct GatewayOrder<'a> {
     /// The name of the file with the secret bytes.
     pub secret: &'a str,
@@ -74,7 +75,7 @@ pub struct GatewayOrder<'a> {
 }
 
 /// What `nfsacc witness` is asked, with its numbers read.
-#[derive(Debug, Drop)]
+#[derive(Drop)]
 pub struct WitnessOrder<'a> {
     /// The name of the folder with the rosters.
     pub rosters: &'a str,
@@ -103,7 +104,7 @@ pub struct WitnessOrder<'a> {
 }
 
 /// What `nfsacc ask` is asked, with its numbers read.
-#[derive(Debug, Drop)]
+#[derive(Drop)]
 pub struct AskOrder<'a> {
     /// Where witnesses listen.
     pub witnesses: Vec<&'a str>,
@@ -120,64 +121,83 @@ pub struct AskOrder<'a> {
 }
 
 /// Why what a party on a host of its own is asked makes no order.
-#[derive(Clone, Copy, Debug, PartialEq, Eq, Error)]
+#[derive(Clone, Copy, Debug, PartialEq, Eq)]
 pub enum HostRefusal {
     /// The node's number is no decimal number from 1 to 64.
-    #[error("--node is a number from 1 to 64")]
     Node,
     /// The numbers aren't one decimal number from 1 to 64, or two with `-` between, the second no less than
     /// the first.
-    #[error("--nodes is N or A-B, numbers from 1 to 64")]
     Nodes,
     /// The address that is listened on is none.
-    #[error("--listen is ADDRESS:PORT")]
     Listen,
     /// The address that local programs connect to is one that others reach.
-    #[error("--listen is a loopback address: whoever connects acts as this user")]
     Outside,
     /// The address that witnesses connect to is none.
-    #[error("--audit is ADDRESS:PORT")]
     Audit,
     /// The calls between two CHECKs are no decimal number from 1 to 16,384.
-    #[error("--check-every is a number of calls from 1 to 16384")]
     CheckEvery,
     /// The server isn't a number and where it listens.
-    #[error("--server is N=HOST:PORT, N from 1 to 64")]
     Server,
     /// The witnesses aren't a list of where they listen.
-    #[error("--witness is HOST:PORT, with commas between")]
     Witness,
     /// The servers aren't a list of numbers and where they listen.
-    #[error("--at is N=HOST:PORT, with commas between, N from 1 to 64")]
     At,
     /// The seconds are no decimal number from 1 to 86,400.
-    #[error("--every is a number of seconds from 1 to 86400")]
     Every,
     /// The calls are no decimal number from 0 to 16,384.
-    #[error("--reserve is a number of calls from 0 to 16384")]
     Reserve,
     /// The seconds after which a call is given up are no decimal number from 1 to 4,294,967,295.
-    #[error("--give-up is a number of seconds from 1 to 4294967295")]
     GiveUp,
     /// The seconds are no decimal number from 0 to 86,400.
-    #[error("--patience is a number of seconds from 0 to 86400")]
     Patience,
     /// The seconds for which books stand beside others are no decimal number from 0 to 86,400.
-    #[error("--overlap is a number of seconds from 0 to 86400")]
     Overlap,
     /// The epoch is no decimal number from 1 to 4,294,967,295.
-    #[error("--epoch is a number from 1 to 4294967295")]
     Epoch,
     /// It isn't said where the witnesses listen.
-    #[error("HOST:PORT is a host's name or address, and a port from 1 to 65535, with commas between several")]
     Peer,
     /// Evidence is asked for, and no rosters are named.
-    #[error("--evidence needs --rosters, by which it is judged")]
     Unjudged,
     /// Memory was refused.
-    #[error("out of memory")]
     NoMemory,
 }
+
+impl HostRefusal {
+    /// What is wrong.
+    fn words(self) -> &'static str {
+        match self {
+            HostRefusal::Node => "--node is a number from 1 to 64",
+            HostRefusal::Nodes => "--nodes is N or A-B, numbers from 1 to 64",
+            HostRefusal::Listen => "--listen is ADDRESS:PORT",
+            HostRefusal::Outside =>
+                "--listen is a loopback address: whoever connects acts as this user",
+            HostRefusal::Audit => "--audit is ADDRESS:PORT",
+            HostRefusal::CheckEvery => "--check-every is a number of calls from 1 to 16384",
+            HostRefusal::Server => "--server is N=HOST:PORT, N from 1 to 64",
+            HostRefusal::Witness => "--witness is HOST:PORT, with commas between",
+            HostRefusal::At => "--at is N=HOST:PORT, with commas between, N from 1 to 64",
+            HostRefusal::Every => "--every is a number of seconds from 1 to 86400",
+            HostRefusal::Reserve => "--reserve is a number of calls from 0 to 16384",
+            HostRefusal::GiveUp => "--give-up is a number of seconds from 1 to 4294967295",
+            HostRefusal::Patience => "--patience is a number of seconds from 0 to 86400",
+            HostRefusal::Overlap => "--overlap is a number of seconds from 0 to 86400",
+            HostRefusal::Epoch => "--epoch is a number from 1 to 4294967295",
+            HostRefusal::Peer =>
+                "HOST:PORT is a host's name or address, and a port from 1 to 65535, with commas between several",
+            HostRefusal::Unjudged => "--evidence needs --rosters, by which it is judged",
+            HostRefusal::NoMemory => "out of memory",
+        }
+    }
+}
+
+impl fmt::Display for HostRefusal {
+    /// Writes what is wrong.
+    fn fmt<W: fmt::Write>(&self, f: &mut fmt::Formatter<W>) -> fmt::Result {
+        f.write_str(self.words())
+    }
+}
+
+impl Error for HostRefusal {}
 
 /// The most seconds of an option: a day.
 const MOST_SECONDS: u32 = 86400;

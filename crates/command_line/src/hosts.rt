@@ -1,23 +1,23 @@
 //! What the words after `server`, `gateway`, `witness`, `ask`, `stop` and `status` ask for.
 
-ghost use Rattle.std.specs.Prelude.{◌≡◌, codes, List, ℕ, [], IfNone, IfOk, IfSome, Some, option_map, true};
+ghost use Rattle.std.specs.Prelude.{◌≡◌, codes, List, ℕ, [], IfNone, IfSome, Some, option_map, true};
 ghost use Rattle.std.specs.Prelude.{unwrap_or};
 ghost use Rattle.std.specs.List.{AllByRecursion};
 ghost use Rattle.clap.specs.Faults.{fault_of};
 ghost use Rattle.clap.specs.Walk.{first_of};
-ghost use Rattle.clap.specs.Words.{app_of, subcommand_name_of, subcommand_of, subcommand_rows_of};
+ghost use Rattle.clap.specs.Words.{subcommand_name_of, subcommand_of, subcommand_rows_of};
 ghost use Rattle.command_line.specs.CommandLine.{asked_by, asked_in, commands, is_set, is_told, rows_in};
+ghost use Rattle.command_line.specs.Arguments.{row_app};
 ghost use Rattle.command_line.specs.Hosts.{ask_command, gateway_command, hosts_names, server_command};
 ghost use Rattle.command_line.specs.Hosts.{status_command, stop_command, witness_command};
 
-use crate::arguments::{flag, needed, place, with_rows, word};
+use crate::arguments::{ArgumentRow, CommandRow, Form, flag, needed, place, word};
 use crate::request::{Request, flag_of, text_of};
 use crate::serve::word_of;
-use clap::{ArgMatches, Command};
-use std::alloc::{AllocError, Global};
+use clap::ArgMatches;
 
 /// What `nfsacc server` is asked, word by word.
-#[derive(Clone, Copy, Debug, PartialEq, Eq)]
+#[derive(Clone, Copy)]
 pub struct ServerRequest<'a> {
     /// The name of the file with the secret bytes.
     pub secret: &'a str,
@@ -40,7 +40,7 @@ pub struct ServerRequest<'a> {
 }
 
 /// What `nfsacc gateway` is asked, word by word.
-#[derive(Clone, Copy, Debug, PartialEq, Eq)]
+#[derive(Clone, Copy)]
 pub struct GatewayRequest<'a> {
     /// The name of the file with the secret bytes.
     pub secret: &'a str,
@@ -69,7 +69,7 @@ pub struct GatewayRequest<'a> {
 }
 
 /// What `nfsacc witness` is asked, word by word.
-#[derive(Clone, Copy, Debug, PartialEq, Eq)]
+#[derive(Clone, Copy)]
 pub struct WitnessRequest<'a> {
     /// The name of the folder with the rosters.
     pub rosters: &'a str,
@@ -98,7 +98,7 @@ pub struct WitnessRequest<'a> {
 }
 
 /// What `nfsacc ask` is asked, word by word.
-#[derive(Clone, Copy, Debug, PartialEq, Eq)]
+#[derive(Clone, Copy)]
 pub struct AskRequest<'a> {
     /// The name of the folder with the rosters, if one is named.
     pub rosters: Option<&'a str>,
@@ -229,124 +229,136 @@ log that was audited to, and the memory.
 
 Statuses: 0 done, 2 the command line, 3 no memory, 4 nobody answers";
 
-/// The subcommand `server`.
-pub(crate) fn server_command<'a>(alloc: Global) -> Result<Command<'a>, AllocError>
-    ensures { IfOk result (λ c. app_of c ≡ server_command) }
+/// The arguments of `server`.
+static SERVER_ARGUMENTS: [ArgumentRow<'static>; 9] = [
+    needed!("secret", "FILE", SERVER_SECRET_HELP),
+    needed!("rosters", "DIR", SERVER_ROSTERS_HELP),
+    needed!("state", "DIR", SERVER_STATE_HELP),
+    needed!("node", "N", SERVER_NODE_HELP),
+    needed!("listen", "ADDRESS:PORT", SERVER_LISTEN_HELP),
+    word!("audit", "ADDRESS:PORT", SERVER_AUDIT_HELP),
+    word!("check-every", "N", SERVER_CHECK_EVERY_HELP),
+    flag!("progress", SERVER_PROGRESS_HELP),
+    word!("log-file", "FILE", LOG_FILE_HELP),
+];
+
+/// The row of the subcommand `server`.
+pub(crate) fn server_row() -> CommandRow<'static>
+    ensures { row_app result ≡ server_command }
 {
-    with_rows(
-        alloc,
-        Command::new(alloc, "server")
-            .about("Serves the files of a node to gateways, and its log to witnesses")
-            .after_help(STATUSES),
-        &[
-            needed("secret", "FILE", SERVER_SECRET_HELP),
-            needed("rosters", "DIR", SERVER_ROSTERS_HELP),
-            needed("state", "DIR", SERVER_STATE_HELP),
-            needed("node", "N", SERVER_NODE_HELP),
-            needed("listen", "ADDRESS:PORT", SERVER_LISTEN_HELP),
-            word("audit", "ADDRESS:PORT", SERVER_AUDIT_HELP),
-            word("check-every", "N", SERVER_CHECK_EVERY_HELP),
-            flag("progress", SERVER_PROGRESS_HELP),
-            word("log-file", "FILE", LOG_FILE_HELP),
-        ],
-    )
+    CommandRow {
+        name: "server",
+        about: "Serves the files of a node to gateways, and its log to witnesses",
+        notes: Some(STATUSES),
+        arguments: &SERVER_ARGUMENTS,
+    }
 }
 
-/// The subcommand `gateway`.
-pub(crate) fn gateway_command<'a>(alloc: Global) -> Result<Command<'a>, AllocError>
-    ensures { IfOk result (λ c. app_of c ≡ gateway_command) }
+/// The arguments of `gateway`.
+static GATEWAY_ARGUMENTS: [ArgumentRow<'static>; 12] = [
+    needed!("secret", "FILE", GATEWAY_SECRET_HELP),
+    needed!("nodes", "A-B", GATEWAY_NODES_HELP),
+    needed!("server", "N=HOST:PORT", GATEWAY_SERVER_HELP),
+    needed!("rosters", "DIR", GATEWAY_ROSTERS_HELP),
+    needed!("state", "DIR", GATEWAY_STATE_HELP),
+    word!("witness", "LIST", GATEWAY_WITNESS_HELP),
+    word!("listen", "ADDRESS:PORT", GATEWAY_LISTEN_HELP),
+    word!("every", "SECONDS", GATEWAY_EVERY_HELP),
+    word!("reserve", "CALLS", GATEWAY_RESERVE_HELP),
+    word!("give-up", "SECONDS", GATEWAY_GIVE_UP_HELP),
+    flag!("progress", GATEWAY_PROGRESS_HELP),
+    word!("log-file", "FILE", LOG_FILE_HELP),
+];
+
+/// The row of the subcommand `gateway`.
+pub(crate) fn gateway_row() -> CommandRow<'static>
+    ensures { row_app result ≡ gateway_command }
 {
-    with_rows(
-        alloc,
-        Command::new(alloc, "gateway")
-            .about("Lets the programs of this machine use a server by NFS, as nodes of its user")
-            .after_help(STATUSES),
-        &[
-            needed("secret", "FILE", GATEWAY_SECRET_HELP),
-            needed("nodes", "A-B", GATEWAY_NODES_HELP),
-            needed("server", "N=HOST:PORT", GATEWAY_SERVER_HELP),
-            needed("rosters", "DIR", GATEWAY_ROSTERS_HELP),
-            needed("state", "DIR", GATEWAY_STATE_HELP),
-            word("witness", "LIST", GATEWAY_WITNESS_HELP),
-            word("listen", "ADDRESS:PORT", GATEWAY_LISTEN_HELP),
-            word("every", "SECONDS", GATEWAY_EVERY_HELP),
-            word("reserve", "CALLS", GATEWAY_RESERVE_HELP),
-            word("give-up", "SECONDS", GATEWAY_GIVE_UP_HELP),
-            flag("progress", GATEWAY_PROGRESS_HELP),
-            word("log-file", "FILE", LOG_FILE_HELP),
-        ],
-    )
+    CommandRow {
+        name: "gateway",
+        about: "Lets the programs of this machine use a server by NFS, as nodes of its user",
+        notes: Some(STATUSES),
+        arguments: &GATEWAY_ARGUMENTS,
+    }
 }
 
-/// The subcommand `witness`.
-pub(crate) fn witness_command<'a>(alloc: Global) -> Result<Command<'a>, AllocError>
-    ensures { IfOk result (λ c. app_of c ≡ witness_command) }
+/// The arguments of `witness`.
+static WITNESS_ARGUMENTS: [ArgumentRow<'static>; 12] = [
+    needed!("rosters", "DIR", WITNESS_ROSTERS_HELP),
+    needed!("at", "LIST", WITNESS_AT_HELP),
+    needed!("listen", "ADDRESS:PORT", WITNESS_LISTEN_HELP),
+    word!("witness", "LIST", WITNESS_OTHERS_HELP),
+    word!("every", "SECONDS", WITNESS_EVERY_HELP),
+    word!("patience", "SECONDS", WITNESS_PATIENCE_HELP),
+    word!("overlap", "SECONDS", WITNESS_OVERLAP_HELP),
+    word!("evidence", "DIR", WITNESS_EVIDENCE_HELP),
+    word!("epoch", "E", WITNESS_EPOCH_HELP),
+    flag!("join", WITNESS_JOIN_HELP),
+    word!("state", "DIR", WITNESS_STATE_HELP),
+    word!("log-file", "FILE", LOG_FILE_HELP),
+];
+
+/// The row of the subcommand `witness`.
+pub(crate) fn witness_row() -> CommandRow<'static>
+    ensures { row_app result ≡ witness_command }
 {
-    with_rows(
-        alloc,
-        Command::new(alloc, "witness")
-            .about("Audits servers and gateways, and says what it knows of them")
-            .after_help(STATUSES),
-        &[
-            needed("rosters", "DIR", WITNESS_ROSTERS_HELP),
-            needed("at", "LIST", WITNESS_AT_HELP),
-            needed("listen", "ADDRESS:PORT", WITNESS_LISTEN_HELP),
-            word("witness", "LIST", WITNESS_OTHERS_HELP),
-            word("every", "SECONDS", WITNESS_EVERY_HELP),
-            word("patience", "SECONDS", WITNESS_PATIENCE_HELP),
-            word("overlap", "SECONDS", WITNESS_OVERLAP_HELP),
-            word("evidence", "DIR", WITNESS_EVIDENCE_HELP),
-            word("epoch", "E", WITNESS_EPOCH_HELP),
-            flag("join", WITNESS_JOIN_HELP),
-            word("state", "DIR", WITNESS_STATE_HELP),
-            word("log-file", "FILE", LOG_FILE_HELP),
-        ],
-    )
+    CommandRow {
+        name: "witness",
+        about: "Audits servers and gateways, and says what it knows of them",
+        notes: Some(STATUSES),
+        arguments: &WITNESS_ARGUMENTS,
+    }
 }
 
-/// The subcommand `ask`.
-pub(crate) fn ask_command<'a>(alloc: Global) -> Result<Command<'a>, AllocError>
-    ensures { IfOk result (λ c. app_of c ≡ ask_command) }
+/// The arguments of `ask`.
+static ASK_ARGUMENTS: [ArgumentRow<'static>; 5] = [
+    word!("rosters", "DIR", ASK_ROSTERS_HELP),
+    word!("nodes", "A-B", ASK_NODES_HELP),
+    word!("evidence", "DIR", ASK_EVIDENCE_HELP),
+    word!("state", "DIR", ASK_STATE_HELP),
+    place!("witness", "LIST", ASK_WITNESS_HELP),
+];
+
+/// The row of the subcommand `ask`.
+pub(crate) fn ask_row() -> CommandRow<'static>
+    ensures { row_app result ≡ ask_command }
 {
-    with_rows(
-        alloc,
-        Command::new(alloc, "ask")
-            .about("Asks witnesses what they know of nodes")
-            .after_help(ASK_NOTES),
-        &[
-            word("rosters", "DIR", ASK_ROSTERS_HELP),
-            word("nodes", "A-B", ASK_NODES_HELP),
-            word("evidence", "DIR", ASK_EVIDENCE_HELP),
-            word("state", "DIR", ASK_STATE_HELP),
-            place("witness", "LIST", ASK_WITNESS_HELP),
-        ],
-    )
+    CommandRow {
+        name: "ask",
+        about: "Asks witnesses what they know of nodes",
+        notes: Some(ASK_NOTES),
+        arguments: &ASK_ARGUMENTS,
+    }
 }
 
-/// The subcommand `stop`.
-pub(crate) fn stop_command<'a>(alloc: Global) -> Result<Command<'a>, AllocError>
-    ensures { IfOk result (λ c. app_of c ≡ stop_command) }
+/// The arguments of `stop`.
+static STOP_ARGUMENTS: [ArgumentRow<'static>; 1] = [place!("state", "DIR", STOP_STATE_HELP)];
+
+/// The row of the subcommand `stop`.
+pub(crate) fn stop_row() -> CommandRow<'static>
+    ensures { row_app result ≡ stop_command }
 {
-    with_rows(
-        alloc,
-        Command::new(alloc, "stop").about(
-            "Ends the server, the gateway or the witness of a state folder in order",
-        ),
-        &[place("state", "DIR", STOP_STATE_HELP)],
-    )
+    CommandRow {
+        name: "stop",
+        about: "Ends the server, the gateway or the witness of a state folder in order",
+        notes: None,
+        arguments: &STOP_ARGUMENTS,
+    }
 }
 
-/// The subcommand `status`.
-pub(crate) fn status_command<'a>(alloc: Global) -> Result<Command<'a>, AllocError>
-    ensures { IfOk result (λ c. app_of c ≡ status_command) }
+/// The arguments of `status`.
+static STATUS_ARGUMENTS: [ArgumentRow<'static>; 1] = [place!("state", "DIR", STATUS_STATE_HELP)];
+
+/// The row of the subcommand `status`.
+pub(crate) fn status_row() -> CommandRow<'static>
+    ensures { row_app result ≡ status_command }
 {
-    with_rows(
-        alloc,
-        Command::new(alloc, "status")
-            .about("Says how the server, the gateway or the witness of a state folder is")
-            .after_help(STATUS_NOTES),
-        &[place("state", "DIR", STATUS_STATE_HELP)],
-    )
+    CommandRow {
+        name: "status",
+        about: "Says how the server, the gateway or the witness of a state folder is",
+        notes: Some(STATUS_NOTES),
+        arguments: &STATUS_ARGUMENTS,
+    }
 }
 
 /// What `server` is asked.

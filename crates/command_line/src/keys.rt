@@ -1,22 +1,22 @@
 //! What the words after `secret`, `member` and `rosters` ask for.
 
-ghost use Rattle.std.specs.Prelude.{◌≡◌, codes, List, ℕ, [], IfNone, IfOk, IfSome, Some, option_map};
+ghost use Rattle.std.specs.Prelude.{◌≡◌, codes, List, ℕ, [], IfNone, IfSome, Some, option_map};
 ghost use Rattle.std.specs.Prelude.{unwrap_or};
 ghost use Rattle.std.specs.List.{AllByRecursion};
 ghost use Rattle.clap.specs.Faults.{fault_of};
 ghost use Rattle.clap.specs.Walk.{first_of};
-ghost use Rattle.clap.specs.Words.{app_of, subcommand_name_of, subcommand_of, subcommand_rows_of};
+ghost use Rattle.clap.specs.Words.{subcommand_name_of, subcommand_of, subcommand_rows_of};
 ghost use Rattle.command_line.specs.CommandLine.{asked_by, asked_in, commands, rows_in};
+ghost use Rattle.command_line.specs.Arguments.{row_app};
 ghost use Rattle.command_line.specs.Keys.{keys_names, member_command, rosters_command, secret_command};
 
-use crate::arguments::{needed, place, with_rows, word};
+use crate::arguments::{ArgumentRow, CommandRow, Form, needed, place, word};
 use crate::request::{Request, text_of};
 use crate::serve::word_of;
-use clap::{ArgMatches, Command};
-use std::alloc::{AllocError, Global};
+use clap::ArgMatches;
 
 /// What `nfsacc member` is asked, word by word.
-#[derive(Clone, Copy, Debug, PartialEq, Eq)]
+#[derive(Clone, Copy)]
 pub struct MemberRequest<'a> {
     /// The name of the file with the secret bytes.
     pub secret: &'a str,
@@ -33,7 +33,7 @@ pub struct MemberRequest<'a> {
 }
 
 /// What `nfsacc rosters` is asked, word by word.
-#[derive(Clone, Copy, Debug, PartialEq, Eq)]
+#[derive(Clone, Copy)]
 pub struct RostersRequest<'a> {
     /// The name of the folder that the rosters go to.
     pub out: &'a str,
@@ -76,53 +76,59 @@ all parties: evidence counts under a roster whose digest its reader knows.
 
 Statuses: 0 done, 1 a fault in the lines, 2 the command line, 3 no memory, 4 a device";
 
-/// The subcommand `secret`.
-pub(crate) fn secret_command<'a>(alloc: Global) -> Result<Command<'a>, AllocError>
-    ensures { IfOk result (λ c. app_of c ≡ secret_command) }
+/// The arguments of `secret`.
+static SECRET_ARGUMENTS: [ArgumentRow<'static>; 1] = [place!("file", "FILE", SECRET_FILE_HELP)];
+
+/// The row of the subcommand `secret`.
+pub(crate) fn secret_row() -> CommandRow<'static>
+    ensures { row_app result ≡ secret_command }
 {
-    with_rows(
-        alloc,
-        Command::new(alloc, "secret").about(
-            "Makes a file of 32 random bytes, of which all keys of one party are made",
-        ),
-        &[place("file", "FILE", SECRET_FILE_HELP)],
-    )
+    CommandRow {
+        name: "secret",
+        about: "Makes a file of 32 random bytes, of which all keys of one party are made",
+        notes: None,
+        arguments: &SECRET_ARGUMENTS,
+    }
 }
 
-/// The subcommand `member`.
-pub(crate) fn member_command<'a>(alloc: Global) -> Result<Command<'a>, AllocError>
-    ensures { IfOk result (λ c. app_of c ≡ member_command) }
+/// The arguments of `member`.
+static MEMBER_ARGUMENTS: [ArgumentRow<'static>; 6] = [
+    needed!("secret", "FILE", MEMBER_SECRET_HELP),
+    needed!("node", "N", MEMBER_NODE_HELP),
+    needed!("kind", "KIND", MEMBER_KIND_HELP),
+    word!("height", "H", MEMBER_HEIGHT_HELP),
+    word!("epochs", "A-B", MEMBER_EPOCHS_HELP),
+    word!("log-version", "V", MEMBER_LOG_VERSION_HELP),
+];
+
+/// The row of the subcommand `member`.
+pub(crate) fn member_row() -> CommandRow<'static>
+    ensures { row_app result ≡ member_command }
 {
-    with_rows(
-        alloc,
-        Command::new(alloc, "member")
-            .about("Says the keys of a node, a line for each epoch")
-            .after_help(MEMBER_NOTES),
-        &[
-            needed("secret", "FILE", MEMBER_SECRET_HELP),
-            needed("node", "N", MEMBER_NODE_HELP),
-            needed("kind", "KIND", MEMBER_KIND_HELP),
-            word("height", "H", MEMBER_HEIGHT_HELP),
-            word("epochs", "A-B", MEMBER_EPOCHS_HELP),
-            word("log-version", "V", MEMBER_LOG_VERSION_HELP),
-        ],
-    )
+    CommandRow {
+        name: "member",
+        about: "Says the keys of a node, a line for each epoch",
+        notes: Some(MEMBER_NOTES),
+        arguments: &MEMBER_ARGUMENTS,
+    }
 }
 
-/// The subcommand `rosters`.
-pub(crate) fn rosters_command<'a>(alloc: Global) -> Result<Command<'a>, AllocError>
-    ensures { IfOk result (λ c. app_of c ≡ rosters_command) }
+/// The arguments of `rosters`.
+static ROSTERS_ARGUMENTS: [ArgumentRow<'static>; 2] = [
+    needed!("out", "DIR", ROSTERS_OUT_HELP),
+    place!("file", "FILE", ROSTERS_FILE_HELP),
+];
+
+/// The row of the subcommand `rosters`.
+pub(crate) fn rosters_row() -> CommandRow<'static>
+    ensures { row_app result ≡ rosters_command }
 {
-    with_rows(
-        alloc,
-        Command::new(alloc, "rosters")
-            .about("Makes the roster of each epoch of the parties' member lines")
-            .after_help(ROSTERS_NOTES),
-        &[
-            needed("out", "DIR", ROSTERS_OUT_HELP),
-            place("file", "FILE", ROSTERS_FILE_HELP),
-        ],
-    )
+    CommandRow {
+        name: "rosters",
+        about: "Makes the roster of each epoch of the parties' member lines",
+        notes: Some(ROSTERS_NOTES),
+        arguments: &ROSTERS_ARGUMENTS,
+    }
 }
 
 /// What `member` is asked.

@@ -8,7 +8,7 @@ use authenticator::MAX_NODE;
 use std::alloc::Global;
 
 /// A party on a host of its own.
-#[derive(Clone, Copy, Debug, PartialEq, Eq)]
+#[derive(Clone, Copy)]
 pub struct Peer<'a> {
     /// Its number, from 1 to 64.
     pub node: u32,
@@ -17,7 +17,7 @@ pub struct Peer<'a> {
 }
 
 /// Why a word is no list.
-#[derive(Clone, Copy, Debug, PartialEq, Eq)]
+#[derive(Clone, Copy)]
 pub(crate) enum ListFault {
     /// One of its items isn't what it must be.
     Bad,

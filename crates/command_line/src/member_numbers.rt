@@ -10,10 +10,11 @@ ghost use Rattle.command_line.specs.ServeOrders.{IsNotWithin, WritesOr};
 use crate::keys::MemberRequest;
 use crate::serve_numbers::number_within;
 use authenticator::{Kind, LogVersion, MAX_NODE};
-use thiserror::Error;
+use std::error::Error;
+use std::fmt;
 
 /// What `nfsacc member` is asked, with its numbers read.
-#[derive(Clone, Copy, Debug, PartialEq, Eq)]
+#[derive(Clone, Copy)]
 pub struct MemberOrder<'a> {
     /// The name of the file with the secret bytes.
     pub secret: &'a str,
@@ -32,25 +33,42 @@ pub struct MemberOrder<'a> {
 }
 
 /// Why what `member` is asked makes no order.
-#[derive(Clone, Copy, Debug, PartialEq, Eq, Error)]
+#[derive(Clone, Copy, Debug, PartialEq, Eq)]
 pub enum MemberRefusal {
     /// The node's number is no decimal number from 1 to 64.
-    #[error("--node is a number from 1 to 64")]
     Node,
     /// The kind is neither `server` nor `client`.
-    #[error("--kind is server or client")]
     Kind,
     /// The height is no decimal number from 1 to 16.
-    #[error("--height is a number from 1 to 16")]
     Height,
     /// The epochs aren't one decimal number from 1 to 4,294,967,295, or two with `-` between, the second no
     /// less than the first.
-    #[error("--epochs is E or A-B, numbers from 1 to 4294967295")]
     Epochs,
     /// The version of the log is neither 1 nor 2.
-    #[error("--log-version is 1 or 2")]
     LogVersion,
 }
+
+impl MemberRefusal {
+    /// What is wrong.
+    fn words(self) -> &'static str {
+        match self {
+            MemberRefusal::Node => "--node is a number from 1 to 64",
+            MemberRefusal::Kind => "--kind is server or client",
+            MemberRefusal::Height => "--height is a number from 1 to 16",
+            MemberRefusal::Epochs => "--epochs is E or A-B, numbers from 1 to 4294967295",
+            MemberRefusal::LogVersion => "--log-version is 1 or 2",
+        }
+    }
+}
+
+impl fmt::Display for MemberRefusal {
+    /// Writes what is wrong.
+    fn fmt<W: fmt::Write>(&self, f: &mut fmt::Formatter<W>) -> fmt::Result {
+        f.write_str(self.words())
+    }
+}
+
+impl Error for MemberRefusal {}
 
 /// The greatest height of a tree of keys.
 const MOST_HEIGHT: u32 = 16;

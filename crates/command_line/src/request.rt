@@ -6,33 +6,33 @@ ghost use Rattle.std.specs.Prelude.{ℕ, List, [], true, false, unwrap_or, optio
 ghost use Rattle.clap.specs.Faults.{fault_of};
 ghost use Rattle.clap.specs.Kinds.{FailsBy};
 ghost use Rattle.clap.specs.Walk.{first_of};
-ghost use Rattle.clap.specs.Words.{App, app_of, kind_of, subcommand_name_of, subcommand_of};
-ghost use Rattle.clap.specs.Words.{subcommand_rows_of, with_subcommand};
+ghost use Rattle.clap.specs.Words.{app_of, kind_of, subcommand_name_of, subcommand_of};
+ghost use Rattle.clap.specs.Words.{subcommand_rows_of};
 ghost use Rattle.std.specs.List.{AllByRecursion};
-ghost use Rattle.command_line.specs.CommandLine.{commands, base_command, check_command, first_commands};
-ghost use Rattle.command_line.specs.CommandLine.{keys_commands, roster_command};
+ghost use Rattle.command_line.specs.Arguments.{row_app};
+ghost use Rattle.command_line.specs.CommandLine.{base_command, check_command, commands, roster_command};
+ghost use Rattle.command_line.specs.CommandLine.{rpc_command, run_command};
 ghost use Rattle.command_line.specs.Keys.{keys_names};
 ghost use Rattle.command_line.specs.Hosts.{hosts_names};
-ghost use Rattle.command_line.specs.CommandLine.{run_command};
 ghost use Rattle.command_line.specs.CommandLine.{asked_by, asked_in};
 ghost use Rattle.command_line.specs.CommandLine.{is_set, is_told, rows_in};
 
-use crate::arguments::{flag, place, with_rows, word};
+use crate::arguments::{ArgumentRow, CommandRow, Form, flag, place, with_commands, word};
 use crate::hosts::{
-    AskRequest, GatewayRequest, ServerRequest, WitnessRequest, ask_command, gateway_command,
-    hosts_request_in, server_command, status_command, stop_command, witness_command,
+    AskRequest, GatewayRequest, ServerRequest, WitnessRequest, ask_row, gateway_row,
+    hosts_request_in, server_row, status_row, stop_row, witness_row,
 };
 use crate::keys::{
-    MemberRequest, RostersRequest, keys_request_in, member_command, rosters_command, secret_command,
+    MemberRequest, RostersRequest, keys_request_in, member_row, rosters_row, secret_row,
 };
-use crate::serve::{ServeRequest, serve_command, serve_request};
+use crate::serve::{ServeRequest, serve_request, serve_row};
 use clap::error::ErrorKind;
 use clap::{ArgMatches, Command, Error};
 use shown_names::VERSION;
 use std::alloc::{AllocError, Global};
 
 /// What the command line asks for.
-#[derive(Clone, Copy, Debug, PartialEq, Eq)]
+#[derive(Clone, Copy)]
 pub enum Request<'a> {
     /// `nfsacc rpc`: records from standard input, replies to standard output.
     Rpc,
@@ -68,7 +68,7 @@ pub enum Request<'a> {
 }
 
 /// What `nfsacc check` is asked.
-#[derive(Clone, Copy, Debug, PartialEq, Eq)]
+#[derive(Clone, Copy)]
 pub struct CheckRequest<'a> {
     /// The name of the file; `-` is standard input.
     pub file: &'a str,
@@ -85,7 +85,7 @@ pub struct CheckRequest<'a> {
 }
 
 /// What `nfsacc run` is asked.
-#[derive(Clone, Copy, Debug, PartialEq, Eq)]
+#[derive(Clone, Copy)]
 pub struct RunRequest<'a> {
     /// The name of the script's file; `-` is standard input.
     pub file: &'a str,
@@ -148,87 +148,91 @@ const BASE_OUT_HELP: &str =
 const BASE_IN_HELP: &str =
     "Lets the first witness begin at the base in this file, which stands after a roster there";
 
-/// The subcommand `check`.
-fn check_command<'a>(alloc: Global) -> Result<Command<'a>, AllocError>
-    ensures { IfOk result (λ c. app_of c ≡ check_command) }
+/// The row of the subcommand `rpc`.
+fn rpc_row() -> CommandRow<'static>
+    ensures { (row_app result).top ≡ rpc_command }
 {
-    with_rows(
-        alloc,
-        Command::new(alloc, "check")
-            .about("Says whether a file is evidence that its roster accepts")
-            .after_help(CHECK_NOTES),
-        &[
-            flag("explain", "Says what the file shows, too"),
-            flag("entries", ENTRIES_HELP),
-            word("state", "K", STATE_HELP),
-            flag("json", "Says all of it as one JSON object"),
-            word("roster", "FILE", TRUSTED_HELP),
-            place("file", "FILE", CHECKED_HELP),
-        ],
-    )
+    CommandRow {
+        name: "rpc",
+        about: "Answers the RPC records of standard input on standard output, as the server of node 1",
+        notes: None,
+        arguments: &[],
+    }
 }
 
-/// The subcommand `roster`.
-fn roster_command<'a>(alloc: Global) -> Result<Command<'a>, AllocError>
-    ensures { IfOk result (λ c. app_of c ≡ roster_command) }
+/// The arguments of `check`.
+static CHECK_ARGUMENTS: [ArgumentRow<'static>; 6] = [
+    flag!("explain", "Says what the file shows, too"),
+    flag!("entries", ENTRIES_HELP),
+    word!("state", "K", STATE_HELP),
+    flag!("json", "Says all of it as one JSON object"),
+    word!("roster", "FILE", TRUSTED_HELP),
+    place!("file", "FILE", CHECKED_HELP),
+];
+
+/// The row of the subcommand `check`.
+fn check_row() -> CommandRow<'static>
+    ensures { row_app result ≡ check_command }
 {
-    with_rows(
-        alloc,
-        Command::new(alloc, "roster").about(
-            "Says whose keys a roster has, and the digest of its text",
-        ),
-        &[place("file", "FILE", ROSTER_HELP)],
-    )
+    CommandRow {
+        name: "check",
+        about: "Says whether a file is evidence that its roster accepts",
+        notes: Some(CHECK_NOTES),
+        arguments: &CHECK_ARGUMENTS,
+    }
 }
 
-/// The subcommand `base`.
-fn base_command<'a>(alloc: Global) -> Result<Command<'a>, AllocError>
-    ensures { IfOk result (λ c. app_of c ≡ base_command) }
+/// The arguments of `roster`.
+static ROSTER_ARGUMENTS: [ArgumentRow<'static>; 1] = [place!("file", "FILE", ROSTER_HELP)];
+
+/// The row of the subcommand `roster`.
+fn roster_row() -> CommandRow<'static>
+    ensures { row_app result ≡ roster_command }
 {
-    with_rows(
-        alloc,
-        Command::new(alloc, "base")
-            .about("Says whether a file has a base that is good under its roster")
-            .after_help(BASE_NOTES),
-        &[place("file", "FILE", BASE_HELP)],
-    )
+    CommandRow {
+        name: "roster",
+        about: "Says whose keys a roster has, and the digest of its text",
+        notes: None,
+        arguments: &ROSTER_ARGUMENTS,
+    }
 }
 
-/// The subcommand `run`.
-fn run_command<'a>(alloc: Global) -> Result<Command<'a>, AllocError>
-    ensures { IfOk result (λ c. app_of c ≡ run_command) }
+/// The arguments of `base`.
+static BASE_ARGUMENTS: [ArgumentRow<'static>; 1] = [place!("file", "FILE", BASE_HELP)];
+
+/// The row of the subcommand `base`.
+fn base_row() -> CommandRow<'static>
+    ensures { row_app result ≡ base_command }
 {
-    with_rows(
-        alloc,
-        Command::new(alloc, "run")
-            .about(
-                "Runs a script of nodes, lies, forks and audits; `-` reads it from standard input",
-            )
-            .after_help(RUN_EXAMPLE),
-        &[
-            word("roster-out", "FILE", ROSTER_OUT_HELP),
-            word("base-out", "PREFIX", BASE_OUT_HELP),
-            word("base", "FILE", BASE_IN_HELP),
-            place(
-                "file",
-                "FILE",
-                "The script; `-` reads it from standard input",
-            ),
-        ],
-    )
+    CommandRow {
+        name: "base",
+        about: "Says whether a file has a base that is good under its roster",
+        notes: Some(BASE_NOTES),
+        arguments: &BASE_ARGUMENTS,
+    }
 }
 
-/// A command with one subcommand more.
-fn with_subcommand<'a>(
-    command: Command<'a>,
-    more: Result<Command<'a>, AllocError>,
-) -> Result<Command<'a>, AllocError>
-    ensures { (a b : App) → app_of command.entry ≡ a → IfOk more.entry (λ m. app_of m ≡ b) →
-        b.top.is_plain ≡ true → IfOk result (λ r. app_of r ≡ with_subcommand a b.top) }
+/// The arguments of `run`.
+static RUN_ARGUMENTS: [ArgumentRow<'static>; 4] = [
+    word!("roster-out", "FILE", ROSTER_OUT_HELP),
+    word!("base-out", "PREFIX", BASE_OUT_HELP),
+    word!("base", "FILE", BASE_IN_HELP),
+    place!(
+        "file",
+        "FILE",
+        "The script; `-` reads it from standard input"
+    ),
+];
+
+/// The row of the subcommand `run`.
+fn run_row() -> CommandRow<'static>
+    ensures { row_app result ≡ run_command }
 {
-    match more {
-        Ok(more) => command.subcommand(more),
-        Err(error) => Err(error),
+    CommandRow {
+        name: "run",
+        about: "Runs a script of nodes, lies, forks and audits; `-` reads it from standard input",
+        notes: Some(RUN_EXAMPLE),
+        arguments: &RUN_ARGUMENTS,
     }
 }
 
@@ -236,43 +240,29 @@ fn with_subcommand<'a>(
 fn commands<'a>(alloc: Global) -> Result<Command<'a>, AllocError>
     ensures { IfOk result (λ c. app_of c ≡ commands) }
 {
-    let nfsacc = keys_commands(alloc)?;
-    let nfsacc = with_subcommand(nfsacc, server_command(alloc))?;
-    let nfsacc = with_subcommand(nfsacc, gateway_command(alloc))?;
-    let nfsacc = with_subcommand(nfsacc, witness_command(alloc))?;
-    let nfsacc = with_subcommand(nfsacc, ask_command(alloc))?;
-    let nfsacc = with_subcommand(nfsacc, stop_command(alloc))?;
-    with_subcommand(nfsacc, status_command(alloc))
-}
-
-/// The same without the commands of parties on hosts of their own.
-fn keys_commands<'a>(alloc: Global) -> Result<Command<'a>, AllocError>
-    ensures { IfOk result (λ c. app_of c ≡ keys_commands) }
-{
-    let nfsacc = first_commands(alloc)?;
-    let nfsacc = with_subcommand(nfsacc, secret_command(alloc))?;
-    let nfsacc = with_subcommand(nfsacc, member_command(alloc))?;
-    with_subcommand(nfsacc, rosters_command(alloc))
-}
-
-/// The same without those of keys, too.
-fn first_commands<'a>(alloc: Global) -> Result<Command<'a>, AllocError>
-    ensures { IfOk result (λ c. app_of c ≡ first_commands) }
-{
-    let rpc = Command::new(alloc, "rpc").about(
-        "Answers the RPC records of standard input on standard output, as the server of node 1",
-    );
     let nfsacc = Command::new(alloc, "nfsacc")
         .version(VERSION)
         .about("An accountable file service: NFS version 2 whose servers can be held to account")
         .subcommand_required(true)
-        .arg_required_else_help(true)
-        .subcommand(rpc)?;
-    let nfsacc = with_subcommand(nfsacc, check_command(alloc))?;
-    let nfsacc = with_subcommand(nfsacc, roster_command(alloc))?;
-    let nfsacc = with_subcommand(nfsacc, base_command(alloc))?;
-    let nfsacc = with_subcommand(nfsacc, run_command(alloc))?;
-    with_subcommand(nfsacc, serve_command(alloc))
+        .arg_required_else_help(true);
+    let rows = [
+        rpc_row(),
+        check_row(),
+        roster_row(),
+        base_row(),
+        run_row(),
+        serve_row(),
+        secret_row(),
+        member_row(),
+        rosters_row(),
+        server_row(),
+        gateway_row(),
+        witness_row(),
+        ask_row(),
+        stop_row(),
+        status_row(),
+    ];
+    with_commands(alloc, nfsacc, &rows)
 }
 
 /// The text of an argument that must be given.

@@ -1,18 +1,17 @@
 //! What the words after `serve` ask for.
 
-ghost use Rattle.std.specs.Prelude.{◌≡◌, codes, IfOk, [], true, false, option_map, unwrap_or};
+ghost use Rattle.std.specs.Prelude.{◌≡◌, codes, [], true, false, option_map, unwrap_or};
 ghost use Rattle.clap.specs.Walk.{first_of};
-ghost use Rattle.clap.specs.Words.{app_of};
-ghost use Rattle.command_line.specs.CommandLine.{is_set, is_told, rows_in};
+ghost use Rattle.command_line.specs.Arguments.{row_app};
 ghost use Rattle.command_line.specs.Serve.{serve_command};
+ghost use Rattle.command_line.specs.CommandLine.{is_set, is_told, rows_in};
 
-use crate::arguments::{flag, place, with_rows, word};
+use crate::arguments::{ArgumentRow, CommandRow, Form, flag, place, word};
 use crate::request::{flag_of, text_of};
-use clap::{ArgMatches, Command};
-use std::alloc::{AllocError, Global};
+use clap::ArgMatches;
 
 /// What `nfsacc serve` is asked, word by word. `serve_order` reads the numbers among them.
-#[derive(Clone, Copy, Debug, PartialEq, Eq)]
+#[derive(Clone, Copy)]
 pub struct ServeRequest<'a> {
     /// The port that is listened on; 0 lets the system choose.
     pub port: &'a str,
@@ -122,32 +121,34 @@ nobody but its owner may use it. A signal ends the run at once, and nobody is au
 
 Statuses: 0 done, 1 a fault in the input, 2 the command line, 3 no memory, 4 a device";
 
-/// The subcommand `serve`.
-pub(crate) fn serve_command<'a>(alloc: Global) -> Result<Command<'a>, AllocError>
-    ensures { IfOk result (λ c. app_of c ≡ serve_command) }
+/// The arguments of `serve`.
+static SERVE_ARGUMENTS: [ArgumentRow<'static>; 14] = [
+    word!("address", "ADDRESS", ADDRESS_HELP),
+    word!("server-height", "H", SERVER_HEIGHT_HELP),
+    word!("client-height", "H", CLIENT_HEIGHT_HELP),
+    word!("master", "FILE", MASTER_HELP),
+    word!("roster-out", "FILE", ROSTER_OUT_HELP),
+    word!("evidence", "DIR", EVIDENCE_HELP),
+    word!("control", "DIR", CONTROL_HELP),
+    word!("idle", "SECONDS", IDLE_HELP),
+    word!("log-version", "V", LOG_VERSION_HELP),
+    word!("base-out", "DIR", BASE_OUT_HELP),
+    word!("check-every", "N", CHECK_EVERY_HELP),
+    flag!("progress", PROGRESS_HELP),
+    place!("port", "PORT", PORT_HELP),
+    place!("count", "COUNT", COUNT_HELP),
+];
+
+/// The row of the subcommand `serve`.
+pub(crate) fn serve_row() -> CommandRow<'static>
+    ensures { row_app result ≡ serve_command }
 {
-    with_rows(
-        alloc,
-        Command::new(alloc, "serve")
-            .about("Serves clients over TCP, and audits each of them")
-            .after_help(SERVE_HELP),
-        &[
-            word("address", "ADDRESS", ADDRESS_HELP),
-            word("server-height", "H", SERVER_HEIGHT_HELP),
-            word("client-height", "H", CLIENT_HEIGHT_HELP),
-            word("master", "FILE", MASTER_HELP),
-            word("roster-out", "FILE", ROSTER_OUT_HELP),
-            word("evidence", "DIR", EVIDENCE_HELP),
-            word("control", "DIR", CONTROL_HELP),
-            word("idle", "SECONDS", IDLE_HELP),
-            word("log-version", "V", LOG_VERSION_HELP),
-            word("base-out", "DIR", BASE_OUT_HELP),
-            word("check-every", "N", CHECK_EVERY_HELP),
-            flag("progress", PROGRESS_HELP),
-            place("port", "PORT", PORT_HELP),
-            place("count", "COUNT", COUNT_HELP),
-        ],
-    )
+    CommandRow {
+        name: "serve",
+        about: "Serves clients over TCP, and audits each of them",
+        notes: Some(SERVE_HELP),
+        arguments: &SERVE_ARGUMENTS,
+    }
 }
 
 /// What `serve` is asked.

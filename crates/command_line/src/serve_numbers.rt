@@ -13,11 +13,12 @@ ghost use Rattle.command_line.specs.ServeOrders.{Writes, WritesIf, WritesOr};
 use crate::serve::ServeRequest;
 use authenticator::LogVersion;
 use serve_options::{Heights, ServeOptions};
+use std::error::Error;
+use std::fmt;
 use std::net::{IpAddr, Ipv4Addr};
-use thiserror::Error;
 
 /// What `nfsacc serve` is asked, with its numbers read.
-#[derive(Clone, Copy, Debug, PartialEq, Eq)]
+#[derive(Clone, Copy)]
 pub struct ServeOrder<'a> {
     /// The port that is listened on; 0 lets the system choose.
     pub port: u16,
@@ -33,36 +34,54 @@ pub struct ServeOrder<'a> {
 }
 
 /// Why what `serve` is asked makes no order.
-#[derive(Clone, Copy, Debug, PartialEq, Eq, Error)]
+#[derive(Clone, Copy, Debug, PartialEq, Eq)]
 pub enum ServeRefusal {
     /// The port is no decimal number from 0 to 65,535.
-    #[error("PORT is a number from 0 to 65535")]
     Port,
     /// The count of connections is no decimal number from 1 to 16.
-    #[error("COUNT is a number from 1 to 16")]
     Count,
     /// The height of the server's tree of keys is no decimal number from 1 to 15.
-    #[error("--server-height is a number from 1 to 15")]
     ServerHeight,
     /// The height of each client's tree of keys is no decimal number from 1 to 15.
-    #[error("--client-height is a number from 1 to 15")]
     ClientHeight,
     /// The seconds that a connection may be silent are no decimal number from 1 to 86,400.
-    #[error("--idle is a number of seconds from 1 to 86400")]
     Idle,
     /// The version of the logs is neither 1 nor 2.
-    #[error("--log-version is 1 or 2")]
     LogVersion,
     /// The calls between two CHECKs are no decimal number from 1 to 16,384.
-    #[error("--check-every is a number of calls from 1 to 16384")]
     CheckEvery,
     /// The address is none.
-    #[error("--address is an IP address")]
     Address,
     /// Others reach the address, and the keys are made of nothing secret.
-    #[error("an --address that others reach wants --master: without it anybody can sign for each node")]
     Unguarded,
 }
+
+impl ServeRefusal {
+    /// What is wrong.
+    fn words(self) -> &'static str {
+        match self {
+            ServeRefusal::Port => "PORT is a number from 0 to 65535",
+            ServeRefusal::Count => "COUNT is a number from 1 to 16",
+            ServeRefusal::ServerHeight => "--server-height is a number from 1 to 15",
+            ServeRefusal::ClientHeight => "--client-height is a number from 1 to 15",
+            ServeRefusal::Idle => "--idle is a number of seconds from 1 to 86400",
+            ServeRefusal::LogVersion => "--log-version is 1 or 2",
+            ServeRefusal::CheckEvery => "--check-every is a number of calls from 1 to 16384",
+            ServeRefusal::Address => "--address is an IP address",
+            ServeRefusal::Unguarded =>
+                "an --address that others reach wants --master: without it anybody can sign for each node",
+        }
+    }
+}
+
+impl fmt::Display for ServeRefusal {
+    /// Writes what is wrong.
+    fn fmt<W: fmt::Write>(&self, f: &mut fmt::Formatter<W>) -> fmt::Result {
+        f.write_str(self.words())
+    }
+}
+
+impl Error for ServeRefusal {}
 
 /// The most connections of a run.
 const MOST_CONNECTIONS: u32 = 16;

@@ -1,4 +1,4 @@
-use Rattle.std.proofs.Common.{◌≡◌, Some, None, codes, refl}
+use Rattle.std.proofs.Common.{refl}
 use Rattle.command_line.proofs.Asked.{found_is}
 use Rattle.command_line.proofs.Named.{not_so}
 use Rattle.command_line.proofs.HostsAsked.{server_is, gateway_is, witness_is, ask_is, status_is, stop_is}

@@ -1,4 +1,4 @@
-use Rattle.std.proofs.Common.{◌≡◌, Some, None, codes, refl}
+use Rattle.std.proofs.Common.{refl}
 use Rattle.command_line.proofs.Asked.{found_is}
 use Rattle.command_line.proofs.Named.{not_so}
 use Rattle.command_line.proofs.KeysAsked.{secret_is, member_is, rosters_is}

@@ -1,5 +1,5 @@
-use Rattle.std.proofs.Common.{◌≡◌, [], subst, sym}
-use Rattle.command_line.specs.Lists.{ArePeers, items_of, left_of}
+use Rattle.std.proofs.Common.{[], subst, sym}
+use Rattle.command_line.specs.Lists.{ArePeers, items_of}
 use Rattle.command_line.proofs.Items.{read_all, read_more}
 use Rattle.command_line.proofs.lists.peers_of.Goals as goal
 

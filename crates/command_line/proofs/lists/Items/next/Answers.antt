@@ -1,4 +1,4 @@
-use Rattle.std.proofs.Common.{◌≡◌, ◌∷◌, ◌<◌, [], arith, List, ℕ, length, ap, ◌∙◌, option_map}
+use Rattle.std.proofs.Common.{◌≡◌, ◌<◌, arith, length, ap, ◌∙◌, option_map}
 use Rattle.std.specs.List.{position_or_len, before_first, after_first}
 use Rattle.command_line.specs.Lists.{items_of, items_left, left_of}
 use Rattle.command_line.proofs.Items.{is_comma, more_items, one_item}
