@@ -22,7 +22,7 @@ use std::io::{Read, Write};
 pub(crate) const LONGEST_BASE: usize = 67_309_180;
 
 /// What is said of a file that is to hold a base.
-#[derive(Clone, Copy, Debug, PartialEq, Eq)]
+#[derive(Clone, Copy)]
 pub enum BaseJudgement {
     /// It is a roster's text with that of a base after it, which is good under that roster.
     Base {

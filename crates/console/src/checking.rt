@@ -9,6 +9,10 @@ ghost use Rattle.std.specs.Prelude.{[], None};
 ghost use Rattle.console.specs.declared.checking.Format.TheVariants as Format;
 ghost use Rattle.console.specs.Checking.{IsNoCase, WritesTold, line_form, words_of};
 ghost use Rattle.console.specs.Contents.{IsContents};
+ghost use Rattle.xdr.specs.Texts.Text.{GivesText};
+ghost use Rattle.challenge.specs.Cases.{case_text, case_value};
+ghost use Rattle.challenge.specs.Charges.{IsWritten};
+ghost use Rattle.challenge.specs.FaultNumbers.{is_garbage};
 ghost use Rattle.console.specs.declared.fault.CheckFault.TheVariants.{NoMemory, Write};
 
 use crate::fault::CheckFault;
@@ -24,7 +28,7 @@ use std::alloc::{AllocError, Global};
 use std::io::{Read, Write};
 
 /// What is said of a file.
-#[derive(Clone, Copy, Debug, PartialEq, Eq)]
+#[derive(Clone, Copy)]
 pub enum Judgement {
     /// It is evidence against this node: no log of it is honest, unless the node's signature is forged or two
     /// of the texts that were hashed have one digest.
@@ -34,7 +38,7 @@ pub enum Judgement {
 }
 
 /// Why a file is no evidence: the first of these.
-#[derive(Clone, Copy, Debug, PartialEq, Eq)]
+#[derive(Clone, Copy)]
 pub enum Reason {
     /// Its bytes aren't a roster's text with that of evidence after it. The first item that doesn't decode
     /// begins at this byte, counted from 0.
@@ -46,7 +50,7 @@ pub enum Reason {
 }
 
 /// How a judgement is told.
-#[derive(Clone, Copy, Debug, PartialEq, Eq)]
+#[derive(Clone, Copy, PartialEq, Eq)]
 pub enum Format {
     /// By its line alone.
     Line,
@@ -83,10 +87,17 @@ fn found(alloc: Global, case: &Case) -> Result<(Judgement, Finding), AllocError>
     }
 }
 
+/// A value, where another one is given up. It is generic, since the prover's time for a function grows with the
+/// fields of what it gives up.
+pub(crate) fn without<T: Drop, U: Drop>(value: T, _other: U) -> T
+    ensures { result ≡ value }
+{
+    value
+}
+
 /// What is said of a file's bytes, which are given back to memory while they are read: `Exposed` exactly
 /// where they are a roster's text, and after it that of evidence that is accepted under it, and where the
 /// roster is the one that is trusted, if one is. `AllocError` comes only where a growth was refused.
-#[tactic(auto, using(crate::proofs::Judging::of_case))]
 pub fn judge(
     alloc: Global,
     trusted: Option<&Roster>,
@@ -96,8 +107,25 @@ pub fn judge(
         (λ judgement. Judges (option_map (λ r. r.now) trusted.entry) bytes.items judgement) }
 {
     let at = first_undecodable(&bytes).unwrap_or(bytes.len());
-    match read_case(alloc, bytes) {
-        Ok(case) => judge_case(alloc, trusted, &case),
+    let case = read_case(alloc, bytes);
+    let judgement = judge_read(alloc, trusted, at, &case);
+    without(judgement, case)
+}
+
+/// What is said of bytes of which this case was read, or of which the item at this place doesn't decode.
+#[tactic(auto, using(crate::proofs::Judging::of_case))]
+fn judge_read(
+    alloc: Global,
+    trusted: Option<&Roster>,
+    at: usize,
+    case: &Result<Case, EvidenceFault>,
+) -> Result<Judgement, AllocError>
+    ensures { (bytes : List ℕ) → GivesText is_garbage case_text case_value bytes case.now →
+        IfOk case.now (λ c. IsWritten c.evidence.charge) →
+        IfOk result (λ judgement. Judges (option_map (λ r. r.now) trusted.entry) bytes judgement) }
+{
+    match case {
+        Ok(case) => judge_case(alloc, trusted, case),
         Err(EvidenceFault::Garbage) => Ok(Judgement::NoEvidence(Reason::NoCase(at))),
         Err(EvidenceFault::NoMemory) => Err(AllocError),
     }
@@ -116,7 +144,6 @@ fn judge_case(alloc: Global, trusted: Option<&Roster>, case: &Case) -> Result<Ju
 }
 
 /// As `judge`, with the facts that the bytes show.
-#[tactic(auto, using(crate::proofs::Judging::of_case))]
 fn explain(
     alloc: Global,
     trusted: Option<&Roster>,
@@ -127,10 +154,29 @@ fn explain(
 {
     let file = File::new(&bytes);
     let at = first_undecodable(&bytes).unwrap_or(bytes.len());
-    match read_case(alloc, bytes) {
-        Ok(case) => explain_case(alloc, trusted, detail, &file, &case),
+    let case = read_case(alloc, bytes);
+    let explained = explain_read(alloc, trusted, detail, &file, at, &case);
+    without(explained, case)
+}
+
+/// As `judge_read`, with the facts that the bytes show.
+#[tactic(auto, using(crate::proofs::Judging::of_case))]
+fn explain_read(
+    alloc: Global,
+    trusted: Option<&Roster>,
+    detail: Detail,
+    file: &File,
+    at: usize,
+    case: &Result<Case, EvidenceFault>,
+) -> Result<(Judgement, Facts), AllocError>
+    ensures { (bytes : List ℕ) → GivesText is_garbage case_text case_value bytes case.now →
+        IfOk case.now (λ c. IsWritten c.evidence.charge) →
+        IfOk result (λ x. Judges (option_map (λ r. r.now) trusted.entry) bytes x.0) }
+{
+    match case {
+        Ok(case) => explain_case(alloc, trusted, detail, file, case),
         Err(EvidenceFault::Garbage) => {
-            let facts = no_case_facts(alloc, &file, at);
+            let facts = no_case_facts(alloc, file, at);
             Ok((Judgement::NoEvidence(Reason::NoCase(at)), facts))
         }
         Err(EvidenceFault::NoMemory) => Err(AllocError),
@@ -204,6 +250,58 @@ fn json(alloc: Global, judgement: Judgement, more: &Text) -> Result<Vec<u8>, All
     Ok(text)
 }
 
+/// The text that tells a judgement in a format, with these facts where it is more than a line.
+fn told_by(
+    alloc: Global,
+    format: Format,
+    judgement: Judgement,
+    facts: &Facts,
+) -> Result<Vec<u8>, AllocError>
+    ensures { IfOk result (λ text. IsTold format judgement text.items) }
+{
+    match format {
+        Format::Line => line(alloc, judgement),
+        Format::Lines => {
+            let more = facts.lines()?;
+            lines(alloc, judgement, &more)
+        }
+        Format::Json => {
+            let more = facts.members()?;
+            json(alloc, judgement, &more)
+        }
+    }
+}
+
+/// What is said of a file's bytes, and the line that tells it.
+fn told_in_line(
+    alloc: Global,
+    trusted: Option<&Roster>,
+    bytes: Vec<u8>,
+) -> Result<(Judgement, Vec<u8>), AllocError>
+    ensures { IfOk result (λ x. Judges (option_map (λ r. r.now) trusted.entry) bytes.items x.0
+        × IsTold Format.Line x.0 x.1.items) }
+{
+    let judgement = judge(alloc, trusted, bytes)?;
+    let text = line(alloc, judgement)?;
+    Ok((judgement, text))
+}
+
+/// What is said of a file's bytes, and the text that tells it with the facts that they show.
+fn told_with_facts(
+    alloc: Global,
+    trusted: Option<&Roster>,
+    format: Format,
+    detail: Detail,
+    bytes: Vec<u8>,
+) -> Result<(Judgement, Vec<u8>), AllocError>
+    ensures { IfOk result (λ x. Judges (option_map (λ r. r.now) trusted.entry) bytes.items x.0
+        × IsTold format x.0 x.1.items) }
+{
+    let (judgement, facts) = explain(alloc, trusted, detail, bytes)?;
+    let text = told_by(alloc, format, judgement, &facts)?;
+    Ok((judgement, text))
+}
+
 /// What is said of a file's bytes, and the text that tells it.
 fn told_of_whole(
     alloc: Global,
@@ -216,20 +314,8 @@ fn told_of_whole(
         × IsTold format x.0 x.1.items) }
 {
     match format {
-        Format::Line => {
-            let judgement = judge(alloc, trusted, bytes)?;
-            Ok((judgement, line(alloc, judgement)?))
-        }
-        Format::Lines => {
-            let (judgement, facts) = explain(alloc, trusted, detail, bytes)?;
-            let more = facts.lines()?;
-            Ok((judgement, lines(alloc, judgement, &more)?))
-        }
-        Format::Json => {
-            let (judgement, facts) = explain(alloc, trusted, detail, bytes)?;
-            let more = facts.members()?;
-            Ok((judgement, json(alloc, judgement, &more)?))
-        }
+        Format::Line => told_in_line(alloc, trusted, bytes),
+        Format::Lines | Format::Json => told_with_facts(alloc, trusted, format, detail, bytes),
     }
 }
 
@@ -260,16 +346,24 @@ fn told_of_front(
 {
     let at = first_undecodable(front).unwrap_or(front.len());
     let judgement = Judgement::NoEvidence(Reason::NoCase(at));
+    let text = front_text(alloc, format, judgement, at)?;
+    Ok((judgement, text))
+}
+
+/// The text that tells a judgement of a file that wasn't read to its end.
+fn front_text(
+    alloc: Global,
+    format: Format,
+    judgement: Judgement,
+    at: usize,
+) -> Result<Vec<u8>, AllocError>
+    ensures { IfOk result (λ text. IsTold format judgement text.items) }
+{
     if format == Format::Line {
-        return Ok((judgement, line(alloc, judgement)?));
+        return line(alloc, judgement);
     }
     let facts = front_facts(alloc, at);
-    if format == Format::Lines {
-        let more = facts.lines()?;
-        return Ok((judgement, lines(alloc, judgement, &more)?));
-    }
-    let more = facts.members()?;
-    Ok((judgement, json(alloc, judgement, &more)?))
+    told_by(alloc, format, judgement, &facts)
 }
 
 /// What is said of a file of which this was read, and the text that tells it.

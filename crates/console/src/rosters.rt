@@ -8,6 +8,7 @@ ghost use Rattle.console.specs.Checking.{HoldsNone, HoldsRoster, IsRead};
 ghost use Rattle.console.specs.Contents.{IsContents};
 ghost use Rattle.console.specs.declared.fault.CheckFault.TheVariants.{NoMemory, Write};
 
+use crate::checking::without;
 use crate::fault::CheckFault;
 use crate::input::{Contents, read_contents};
 use authenticator::Roster;
@@ -37,7 +38,7 @@ fn roster_of_case(alloc: Global, bytes: Vec<u8>) -> Result<Option<Roster>, Alloc
     ensures none { IfOk result (λ r. IfNone r (text_at case_text bytes.items ≡ None)) }
 {
     match read_case(alloc, bytes) {
-        Ok(case) => Ok(Some(case.roster)),
+        Ok(case) => Ok(Some(without(case.roster, case.evidence))),
         Err(EvidenceFault::Garbage) => Ok(None),
         Err(EvidenceFault::NoMemory) => Err(AllocError),
     }

@@ -5,13 +5,14 @@ use crate::entry::{call_before, call_group, reply_group};
 use crate::facts::Facts;
 use crate::places::{Log, add_word};
 use crate::roster::{add_number_there, node_fact};
+use challenge::BaseText;
 use checkpoint::parts::{
     MachinePart, MountPart, PartsFault, StagePart, StatePart, WorldPart, read_parts,
 };
 use checkpoint::{ReceivedMessage, State, state_digest, state_text};
 use file_texts::{AttributesPart, BodyPart};
 use state_machine::{FilePart, TimePart};
-use std::alloc::AllocError;
+use std::alloc::{AllocError, Global};
 use tree_rules::GivenEntry;
 
 /// Adds the state before the entry with a number, if one is asked for.
@@ -42,8 +43,19 @@ fn add_state_before(facts: &mut Facts, log: &Log<'_>, number: u64) {
         return;
     }
     let at = log.count_below(number);
-    match state_before(facts.alloc(), log, at) {
-        Ok(Some(state)) => add_whole(facts, log, at, &state),
+    let state = state_before(facts.alloc(), log, at);
+    add_found(facts, log, at, &state);
+}
+
+/// Adds the state before a place of a log, if there is one, or why there is none.
+fn add_found(
+    facts: &mut Facts,
+    log: &Log<'_>,
+    at: usize,
+    state: &Result<Option<State>, AllocError>,
+) {
+    match state {
+        Ok(Some(state)) => add_whole(facts, log, at, state),
         Ok(None) if log.member.is_none() => {
             facts.words("none", "the roster does not say what the node is");
         }
@@ -55,14 +67,28 @@ fn add_state_before(facts: &mut Facts, log: &Log<'_>, number: u64) {
 /// Says why there is no state before an entry of a member: no log begins with its base's state, or an entry before it
 /// has a fault.
 fn add_no_start(facts: &mut Facts, log: &Log<'_>) {
-    let start = match log.base {
-        Some(base) => start_of(facts.alloc(), base),
-        None => return facts.words("none", "an entry before it has a fault"),
+    let is_start = match log.base {
+        Some(base) => is_start(facts.alloc(), base),
+        None => Ok(true),
     };
-    match start {
-        Ok(Some(_)) => facts.words("none", "an entry before it has a fault"),
-        Ok(None) => facts.words("none", "no log begins with the state of the base"),
+    match is_start {
+        Ok(true) => facts.words("none", "an entry before it has a fault"),
+        Ok(false) => facts.words("none", "no log begins with the state of the base"),
         Err(AllocError) => facts.refuse(),
+    }
+}
+
+/// Whether a log begins with the state of a base.
+fn is_start(alloc: Global, base: &BaseText) -> Result<bool, AllocError> {
+    let start = start_of(alloc, base);
+    is_one(&start)
+}
+
+/// Whether there is a state.
+fn is_one(state: &Result<Option<State>, AllocError>) -> Result<bool, AllocError> {
+    match state {
+        Ok(state) => Ok(state.is_some()),
+        Err(AllocError) => Err(AllocError),
     }
 }
 
@@ -177,21 +203,26 @@ fn add_mounts(facts: &mut Facts, mounts: &[MountPart<'_>]) {
 /// Adds a file with its number.
 fn add_file(facts: &mut Facts, file: &FilePart<'_>) {
     facts.number("fileid", u64::from(file.number));
+    add_attributes(facts, type_words(&file.body), &file.attributes);
     match &file.body {
         BodyPart::Regular(bytes) => {
-            add_attributes(facts, "NFREG (1)", &file.attributes);
             facts.number("size", bytes.len() as u64);
             facts.quoted("data", bytes);
         }
-        BodyPart::Symlink(target) => {
-            add_attributes(facts, "NFLNK (5)", &file.attributes);
-            facts.quoted("target", target);
-        }
+        BodyPart::Symlink(target) => facts.quoted("target", target),
         BodyPart::Directory { next, entries } => {
-            add_attributes(facts, "NFDIR (2)", &file.attributes);
             facts.number("next cookie", u64::from(*next));
             add_entries(facts, entries);
         }
+    }
+}
+
+/// A file's type (RFC 1094, section 2.3.1).
+fn type_words(body: &BodyPart<'_>) -> &'static str {
+    match body {
+        BodyPart::Regular(_) => "NFREG (1)",
+        BodyPart::Symlink(_) => "NFLNK (5)",
+        BodyPart::Directory { .. } => "NFDIR (2)",
     }
 }
 
