@@ -50,8 +50,7 @@ where
     W: Write,
     E: Write,
 {
-    let Serving { shared, route } = serving;
-    let context = shared.context;
+    let context = serving.shared.context;
     let (rt, alloc, clock) = (context.rt, context.alloc, context.clock);
     // Where it can't be set, replies come later, and nothing else changes.
     let _ = stream.set_nodelay(true);
@@ -59,16 +58,36 @@ where
     let presence = presence_of(alloc, stream)?;
     let waiting = Mutex::new(Waiting::without_end());
     let input = PeerStream::new(rt, clock, stream, context.phase, &waiting);
-    let Ok(input) = BufReader::with_capacity(alloc, READ_AHEAD, input) else {
-        return Err(Cause::Stream(StreamFault::NoMemory, None));
-    };
+    match BufReader::with_capacity(alloc, READ_AHEAD, input) {
+        Ok(input) => {
+            let output = PeerStream::new(rt, clock, stream, context.phase, &waiting);
+            serve_streams(serving, presence, input, output)
+        }
+        Err(_) => Err(Cause::Stream(StreamFault::NoMemory, None)),
+    }
+}
+
+/// Answers the records of a connection, by its two streams.
+fn serve_streams<'a, R, T, W, E>(
+    serving: Serving<'_, R, T, W, E>,
+    presence: Arc<LocalStream>,
+    input: BufReader<PeerStream<'a, R, T>>,
+    output: PeerStream<'a, R, T>,
+) -> Result<(), Cause>
+where
+    R: Wait + Net<Listener = TcpListener, Stream = TcpStream>,
+    T: std::time::Clock,
+    W: Write,
+    E: Write,
+{
+    let Serving { shared, route } = serving;
+    let context = shared.context;
+    let (rt, alloc) = (context.rt, context.alloc);
     let mut reader = RecordReader::new(Counting::new(input));
-    let mut writer = Counting::new(PeerStream::new(rt, clock, stream, context.phase, &waiting));
-    let mut times = SystemClock::new(clock);
-    let flights = context.flights;
-    let courier = TcpCourier::new(context, shared.client, route);
-    let own = [Mutex::new(courier)];
-    let mut link = SharedRemote::new(rt, alloc, shared.client, &own, flights, presence);
+    let mut writer = Counting::new(output);
+    let mut times = SystemClock::new(context.clock);
+    let own = [Mutex::new(TcpCourier::new(context, shared.client, route))];
+    let mut link = SharedRemote::new(rt, alloc, shared.client, &own, context.flights, presence);
     let mut gateway = Gateway::new();
     match serve_shared(
         &mut gateway,
@@ -79,13 +98,13 @@ where
         &mut writer,
     ) {
         Ok(_) => Ok(()),
-        Err(fault) => {
-            let Some(failed) = link.last_fault() else {
+        Err(fault) => match link.last_fault() {
+            Some(failed) => Err(shared.call_failed(&failed, link.last_sent())),
+            None => {
                 let read = reader.get_ref().get_ref().get_ref().last();
-                return Err(stream_cause(fault, read.or(writer.get_ref().last())));
-            };
-            Err(shared.call_failed(&failed, link.last_sent()))
-        }
+                Err(stream_cause(fault, read.or(writer.get_ref().last())))
+            }
+        },
     }
 }
 

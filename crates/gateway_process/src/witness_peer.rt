@@ -9,6 +9,7 @@ use crate::trouble::Trouble;
 use crate::witness_caller::WitnessCaller;
 use assurance::{Exchanges, Keeper, Learned};
 use authenticator::Authenticator;
+use envelopes::Envelope;
 use peer_calls::{Numbers, WantedMessage};
 use remote_sharing::{AcceptFault, SharedClient};
 use std::alloc::Global;
@@ -111,7 +112,7 @@ impl Connection {
                 let _taken = self.exchanges.hand(&packet)?;
             }
         }
-        for message in wanted.messages {
+        for message in &wanted.messages {
             if let Some(packet) = shared.acknowledgement(message, reserve)? {
                 let _taken = self.exchanges.hand(&packet)?;
             }
@@ -410,18 +411,23 @@ where
     /// receives now, where the reserve isn't used up and no call is in flight.
     fn acknowledgement(
         &self,
-        message: WantedMessage,
+        message: &WantedMessage,
         reserve: &mut u32,
     ) -> Result<Option<Vec<u8>>, Trouble> {
-        let Context { rt, alloc, .. } = self.context;
-        let WantedMessage { envelope } = message;
-        let mut text = Vec::new(alloc);
-        envelope.write(&mut text)?;
-        let shown = receipt_packet(alloc, self.client.lock(rt).client().client(), &envelope)?;
+        let shown = self.receipt(&message.envelope)?;
         if shown.is_some() || *reserve == 0 {
             return Ok(shown);
         }
+        let mut text = Vec::new(self.context.alloc);
+        message.envelope.write(&mut text)?;
         self.receive(&text, reserve)
+    }
+
+    /// The packet with the acknowledgement of a message that the client has received.
+    fn receipt(&self, envelope: &Envelope) -> Result<Option<Vec<u8>>, Trouble> {
+        let Context { rt, alloc, .. } = self.context;
+        let client = self.client.lock(rt);
+        Ok(receipt_packet(alloc, client.client().client(), envelope)?)
     }
 
     /// Receives a message's envelope, where the client soon has no call in flight: the packet with its acknowledgement.
