@@ -3,3 +3,4 @@ pub mod OfAnswers
 pub mod OfLines
 pub mod OfRosters
 mod OfListed
+pub mod OfPackets

@@ -16,11 +16,10 @@ use Rattle.witness_process.specs.Answered.{IsAnsweredBy}
 pub by_books : (h : Host) (standing : StandingParts) (bytes text : List ℕ) (left : StandingParts)
     → beginning_of left.books ≡ beginning_of standing.books
     → AnswersRecord h standing (judged WITNESS_PROGRAM (message_at bytes)) outcomes.Replied text left
-    → IsAnswerIf (IsAnsweredBy standing h.digest) bytes text streams.Replied
+    → IsAnswerIf (IsAnsweredBy standing h.digest left) bytes text streams.Replied
 by_books h standing bytes text left same answers = record {
   host = h;
   own = refl;
-  left = left;
   same = same;
   answers = answers;
 }

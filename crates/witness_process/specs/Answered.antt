@@ -1,6 +1,8 @@
 -- What a witness answers, and by which of its books.
-use Rattle.std.specs.Prelude.{◌≡◌, ◌⊎◌, ◌<◌, ◌==◌, ℕ, nat_lt, Bool, true, false, List, [], ◌∷◌, get_or, length}
-use Rattle.std.specs.Prelude.{Option, Some, None, Result, Ok, Err, if◌then◌else◌}
+use Rattle.std.specs.Prelude.{◌≡◌, ◌⊎◌, ◌<◌, ◌==◌, ℕ, nat_lt, Bool, true, false, List, [], ◌∷◌, drop, get_or}
+use Rattle.std.specs.Prelude.{length, set, Option, Some, None, Result, Ok, Err, if◌then◌else◌}
+use Rattle.xdr.specs.Reading.{number_at}
+use Rattle.authenticator.specs.declared.member.Member.{Member}
 use Rattle.rpc.specs.Call.{message_at}
 use Rattle.rpc.specs.declared.reply.ReplyBody.{ReplyBody}
 use Rattle.peer_calls.specs.Calls.{Call, judged}
@@ -16,6 +18,11 @@ use Rattle.watching.specs.declared.results.Host.{Host}
 use Rattle.watching.specs.declared.told.NodeTold.{NodeTold}
 use Rattle.witness_books.specs.Books.{beginning_of}
 use Rattle.witness_books.specs.node_book.Replies.{indication_in}
+use Rattle.witness_books.specs.node_book.witness_spec.Events as events
+use Rattle.witness_books.specs.node_book.witness_spec.Steps.{OwnStep}
+use Rattle.witness_books.specs.node_book.witness_spec.Whose.{whose}
+use Rattle.witness_process.specs.declared.brought.RequestKind.{RequestKind}
+use Rattle.witness_process.specs.declared.brought.RequestKind.TheVariants as kinds
 use Rattle.witness_process.specs.declared.overlap.Before.{Before}
 use Rattle.witness_process.specs.declared.overlap.NodeBooks.{NodeBooks}
 use Rattle.witness_process.specs.declared.sets.BookSets.{BookSets}
@@ -36,37 +43,39 @@ ask_of (Err refusal) = None
 abbrev pub ask_in : (record_bytes : List ℕ) → Option WitnessAsk
 ask_in record_bytes = ask_of (judged WITNESS_PROGRAM (message_at record_bytes))
 
--- Whom a request is about: of whom it asks, nobody, or, of a packet, anybody.
-abbrev pub IsAbout : WitnessAsk → Option ℕ → Type 0
-IsAbout Null whom = whom ≡ None
-IsAbout (Greet digest n) whom = whom ≡ None
-IsAbout (Deliver packet) whom = Unit {0}
-IsAbout (Wanted n) whom = whom ≡ Some n
-IsAbout (Told n) whom = whom ≡ Some n
-IsAbout (Shown n) whom = whom ≡ Some n
-IsAbout (Case n) whom = whom ≡ Some n
-IsAbout (Base n after) whom = whom ≡ Some n
+-- Whom a request is about: of whom it asks; nobody; of a packet that is a member's step, that member.
+abbrev pub IsAbout : List Member → WitnessAsk → Option ℕ → Type 0
+IsAbout ms Null whom = whom ≡ None
+IsAbout ms (Greet digest n) whom = whom ≡ None
+IsAbout ms (Deliver packet) whom =
+    (own : OwnStep) → whose ms (events.Deliver packet) ≡ Ok own → whom ≡ Some own.member.node
+IsAbout ms (Wanted n) whom = whom ≡ Some n
+IsAbout ms (Told n) whom = whom ≡ Some n
+IsAbout ms (Shown n) whom = whom ≡ Some n
+IsAbout ms (Case n) whom = whom ≡ Some n
+IsAbout ms (Base n after) whom = whom ≡ Some n
 
--- whether it is for what is said of a node, or for the evidence against it
-abbrev pub asks_for_faults : WitnessAsk → Bool
-asks_for_faults Null = false
-asks_for_faults (Greet digest n) = false
-asks_for_faults (Deliver packet) = false
-asks_for_faults (Wanted n) = false
-asks_for_faults (Told n) = true
-asks_for_faults (Shown n) = false
-asks_for_faults (Case n) = true
-asks_for_faults (Base n after) = false
+-- what kind of request it is: a packet, for what is said of a node or the evidence against it, or another
+abbrev pub kind_of : WitnessAsk → RequestKind
+kind_of Null = kinds.Other
+kind_of (Greet digest n) = kinds.Other
+kind_of (Deliver packet) = kinds.Packet
+kind_of (Wanted n) = kinds.Other
+kind_of (Told n) = kinds.Faults
+kind_of (Shown n) = kinds.Other
+kind_of (Case n) = kinds.Faults
+kind_of (Base n after) = kinds.Other
 
 -- ---- by books
 
 -- A text is the answer to a record by a witness's books, with what nodes showed last: by what they replied to what the
--- record asks, by the digest of the roster, and by some time of the clock. The books that they were led on to are of the
--- same beginning.
-pub record IsAnsweredBy (standing : StandingParts) (digest record_bytes text : List ℕ) : Type 0 where
+-- record asks, by the digest of the roster, and by some time of the clock. The answer leads the books on to others of
+-- the same beginning.
+pub record IsAnsweredBy (standing : StandingParts) (digest : List ℕ) (left : StandingParts)
+    (record_bytes text : List ℕ)
+    : Type 0 where
   pub host : Host
   pub own : host.digest ≡ digest
-  pub left : StandingParts
   pub same : beginning_of left.books ≡ beginning_of standing.books
   pub answers :
       AnswersRecord host standing (judged WITNESS_PROGRAM (message_at record_bytes)) outcomes.Replied text left
@@ -78,49 +87,87 @@ is_worse (Some current) None = false
 is_worse (Some current) (Some earlier) =
     nat_lt (standing_number (indication_in current.indication)) (standing_number (indication_in earlier.indication))
 
--- Books and others were asked of a node, and told whether the others say worse.
+-- Books and others were asked of a node, and told whether the others say worse. Nothing else became of either.
 pub record SaysWorse (node : ℕ) (current before : StandingParts) (worse : Bool) (current' before' : StandingParts)
     : Type 0 where
   pub told : Option NodeTold
   pub earlier : Option NodeTold
   pub tells : TellsIf current.books node told current'.books
+  pub shown : current'.shown ≡ current.shown
   pub told_earlier : TellsIf before.books node earlier before'.books
+  pub shown_earlier : before'.shown ≡ before.shown
   pub is : worse ≡ is_worse told earlier
 
--- By books, or by those from which they went on.
-abbrev pub IsAnsweredByEither : (current before : StandingParts) → (digest record_bytes text : List ℕ) → Type 0
-IsAnsweredByEither current before digest record_bytes text =
-    IsAnsweredBy current digest record_bytes text ⊎ IsAnsweredBy before digest record_bytes text
+-- ---- by two sets of books
 
--- By those from which they went on where these say worse, else by the books themselves.
-abbrev pub IsAnsweredByWhich : (worse : Bool) → (current before : StandingParts)
-    → (digest record_bytes text : List ℕ) → Type 0
-IsAnsweredByWhich true current before digest record_bytes text = IsAnsweredBy before digest record_bytes text
-IsAnsweredByWhich false current before digest record_bytes text = IsAnsweredBy current digest record_bytes text
+-- By the second where that says worse, else by the first. The other one stays.
+abbrev pub IsAnsweredByWhich : (worse : Bool) → (current before : StandingParts) → (digest : List ℕ)
+    → (current' before' : StandingParts) → (record_bytes text : List ℕ) → Type 0
+IsAnsweredByWhich true current before digest current' before' record_bytes text =
+    IsAnsweredBy before digest before' record_bytes text × (current' ≡ current)
+IsAnsweredByWhich false current before digest current' before' record_bytes text =
+    IsAnsweredBy current digest current' record_bytes text × (before' ≡ before)
 
 -- the same, once both were asked
-pub record IsAnsweredByWorse (node : ℕ) (current before : StandingParts) (digest record_bytes text : List ℕ)
+pub record IsAnsweredByWorse (node : ℕ) (current before : StandingParts) (digest : List ℕ)
+    (current' before' : StandingParts) (record_bytes text : List ℕ)
     : Type 0 where
   pub worse : Bool
-  pub current' : StandingParts
-  pub before' : StandingParts
-  pub says : SaysWorse node current before worse current' before'
-  pub answers : IsAnsweredByWhich worse current' before' digest record_bytes text
+  pub asked : StandingParts
+  pub asked_before : StandingParts
+  pub says : SaysWorse node current before worse asked asked_before
+  pub answers : IsAnsweredByWhich worse asked asked_before digest current' before' record_bytes text
 
--- By books beside which others may stand: what is asked of the faults of their node by those that say the worse, all else
--- by either.
-abbrev pub IsAnsweredBeside : Option Before → (faults : Bool) → (node : ℕ) → (current : StandingParts)
-    → (digest record_bytes text : List ℕ) → Type 0
-IsAnsweredBeside None faults node current digest record_bytes text = IsAnsweredBy current digest record_bytes text
-IsAnsweredBeside (Some before) true node current digest record_bytes text =
-    IsAnsweredByWorse node current before.standing digest record_bytes text
-IsAnsweredBeside (Some before) false node current digest record_bytes text =
-    IsAnsweredByEither current before.standing digest record_bytes text
+-- An answer to a packet says that it lies below the base: after the six words of a reply to SUCCESS (RFC 5531, section
+-- 9) stands 16 and the number of that refusal, 15, and nothing more.
+pub record TellsBelow (text : List ℕ) : Type 0 where
+  pub long : length text ≡ 28
+  pub rest : List ℕ
+  pub number : number_at 4 (drop 24 text) ≡ Ok (31, rest)
+
+-- By the first; where that says that a packet lies below the base, by the second.
+abbrev pub IsAnsweredInTurn : (current before : StandingParts) → (digest : List ℕ)
+    → (current' before' : StandingParts) → (record_bytes text : List ℕ) → Type 0
+IsAnsweredInTurn current before digest current' before' record_bytes text =
+    (first : List ℕ) × IsAnsweredBy current digest current' record_bytes first
+    × (((¬ TellsBelow first) × (text ≡ first) × (before' ≡ before))
+    ⊎ (TellsBelow first × IsAnsweredBy before digest before' record_bytes text))
+
+-- By both, by what kind of request it is.
+abbrev pub IsAnsweredByTwo : RequestKind → (node : ℕ) → (current before : StandingParts) → (digest : List ℕ)
+    → (current' before' : StandingParts) → (record_bytes text : List ℕ) → Type 0
+IsAnsweredByTwo kinds.Packet node current before digest current' before' record_bytes text =
+    IsAnsweredInTurn current before digest current' before' record_bytes text
+IsAnsweredByTwo kinds.Faults node current before digest current' before' record_bytes text =
+    IsAnsweredByWorse node current before digest current' before' record_bytes text
+IsAnsweredByTwo kinds.Other node current before digest current' before' record_bytes text =
+    IsAnsweredBy current digest current' record_bytes text × (before' ≡ before)
+
+-- Of books beside others nothing changed but what they stand for.
+pub record StandBeside (before after : Before) : Type 0 where
+  pub at : after.at ≡ before.at
+  pub since : after.since ≡ before.since
+  pub unshown : after.unshown ≡ before.unshown
+
+-- By books beside which others may stand.
+abbrev pub IsAnsweredBeside : RequestKind → (node : ℕ) → (current : StandingParts) → Option Before → (digest : List ℕ)
+    → (current' : StandingParts) → Option Before → (record_bytes text : List ℕ) → Type 0
+IsAnsweredBeside kind node current None digest current' None record_bytes text =
+    IsAnsweredBy current digest current' record_bytes text
+IsAnsweredBeside kind node current (Some before) digest current' (Some after) record_bytes text =
+    IsAnsweredByTwo kind node current before.standing digest current' after.standing record_bytes text
+    × StandBeside before after
+IsAnsweredBeside kind node current None digest current' (Some after) record_bytes text = ⊥
+IsAnsweredBeside kind node current (Some before) digest current' None record_bytes text = ⊥
 
 -- the same by the books of a server
-abbrev pub IsAnsweredByBooks : NodeBooks → (faults : Bool) → (digest record_bytes text : List ℕ) → Type 0
-IsAnsweredByBooks b faults digest record_bytes text =
-    IsAnsweredBeside b.before faults b.node b.current digest record_bytes text
+pub record IsAnsweredByBooks (kind : RequestKind) (b : NodeBooks) (digest : List ℕ) (left : NodeBooks)
+    (record_bytes text : List ℕ)
+    : Type 0 where
+  pub answers :
+      IsAnsweredBeside kind b.node b.current b.before digest left.current left.before record_bytes text
+  pub node : left.node ≡ b.node
+  pub begun : left.begun ≡ b.begun
 
 -- ---- by which books
 
@@ -134,30 +181,47 @@ abbrev pub books_about : Option ℕ → List NodeBooks → Option NodeBooks
 books_about None own = None
 books_about (Some node) own = books_of node own
 
--- These stand at a place of some.
-abbrev pub IsPlaceOf : List NodeBooks → Option NodeBooks → ℕ → Type 0
-IsPlaceOf own found place = (place < length own) × ((b : NodeBooks) → b ≡ get_or own place b → found ≡ Some b)
+-- some, with these in the place of those of their node
+abbrev pub with_books : NodeBooks → List NodeBooks → List NodeBooks
+with_books left [] = []
+with_books left (b ∷ own) = if b.node == left.node then left ∷ own else b ∷ with_books left own
 
--- By the books of the node that a request is about, where it has its own, else by those of all others.
-abbrev pub IsAnsweredByOwn : Option NodeBooks → (shared : StandingParts) → (faults : Bool)
-    → (digest record_bytes text : List ℕ) → Type 0
-IsAnsweredByOwn None shared faults digest record_bytes text = IsAnsweredBy shared digest record_bytes text
-IsAnsweredByOwn (Some b) shared faults digest record_bytes text =
-    IsAnsweredByBooks b faults digest record_bytes text
+-- The books of a node stand at a place of some.
+pub record IsPlaceOf (own : List NodeBooks) (found : Option NodeBooks) (node place : ℕ) : Type 0 where
+  pub inside : place < length own
+  pub here : (b : NodeBooks) → b ≡ get_or own place b → (found ≡ Some b) × (b.node ≡ node)
+  pub put : (left : NodeBooks) → left.node ≡ node → with_books left own ≡ set own place left
+
+-- By the books of whom a request is about, where it has its own, else by those of all others. All others stay.
+abbrev pub IsAnsweredByOwn : Option NodeBooks → RequestKind → (sets : BookSets) → (digest : List ℕ)
+    → (left : BookSets) → (record_bytes text : List ℕ) → Type 0
+IsAnsweredByOwn None kind sets digest left record_bytes text =
+    IsAnsweredBy sets.shared digest left.shared record_bytes text × (left.own.items ≡ sets.own.items)
+IsAnsweredByOwn (Some b) kind sets digest left record_bytes text =
+    (after : NodeBooks) × IsAnsweredByBooks kind b digest after record_bytes text
+    × (left.own.items ≡ with_books after sets.own.items) × (left.shared ≡ sets.shared)
 
 -- What asks nothing is answered by the books of all others: nothing of them is in the answer.
-abbrev pub IsAnsweredOf : Option WitnessAsk → BookSets → (digest record_bytes text : List ℕ) → Type 0
-IsAnsweredOf None sets digest record_bytes text = IsAnsweredBy sets.shared digest record_bytes text
-IsAnsweredOf (Some ask) sets digest record_bytes text =
-    (node : Option ℕ) × IsAbout ask node
-    × IsAnsweredByOwn (books_about node sets.own.items) sets.shared (asks_for_faults ask) digest record_bytes text
+abbrev pub IsAnsweredOf : Option WitnessAsk → (sets : BookSets) → (digest : List ℕ) → (left : BookSets)
+    → (record_bytes text : List ℕ) → Type 0
+IsAnsweredOf None sets digest left record_bytes text =
+    IsAnsweredByOwn None kinds.Other sets digest left record_bytes text
+IsAnsweredOf (Some ask) sets digest left record_bytes text =
+    (whom : Option ℕ) × IsAbout sets.shared.books.roster ask whom
+    × IsAnsweredByOwn (books_about whom sets.own.items) (kind_of ask) sets digest left record_bytes text
 
--- A text is the answer to a record by all books of a witness.
-abbrev pub IsAnsweredBySets : BookSets → (digest record_bytes text : List ℕ) → Type 0
-IsAnsweredBySets sets digest record_bytes text =
-    IsAnsweredOf (ask_in record_bytes) sets digest record_bytes text
+-- A text is the answer to a record by all books of a witness, which it leads on to these.
+abbrev pub IsAnsweredBySets : (sets : BookSets) → (digest : List ℕ) → (left : BookSets) → (record_bytes text : List ℕ)
+    → Type 0
+IsAnsweredBySets sets digest left record_bytes text =
+    IsAnsweredOf (ask_in record_bytes) sets digest left record_bytes text
+
+-- the same, whatever it leads them on to
+abbrev pub AreAnsweredBySets : (sets : BookSets) → (digest record_bytes text : List ℕ) → Type 0
+AreAnsweredBySets sets digest record_bytes text =
+    (left : BookSets) × IsAnsweredBySets sets digest left record_bytes text
 
 -- The same by books that lay under a lock.
 pub record IsAnsweredUnderLock (digest record_bytes text : List ℕ) : Type 0 where
   pub sets : BookSets
-  pub answers : IsAnsweredBySets sets digest record_bytes text
+  pub answers : AreAnsweredBySets sets digest record_bytes text

@@ -3,3 +3,4 @@ pub mod Lines
 pub mod Opened
 pub mod Overlaps
 pub mod Rosters
+pub mod Brought

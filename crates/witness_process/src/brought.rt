@@ -1,8 +1,10 @@
-//! Whose node's book a packet is for.
+//! What a record asks of a witness, and of whom; whose node's book a packet is for.
 
-ghost use Rattle.std.specs.Prelude.{◌≡◌, IfOk, option_map};
-ghost use Rattle.peer_calls.specs.WitnessRequests.{witness_ask};
-ghost use Rattle.witness_process.specs.Answered.{IsAbout, ask_in, asks_for_faults};
+ghost use Rattle.std.specs.Prelude.{◌≡◌, IfOk, List, option_map};
+ghost use Rattle.authenticator.specs.declared.member.Member.{Member};
+ghost use Rattle.peer_calls.specs.WitnessRequests.{Deliver, witness_ask};
+ghost use Rattle.witness_process.specs.Answered.{IsAbout, ask_in, kind_of};
+ghost use Rattle.witness_process.specs.Brought.{Names};
 
 use peer_calls::{WITNESS_PROGRAM, WitnessRequest, judge_call, read_witness_request};
 use rpc::ReplyBody;
@@ -30,6 +32,17 @@ pub(crate) struct Brought {
     pub(crate) node: u32,
     /// Whether it is a segment of that node's log.
     pub(crate) is_segment: bool,
+}
+
+/// What kind of request something is, as it decides by which of two sets of books it is answered.
+#[derive(Clone, Copy)]
+pub(crate) enum RequestKind {
+    /// It delivers a packet.
+    Packet,
+    /// It is for what is said of a node, or for the evidence against it.
+    Faults,
+    /// It is another one.
+    Other,
 }
 
 /// Of whom the packet is that a record delivers, if it delivers one.
@@ -61,7 +74,7 @@ pub(crate) fn request_in(
 
 /// The node that a request is about: whose packet it delivers, or of whom it asks; None where it is about none.
 pub(crate) fn node_in(request: &WitnessRequest<'_>) -> Option<u32>
-    ensures { IsAbout (witness_ask request.now) result }
+    ensures { (ms : List Member) → IsAbout ms (witness_ask request.now) result }
 {
     match request {
         WitnessRequest::Null => None,
@@ -75,41 +88,52 @@ pub(crate) fn node_in(request: &WitnessRequest<'_>) -> Option<u32>
     }
 }
 
-/// Whether a request is for what is said of a node, or for the evidence against it.
-pub(crate) fn asks_for_faults(request: &WitnessRequest<'_>) -> bool
-    ensures { result ≡ asks_for_faults (witness_ask request.now) }
+/// What kind of request it is.
+pub(crate) fn kind_of(request: &WitnessRequest<'_>) -> RequestKind
+    ensures { result ≡ kind_of (witness_ask request.now) }
 {
     match request {
-        WitnessRequest::Told(_) => true,
-        WitnessRequest::Case(_) => true,
-        _ => false,
+        WitnessRequest::Deliver(_) => RequestKind::Packet,
+        WitnessRequest::Told(_) => RequestKind::Faults,
+        WitnessRequest::Case(_) => RequestKind::Faults,
+        _ => RequestKind::Other,
     }
 }
 
-/// Whether a request delivers a packet.
-pub(crate) fn is_delivery(request: &WitnessRequest<'_>) -> bool {
-    matches!(request, WitnessRequest::Deliver(_))
-}
-
 /// Whose book a packet is for.
-fn node_brought(packet: &[u8]) -> Option<u32> {
-    Some(brought_by(packet)?.node)
+fn node_brought(packet: &[u8]) -> Option<u32>
+    ensures { (ms : List Member) → IsAbout ms (Deliver packet.now) result }
+{
+    match brought_by(packet) {
+        Some(brought) => Some(brought.node),
+        None => None,
+    }
 }
 
 /// Of whom a packet is; nothing is checked of the rest.
-pub(crate) fn brought_by(packet: &[u8]) -> Option<Brought> {
+pub(crate) fn brought_by(packet: &[u8]) -> Option<Brought>
+    ensures { Names packet.now (option_map (λ b. b.node) result) }
+{
     let mut reader = Reader::new(packet);
-    let number = reader.u32().ok()?;
-    let first = reader.u32().ok()?;
-    let node = if number == ENVELOPE {
-        reader.u32().ok()?
-    } else {
-        first
+    let Ok(number) = reader.u32() else {
+        return None;
     };
-    Some(Brought {
-        node,
-        is_segment: number == SEGMENT || number == SEGMENT_2,
-    })
+    let Ok(first) = reader.u32() else {
+        return None;
+    };
+    if number != ENVELOPE {
+        return Some(Brought {
+            node: first,
+            is_segment: number == SEGMENT || number == SEGMENT_2,
+        });
+    }
+    match reader.u32() {
+        Ok(receiver) => Some(Brought {
+            node: receiver,
+            is_segment: false,
+        }),
+        Err(_) => None,
+    }
 }
 
 /// Whether a packet is of this node, and a segment of its log or not.

@@ -11,13 +11,14 @@ ghost use Rattle.witness_books.specs.Books.{beginning_of};
 ghost use Rattle.witness_books.specs.node_book.Replies.{indication_in, reply_in};
 ghost use Rattle.witness_books.specs.node_book.witness_spec.Refusals.{NothingToAudit};
 ghost use Rattle.witness_books.specs.node_book.witness_spec.Replies.{Refused};
-ghost use Rattle.witness_process.specs.Answered.{IsAnsweredByBooks, SaysWorse, asks_for_faults, is_worse};
+ghost use Rattle.witness_process.specs.Answered.{IsAnsweredByBooks, IsAnsweredByTwo, IsAnsweredInTurn, SaysWorse};
+ghost use Rattle.witness_process.specs.Answered.{TellsBelow, is_worse, kind_of};
 ghost use Rattle.witness_process.specs.Overlaps.{AreLetGo, BeginsAt, IsDeliveredTo, IsSettled, IsShown, IsTrusted};
 ghost use Rattle.witness_process.specs.Overlaps.{IsTrustedBy, MayGo, NotesShown, ShowsEither, TellsBoth, WentOn};
 ghost use Rattle.witness_process.specs.Overlaps.{clients_of, worse, worse_of};
 
 use crate::account::Account;
-use crate::brought::{asks_for_faults, is_delivery};
+use crate::brought::{RequestKind, kind_of};
 use crate::watch::answered;
 use authenticator::{Authenticator, Checked, Kind, Member, Roster};
 use challenge::{Base, Evidence};
@@ -30,6 +31,7 @@ use watching::packet_texts::learn_packet;
 use watching::{Delivered, Host, NodeTold, Said, Standing, StartFault};
 use witness_books::{EventOf, Indication, Refusal, Reply, ReplyOf};
 use witness_service::SignatureCache;
+use xdr::Reader;
 
 /// How many entries books audit before they go on: half of what a book takes.
 const HALF_A_BOOK: u64 = 32_768;
@@ -122,7 +124,7 @@ impl NodeBooks {
     /// Answers a record with a request that is about the server: of a packet below the base, and of the faults of a server
     /// of which they say worse, by the books from which these went on. `NoMemory` comes, too, where what both say can't be
     /// told for want of memory.
-    #[tactic(auto, using(crate::proofs::OfAnswers::by_current, crate::proofs::OfAnswers::by_new, crate::proofs::OfAnswers::by_worse, crate::proofs::OfAnswers::by_first, crate::proofs::OfAnswers::by_second))]
+    #[tactic(auto, using(crate::proofs::OfAnswers::by_current, crate::proofs::OfAnswers::by_both))]
     pub(crate) fn answer(
         &mut self,
         alloc: Global,
@@ -132,24 +134,29 @@ impl NodeBooks {
         bytes: &[u8],
         out: &mut Vec<u8>,
     ) -> Outcome
-        ensures { IsAnswerIf (IsAnsweredByBooks self.old (asks_for_faults (witness_ask request.now)) host.now.digest)
+        ensures { IsAnswerIf (IsAnsweredByBooks (kind_of (witness_ask request.now)) self.old host.now.digest self.new)
             bytes.now out.new.items result }
     {
-        let Some(before) = &mut self.before else {
-            return answered(&mut self.current, alloc, cache, host, bytes, out);
+        let asked = Asked {
+            kind: kind_of(request),
+            node: self.node,
         };
-        if asks_for_faults(request) {
-            return match says_worse(&mut self.current, &mut before.standing, alloc, self.node) {
-                Ok(true) => answered(&mut before.standing, alloc, cache, host, bytes, out),
-                Ok(false) => answered(&mut self.current, alloc, cache, host, bytes, out),
-                Err(AllocError) => Outcome::NoMemory,
-            };
+        match &mut self.before {
+            None => answered(&mut self.current, alloc, cache, host, bytes, out),
+            Some(before) => {
+                let second = &mut before.standing;
+                answered_by_two(
+                    asked,
+                    &mut self.current,
+                    second,
+                    alloc,
+                    cache,
+                    host,
+                    bytes,
+                    out,
+                )
+            }
         }
-        let outcome = answered(&mut self.current, alloc, cache, host, bytes, out);
-        if is_delivery(request) && is_below_base(out) {
-            return answered(&mut before.standing, alloc, cache, host, bytes, out);
-        }
-        outcome
     }
 
     /// The oldest authenticator that the server's log showed of another node, which counts as handed on; of the books that
@@ -464,7 +471,73 @@ fn began(standing: &Standing, node: u32) -> u64 {
     0
 }
 
+/// A request that two sets of books answer.
+#[derive(Clone, Copy)]
+struct Asked {
+    kind: RequestKind,
+    /// The node whose books they are.
+    node: u32,
+}
+
+/// Answers a record with a request by two sets of books, by what kind of request it is. `NoMemory` comes, too, where what
+/// both say can't be told for want of memory.
+#[tactic(auto, using(crate::proofs::OfAnswers::by_packet, crate::proofs::OfAnswers::by_worse, crate::proofs::OfAnswers::by_better, crate::proofs::OfAnswers::by_other))]
+fn answered_by_two(
+    asked: Asked,
+    first: &mut Standing,
+    second: &mut Standing,
+    alloc: Global,
+    cache: &mut SignatureCache,
+    host: &Host,
+    bytes: &[u8],
+    out: &mut Vec<u8>,
+) -> Outcome
+    ensures { IsAnswerIf
+        (IsAnsweredByTwo asked.kind asked.node first.old second.old host.now.digest first.new second.new)
+        bytes.now out.new.items result }
+{
+    match asked.kind {
+        RequestKind::Packet => answered_in_turn(first, second, alloc, cache, host, bytes, out),
+        RequestKind::Faults => match says_worse(first, second, alloc, asked.node) {
+            Ok(true) => answered(second, alloc, cache, host, bytes, out),
+            Ok(false) => answered(first, alloc, cache, host, bytes, out),
+            Err(AllocError) => Outcome::NoMemory,
+        },
+        RequestKind::Other => answered(first, alloc, cache, host, bytes, out),
+    }
+}
+
+/// Answers a record with a packet by books, and where it lies below their base by others.
+#[tactic(auto, using(crate::proofs::OfAnswers::by_second, crate::proofs::OfAnswers::by_first))]
+fn answered_in_turn(
+    first: &mut Standing,
+    second: &mut Standing,
+    alloc: Global,
+    cache: &mut SignatureCache,
+    host: &Host,
+    bytes: &[u8],
+    out: &mut Vec<u8>,
+) -> Outcome
+    ensures { IsAnswerIf (IsAnsweredInTurn first.old second.old host.now.digest first.new second.new)
+        bytes.now out.new.items result }
+{
+    let outcome = answered(first, alloc, cache, host, bytes, out);
+    if outcome == Outcome::Replied && is_below_base(out) {
+        return answered(second, alloc, cache, host, bytes, out);
+    }
+    outcome
+}
+
 /// Whether a reply says that a packet lies below the base: after the words of SUCCESS stands 16 and that refusal's number.
-fn is_below_base(reply: &[u8]) -> bool {
-    reply.len() == 28 && reply.ends_with(&[0, 0, 0, 31])
+fn is_below_base(reply: &[u8]) -> bool
+    ensures { IsTrue result ↔ TellsBelow reply.now }
+{
+    if reply.len() != 28 {
+        return false;
+    }
+    let mut reader = Reader::new(&reply[24..]);
+    match reader.u32() {
+        Ok(number) => number == 31,
+        Err(_) => false,
+    }
 }

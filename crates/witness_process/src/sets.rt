@@ -1,7 +1,7 @@
 //! All books of a witness: of each server that it audits books of its own, which may go on by a base, and one set of books
 //! for all other members.
 
-ghost use Rattle.std.specs.Prelude.{◌≡◌, IfSome, None};
+ghost use Rattle.std.specs.Prelude.{◌≡◌, IfSome, None, ℕ};
 ghost use Rattle.request_streams.specs.Serving.{IsAnswerIf};
 ghost use Rattle.witness_process.specs.Answered.{IsAnsweredBySets, IsPlaceOf, books_about, books_of};
 
@@ -67,7 +67,7 @@ impl BookSets {
 
     /// Answers a record: where it is about a server with books of its own, by these. `NoMemory` is the answer, too, where
     /// it can't be read for want of memory.
-    #[tactic(auto, using(crate::proofs::OfAnswers::by_shared, crate::proofs::OfAnswers::by_all_others, crate::proofs::OfAnswers::by_own))]
+    #[tactic(auto, using(crate::proofs::OfAnswers::by_shared, crate::proofs::OfAnswers::by_all_others))]
     pub(crate) fn answer(
         &mut self,
         alloc: Global,
@@ -76,7 +76,7 @@ impl BookSets {
         bytes: &[u8],
         out: &mut Vec<u8>,
     ) -> Outcome
-        ensures { IsAnswerIf (IsAnsweredBySets self.old host.now.digest) bytes.now out.new.items result }
+        ensures { IsAnswerIf (IsAnsweredBySets self.old host.now.digest self.new) bytes.now out.new.items result }
     {
         let request = match request_in(alloc, bytes) {
             Ok(Some(request)) => request,
@@ -233,16 +233,16 @@ impl BookSets {
 
 /// The place of the books of a node, if there is one and it has some among these.
 fn place_about(own: &[NodeBooks], node: Option<u32>) -> Option<usize>
-    ensures found { IfSome result (IsPlaceOf own.now (books_about node own.now)) }
+    ensures found { IfSome result (λ place. (n : ℕ) × IsPlaceOf own.now (books_about node own.now) n place) }
     ensures none { result ≡ None → books_about node own.now ≡ None }
 {
     place_of(own, node?)
 }
 
 /// The place of the books of a node, if it has some among these.
-#[tactic(auto, using(crate::proofs::OfAnswers::is_place))]
+#[tactic(auto, using(crate::proofs::OfAnswers::is_place, crate::proofs::OfAnswers::passed))]
 fn place_of(own: &[NodeBooks], node: u32) -> Option<usize>
-    ensures found { IfSome result (IsPlaceOf own.now (books_of node own.now)) }
+    ensures found { IfSome result (IsPlaceOf own.now (books_of node own.now) node) }
     ensures none { result ≡ None → books_of node own.now ≡ None }
 {
     for place in 0..own.len() {

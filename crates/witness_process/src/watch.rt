@@ -2,7 +2,7 @@
 
 ghost use Rattle.std.specs.Prelude.{IfSome};
 ghost use Rattle.request_streams.specs.Serving.{IsAnswerIf};
-ghost use Rattle.witness_process.specs.Answered.{IsAnsweredBy, IsAnsweredBySets};
+ghost use Rattle.witness_process.specs.Answered.{AreAnsweredBySets, IsAnsweredBy};
 ghost use Rattle.witness_process.specs.Lines.{IsSaidAt};
 
 use crate::brought::{brought_by, brought_in};
@@ -110,7 +110,7 @@ impl Watch {
         bytes: &[u8],
         out: &mut Vec<u8>,
     ) -> Outcome
-        ensures { IsAnswerIf (IsAnsweredBySets self.old.books digest.now) bytes.now out.new.items result }
+        ensures { IsAnswerIf (AreAnsweredBySets self.old.books digest.now) bytes.now out.new.items result }
     {
         self.host.digest = *digest;
         let outcome = self
@@ -412,7 +412,7 @@ pub(crate) fn answered(
     bytes: &[u8],
     out: &mut Vec<u8>,
 ) -> Outcome
-    ensures { IsAnswerIf (IsAnsweredBy standing.old host.now.digest) bytes.now out.new.items result }
+    ensures { IsAnswerIf (IsAnsweredBy standing.old host.now.digest standing.new) bytes.now out.new.items result }
 {
     match answer_request(standing, alloc, cache, host, bytes, out) {
         watching::Outcome::Replied => Outcome::Replied,
