@@ -1,6 +1,6 @@
 -- Up to which number a server's replies are assured.
 use Rattle.std.specs.Prelude.{◌≡◌, ℕ, ◌<◌, ◌≤◌, ◌==◌, not, Bool, false, List, [], ◌∷◌, ◌++◌, filter, All}
-use Rattle.std.specs.Prelude.{Option, Some, None, option_map}
+use Rattle.std.specs.Prelude.{Option, Some, None, codes, decimal, option_map}
 use Rattle.assurance.specs.Events.{HandedOut, Taken, Asked, Told, History}
 
 -- the replies that were handed out, and whose signatures weren't taken since
@@ -54,3 +54,8 @@ IsAssured h k = (a : LastAnswer) × ((last_answer h ≡ Some a) × IsAssuredBy a
 abbrev pub IsAssuredTo : History → Option ℕ → Type 0
 IsAssuredTo h None = (k : ℕ) → ¬ IsAssured h k
 IsAssuredTo h (Some k) = IsAssured h k × ((m : ℕ) → IsAssured h m → m ≤ k)
+
+-- what is said of it
+abbrev pub assured_words : Option ℕ → List ℕ
+assured_words None = codes "assured of none"
+assured_words (Some number) = codes "assured to " ++ decimal number

@@ -13,3 +13,8 @@ pub data Exchange : Type 0 where
 abbrev pub Adds : {A : Type 0} → (old : Option (List A)) → A → (new : Option (List A)) → Type 0
 Adds None a new = new ≡ None
 Adds (Some xs) a new = new ≡ Some (a ∷ xs)
+
+-- What is handed over to be kept: what a node signed, with the number by which it is to be found.
+pub record Kept : Type 0 where
+  pub number : ℕ
+  pub signed : Authenticator

@@ -4,7 +4,7 @@ use Rattle.std.specs.List.{list_any}
 use Rattle.authenticator.specs.declared.authenticator.Authenticator.{Authenticator}
 use Rattle.assurance.specs.Events.{History}
 use Rattle.assurance.specs.Events as events
-use Rattle.assurance.specs.Exchanges.{Exchange}
+use Rattle.assurance.specs.Exchanges.{Exchange, Kept}
 use Rattle.assurance.specs.Exchanges as exchange
 use Rattle.assurance.specs.Keeping.{StandsFor}
 use Rattle.assurance.specs.Learning.{said, takes}
@@ -12,12 +12,21 @@ use Rattle.assurance.specs.declared.replies.Replies.{Replies}
 use Rattle.assurance.specs.declared.shown.ShownOf.{ShownOf}
 use Rattle.assurance.specs.declared.shown.ShownOf.TheVariants.{Receipt, Reply}
 
+-- the number in the log of the node that signed
+abbrev pub number_of : ShownOf → ℕ
+number_of (Receipt n) = n
+number_of (Reply n) = n
+
 -- A reply with this number is handed out; the witness is shown what a node signed, which is of this, and answers with a
 -- number; it is asked what it says of a node, and answers.
 pub data Passed : Type 0 where
   HandedOut : (number : ℕ) → Passed
   Showed : (of : ShownOf) → (signed : Authenticator) → (answer : ℕ) → Passed
   Asked : (node : ℕ) → (exposed : Bool) → (end : ℕ) → Passed
+
+-- what a node signed, to be kept by its number
+abbrev pub kept_as : ShownOf → Authenticator → Kept
+kept_as of signed = record { number = number_of of; signed = signed }
 
 -- what of it was asked over the link, the newest first: at first the witness greeted
 abbrev pub exchanges : List Passed → List Exchange
@@ -78,3 +87,8 @@ abbrev pub Passes : (server : ℕ) → (link : Option (List Exchange)) → Repli
     → (link' : Option (List Exchange)) → Replies → Type 0
 Passes server link r passed link' r' =
     (p : List Passed) → Records server link p r → Records server link' (passed ∷ p) r'
+
+-- Nothing passed.
+abbrev pub PassesNothing : (server : ℕ) → (link : Option (List Exchange)) → Replies
+    → (link' : Option (List Exchange)) → Replies → Type 0
+PassesNothing server link r link' r' = (p : List Passed) → Records server link p r → Records server link' p r'

@@ -4,9 +4,10 @@ ghost use Rattle.std.specs.Prelude.{◌≡◌, [], Bool, IfOk, IfSome, List, OnE
 ghost use Rattle.assurance.specs.Assured.{IsAssuredTo};
 ghost use Rattle.assurance.specs.Exchanges.{Adds};
 ghost use Rattle.assurance.specs.Learning.{said};
-ghost use Rattle.assurance.specs.Passing.{Asked, HandedOut, IsRecorded, Passed, Passes, Records, Showed, history};
+ghost use Rattle.assurance.specs.Passing.{Asked, HandedOut, IsRecorded, Passed, Passes, PassesNothing, Records, Showed, history, kept_as};
 ghost use Rattle.assurance.specs.declared.learned.Learned.TheVariants.{BelowBase};
 
+use crate::assured_to::AssuredTo;
 use crate::keeper::Keeper;
 use crate::learned::{Learned, said_by};
 use crate::link::{LinkFault, WitnessLink};
@@ -59,13 +60,15 @@ impl<L: WitnessLink> Exchanges<L> {
     pub fn hand_out(&mut self, number: u64) -> Result<(), AllocError>
         ensures handed { OnOk result (Passes self.old.server (L.exchanges self.old.link) self.old.replies
             (HandedOut number) (L.exchanges self.new.link) self.new.replies) }
+        ensures refused { OnErr result (PassesNothing self.old.server (L.exchanges self.old.link) self.old.replies
+            (L.exchanges self.new.link) self.new.replies) }
         ensures server { self.new.server ≡ self.old.server }
     {
         self.replies.hand_out(number)
     }
 
     /// Shows the witness what a node signed, which is of this. What the server signed and the witness refuses as below
-    /// its base is handed to the keeper, and nothing else is. After a fault no answer came.
+    /// its base is handed to the keeper, by its number, and nothing else is. After a fault no answer came, and nothing has passed.
     pub fn show<K: Keeper>(
         &mut self,
         keeper: &mut K,
@@ -76,11 +79,13 @@ impl<L: WitnessLink> Exchanges<L> {
             × Passes self.old.server (L.exchanges self.old.link) self.old.replies
             (Showed of signed.now answer) (L.exchanges self.new.link) self.new.replies)) }
         ensures kept { IfOk result (λ seen. seen.says ≡ BelowBase → signed.now.node ≡ self.old.server →
-            Adds (K.handed keeper.old) signed.now (K.handed keeper.new)) }
+            Adds (K.handed keeper.old) (kept_as of signed.now) (K.handed keeper.new)) }
         ensures not_kept { IfOk result (λ seen. ¬ ((seen.says ≡ BelowBase) × (signed.now.node ≡ self.old.server)) →
             K.handed keeper.new ≡ K.handed keeper.old) }
         ensures failed { OnErr result ((L.exchanges self.new.link ≡ L.exchanges self.old.link)
             × (K.handed keeper.new ≡ K.handed keeper.old)) }
+        ensures nothing { OnErr result (PassesNothing self.old.server (L.exchanges self.old.link) self.old.replies
+            (L.exchanges self.new.link) self.new.replies) }
         ensures server { self.new.server ≡ self.old.server }
     {
         self.replies.reserve()?;
@@ -96,12 +101,14 @@ impl<L: WitnessLink> Exchanges<L> {
         })
     }
 
-    /// Asks the witness what it says of the server. After a fault no answer came.
+    /// Asks the witness what it says of the server. After a fault no answer came, and nothing has passed.
     pub fn ask(&mut self) -> Result<(), LinkFault>
         ensures asked { OnOk result ((exposed : Bool) × ((end : ℕ)
             × Passes self.old.server (L.exchanges self.old.link) self.old.replies
             (Asked self.old.server exposed end) (L.exchanges self.new.link) self.new.replies)) }
         ensures failed { OnErr result (L.exchanges self.new.link ≡ L.exchanges self.old.link) }
+        ensures nothing { OnErr result (PassesNothing self.old.server (L.exchanges self.old.link) self.old.replies
+            (L.exchanges self.new.link) self.new.replies) }
         ensures server { self.new.server ≡ self.old.server }
     {
         let told = self.link.ask(self.server)?;
@@ -109,28 +116,40 @@ impl<L: WitnessLink> Exchanges<L> {
         Ok(())
     }
 
-    /// The greatest number K of the server's log for which this holds, if there is one: when it was asked last, the witness
+    /// Up to the greatest number K of the server's log for which this holds, if there is one: when it was asked last, the witness
     /// didn't call the server exposed, and had filed its log Sound up to K at least; and before it was asked, it had taken
     /// the signature of each reply up to K that has been handed out.
-    pub fn assured(&self) -> Option<u64>
+    pub fn assured(&self) -> AssuredTo
         ensures { (p : List Passed) → Records self.now.server (L.exchanges self.now.link) p self.now.replies →
             IsAssuredTo (history self.now.server p) result }
     {
-        self.replies.assured()
+        AssuredTo::new(self.replies.assured())
     }
 
     /// What the witness was shown of the gateway last, if it was shown something.
-    pub fn own(&mut self) -> Result<Option<Authenticator>, LinkFault> {
+    pub fn own(&mut self) -> Result<Option<Authenticator>, LinkFault>
+        ensures nothing { PassesNothing self.old.server (L.exchanges self.old.link) self.old.replies
+            (L.exchanges self.new.link) self.new.replies }
+        ensures server { self.new.server ≡ self.old.server }
+    {
         self.link.own()
     }
 
     /// Hands the witness a packet that isn't about the replies: the number by which it answers.
-    pub fn hand(&mut self, packet: &[u8]) -> Result<u32, LinkFault> {
+    pub fn hand(&mut self, packet: &[u8]) -> Result<u32, LinkFault>
+        ensures nothing { PassesNothing self.old.server (L.exchanges self.old.link) self.old.replies
+            (L.exchanges self.new.link) self.new.replies }
+        ensures server { self.new.server ≡ self.old.server }
+    {
         self.link.hand(packet)
     }
 
     /// What the witness awaits of the gateway.
-    pub fn wanted(&mut self) -> Result<L::Wanted, LinkFault> {
+    pub fn wanted(&mut self) -> Result<L::Wanted, LinkFault>
+        ensures nothing { PassesNothing self.old.server (L.exchanges self.old.link) self.old.replies
+            (L.exchanges self.new.link) self.new.replies }
+        ensures server { self.new.server ≡ self.old.server }
+    {
         self.link.wanted()
     }
 }
@@ -142,7 +161,7 @@ fn keep<K: Keeper>(
     of: ShownOf,
     signed: &Authenticator,
 ) -> Option<io::Error>
-    ensures kept { says ≡ BelowBase → Adds (K.handed keeper.old) signed.now (K.handed keeper.new) }
+    ensures kept { says ≡ BelowBase → Adds (K.handed keeper.old) (kept_as of signed.now) (K.handed keeper.new) }
     ensures not_kept { ¬ (says ≡ BelowBase) → K.handed keeper.new ≡ K.handed keeper.old }
 {
     match says {

@@ -2,6 +2,7 @@
 #![tactic(auto)]
 
 mod assured;
+mod assured_to;
 mod exchanges;
 mod keeper;
 mod learned;
@@ -10,6 +11,7 @@ mod replies;
 mod shown;
 
 pub use assured::Assurance;
+pub use assured_to::AssuredTo;
 pub use exchanges::{Exchanges, Seen};
 pub use keeper::Keeper;
 pub use learned::Learned;

@@ -1,5 +1,8 @@
 //! What a witness is shown.
 
+ghost use Rattle.std.specs.Prelude.{◌≡◌};
+ghost use Rattle.assurance.specs.Passing.{number_of};
+
 /// What a node's signature is of, by the log of the client that has it.
 #[derive(Clone, Copy, Debug)]
 pub enum ShownOf {
@@ -11,7 +14,9 @@ pub enum ShownOf {
 
 impl ShownOf {
     /// The number.
-    pub fn number(self) -> u64 {
+    pub fn number(self) -> u64
+        ensures { result ≡ number_of self }
+    {
         match self {
             ShownOf::Receipt { number } | ShownOf::Reply { number } => number,
         }

@@ -1,20 +1,8 @@
 //! What threads that call leave for the one that reports to witnesses, and what that one brings back.
 
+use assurance::AssuredTo;
 use std::alloc::{AllocError, Global};
-use std::{fmt, mem};
-
-/// Up to which number of the server's log a witness answers for the replies that were handed out, if it does.
-#[derive(Clone, Copy, PartialEq, Eq)]
-pub(crate) struct AssuredTo(pub(crate) Option<u64>);
-
-impl fmt::Display for AssuredTo {
-    fn fmt<W: fmt::Write>(&self, f: &mut fmt::Formatter<W>) -> fmt::Result {
-        match self.0 {
-            Some(number) => write!(f, "assured to {number}"),
-            None => write!(f, "assured of none"),
-        }
-    }
-}
+use std::mem;
 
 /// What the last report to a witness brought.
 #[derive(Drop)]

@@ -1,6 +1,10 @@
 //! How a gateway is.
 
+ghost use Rattle.std.specs.Prelude.{◌≡◌, ◌++◌, IfOk, codes, string_bytes};
+ghost use Rattle.assurance.specs.Assured.{assured_words};
+
 use crate::desk::{Assured, Desk};
+use assurance::AssuredTo;
 use peer_connections::Teller;
 use remote_sharing::SharedClient;
 use secure_log::log_entries::Entry;
@@ -44,9 +48,25 @@ impl<R: Wait> GatewayTeller<'_, R> {
 }
 
 /// The line that says up to which number a witness answers for the replies, as its last report brought it.
-fn assured_line(alloc: Global, assured: &Assured) -> Result<String, AllocError> {
-    let (address, to) = (assured.address.as_str(), assured.to);
-    format!(in alloc; "witness: {address} {to}\n")
+fn assured_line(alloc: Global, assured: &Assured) -> Result<String, AllocError>
+    ensures { IfOk result (λ line. string_bytes line ≡ codes "witness: "
+        ++ (string_bytes assured.now.address ++ (codes " " ++ (assured_words assured.now.to ++ codes "\n")))) }
+{
+    let words = assured.to.words(alloc)?;
+    format!(in alloc; "witness: {} {words}\n", assured.address)
+}
+
+/// The line that says it as progress.
+pub(crate) fn progress_line(
+    alloc: Global,
+    address: &str,
+    assured: AssuredTo,
+) -> Result<String, AllocError>
+    ensures { IfOk result (λ line. string_bytes line ≡ codes "nfsacc: witness "
+        ++ (address.now ++ (codes ": " ++ (assured_words assured ++ codes "\n")))) }
+{
+    let words = assured.words(alloc)?;
+    format!(in alloc; "nfsacc: witness {address}: {words}\n")
 }
 
 /// How many replies were received, by the entries of a log.

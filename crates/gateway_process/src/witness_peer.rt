@@ -1,13 +1,14 @@
 //! A witness that a gateway reports to.
 
 use crate::context::{Context, Shared};
-use crate::desk::{Assured, AssuredTo};
+use crate::desk::Assured;
 use crate::news::{
     News, Progress, Shown, ack_packet, news_since, receipt_packet, replies_after, segment_packet,
 };
+use crate::status::progress_line;
 use crate::trouble::Trouble;
 use crate::witness_caller::WitnessCaller;
-use assurance::{Exchanges, Keeper, Learned};
+use assurance::{AssuredTo, Exchanges, Keeper, Learned};
 use authenticator::Authenticator;
 use envelopes::Envelope;
 use peer_calls::{Numbers, WantedMessage};
@@ -283,7 +284,7 @@ impl WitnessPeer {
         connection.count_replies(shared)?;
         let assured = Assured {
             address: String::from_str(alloc, self.address.as_str())?,
-            to: AssuredTo(connection.exchanges.assured()),
+            to: connection.exchanges.assured(),
         };
         Ok(desk.lock(rt).note_assured(assured)?)
     }
@@ -291,8 +292,8 @@ impl WitnessPeer {
     /// Up to which number it answers for the replies, by its connection.
     fn assured(&self) -> AssuredTo {
         match &self.connection {
-            Some(connection) => AssuredTo(connection.exchanges.assured()),
-            None => AssuredTo(None),
+            Some(connection) => connection.exchanges.assured(),
+            None => AssuredTo::none(),
         }
     }
 
@@ -306,8 +307,7 @@ impl WitnessPeer {
         let (alloc, assured) = (context.alloc, self.assured());
         if self.said != Some(assured) {
             self.said = Some(assured);
-            let address = self.address();
-            context.say(format!(in alloc; "nfsacc: witness {address}: {assured}\n"));
+            context.say(progress_line(alloc, self.address(), assured));
         }
     }
 
