@@ -1,5 +1,8 @@
 //! The rosters in a folder.
 
+ghost use Rattle.std.specs.Prelude.{◌≡◌};
+ghost use Rattle.sha2.specs.Sha256.{sha256};
+
 use authenticator::Roster;
 use host_keys::EpochRoster;
 use program_output::{INPUT_FAULT, report_file, report_name, report_no_memory};
@@ -105,7 +108,9 @@ fn read_roster<R: Files + AllocGlobal>(
 }
 
 /// The SHA-256 digest of a text.
-pub fn digest_of(text: &[u8]) -> [u8; 32] {
+pub fn digest_of(text: &[u8]) -> [u8; 32]
+    ensures { result ≡ sha256 text.now }
+{
     let mut digest = Sha256::new();
     digest.update(text);
     digest.finalize()

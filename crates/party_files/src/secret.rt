@@ -1,8 +1,10 @@
 //! A party's secret bytes, and the file beside them that says what was begun with them.
 
 ghost use Rattle.host_keys.specs.Lines.{IsWithin};
-ghost use Rattle.host_keys.specs.Spent.{MayBegin};
-ghost use Rattle.std.specs.Prelude.{◌≤◌};
+ghost use Rattle.host_keys.specs.Spent.{IsNextEpoch, IsNextLife, MayBegin, run_after};
+ghost use Rattle.host_keys.specs.declared.begun.Begun.{Begun};
+ghost use Rattle.party_files.specs.Beginning.{Begins};
+ghost use Rattle.std.specs.Prelude.{◌≡◌, ◌≤◌, ◌++◌, ◌∷◌, ◌⊎◌, [], IfOk, OnErr, Some};
 
 use crate::shelf::{FileShelf, sync_folder_of};
 use authenticator::MAX_NODE;
@@ -120,7 +122,11 @@ impl HeldSecret {
     pub fn begin_run<R: Files + RandomSource + AllocGlobal>(
         &mut self,
         rt: &R,
-    ) -> Result<Masters, SecretFault> {
+    ) -> Result<Masters, SecretFault>
+        ensures begun { IfOk result (λ m. (b : Begun) × (run_after self.old.spent ≡ Some b)
+            × Begins self.old.bytes self.old.spent b self.new.spent m) }
+        ensures bytes { self.new.bytes ≡ self.old.bytes }
+    {
         let begun = self.spent.next_run().ok_or(SecretFault::NoRun)?;
         self.begin(rt, begun)
     }
@@ -134,6 +140,9 @@ impl HeldSecret {
         rosters: &[EpochRoster],
     ) -> Result<(Begun, Masters), SecretFault>
         requires { IsWithin 1 MAX_NODE node }
+        ensures begun { IfOk result (λ p. IsNextEpoch self.old.spent node rosters.now p.0
+            × Begins self.old.bytes self.old.spent p.0 self.new.spent p.1) }
+        ensures bytes { self.new.bytes ≡ self.old.bytes }
     {
         let begun = self
             .spent
@@ -155,6 +164,9 @@ impl HeldSecret {
         requires first { 1 ≤ first }
         requires last { last ≤ MAX_NODE }
         requires epoch { 1 ≤ roster.now.epoch }
+        ensures begun { IfOk result (λ p. IsNextLife self.old.spent first last roster.now p.0
+            × Begins self.old.bytes self.old.spent p.0 self.new.spent p.1) }
+        ensures bytes { self.new.bytes ≡ self.old.bytes }
     {
         let begun = match self.spent.next_life(first, last, roster) {
             Ok(begun) => begun,
@@ -164,13 +176,18 @@ impl HeldSecret {
         Ok((begun, masters))
     }
 
-    /// Notes on the disk that something is begun, and gives of what its keys are made.
+    /// Notes on the disk that something is begun, and gives of what its keys are made. After a fault it is noted here at
+    /// most, and not begun again.
     fn begin<R: Files + RandomSource + AllocGlobal>(
         &mut self,
         rt: &R,
         begun: Begun,
     ) -> Result<Masters, SecretFault>
         requires { MayBegin self.old.spent begun }
+        ensures begun { IfOk result (Begins self.old.bytes self.old.spent begun self.new.spent) }
+        ensures failed { OnErr result ((self.new.spent ≡ self.old.spent)
+            ⊎ (self.new.spent ≡ self.old.spent ++ (begun ∷ []))) }
+        ensures bytes { self.new.bytes ≡ self.old.bytes }
     {
         self.spent.begin(begun)?;
         let text = self.spent.text(rt.alloc())?;

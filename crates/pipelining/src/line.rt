@@ -1,7 +1,7 @@
 //! A connection over which several calls are in flight, by its two halves.
 
-ghost use Rattle.std.specs.Prelude.{◌≡◌, ◌↔◌, ◌+◌, ◌^◌, ◌≤◌, true, false, IfErr, IfNone, IfOk, IfSome, IsTrue, None};
-ghost use Rattle.std.specs.Prelude.{OnErr, Some};
+ghost use Rattle.std.specs.Prelude.{◌≡◌, ◌↔◌, ◌+◌, ◌^◌, ◌≤◌, true, false, IfErr, IfNone, IfOk, IfSome, IsFalse};
+ghost use Rattle.std.specs.Prelude.{IsTrue, None, OnErr, Some};
 ghost use Rattle.pipelining.specs.declared.turns.Standing.TheVariants.{Next};
 ghost use Rattle.pipelining.specs.declared.turns.Stage.TheVariants.{Closed, Open};
 ghost use Rattle.pipelining.specs.Turns.{Answers, Ends, GivesUp, IsAt, Opens, Stands, Starts, Takes};
@@ -19,9 +19,12 @@ pub struct Pipeline<S: Drop, R: Drop> {
 }
 
 impl<S: Drop, R: Drop> Pipeline<S, R> {
-    /// No connection.
+    /// No connection, and the next one is the first.
     pub fn new() -> Pipeline<S, R>
-        ensures { result.turns.stage ≡ Closed }
+        ensures stage { result.turns.stage ≡ Closed }
+        ensures first { result.turns.connection ≡ 0 }
+        ensures sender { result.sender ≡ None }
+        ensures receiver { result.receiver ≡ None }
     {
         Pipeline {
             turns: Turns::new(),
@@ -33,14 +36,18 @@ impl<S: Drop, R: Drop> Pipeline<S, R> {
     /// Where there is no connection, and nobody makes one, the caller is to make one, and then calls `open` or `give_up`.
     /// Whether that is so.
     pub fn start(&mut self) -> bool
-        ensures { Starts self.old.turns result self.new.turns }
+        ensures turns { Starts self.old.turns result self.new.turns }
+        ensures sender { self.new.sender ≡ self.old.sender }
+        ensures receiver { self.new.receiver ≡ self.old.receiver }
     {
         self.turns.start()
     }
 
     /// The caller, who was to make a connection, couldn't.
     pub fn give_up(&mut self)
-        ensures { GivesUp self.old.turns self.new.turns }
+        ensures turns { GivesUp self.old.turns self.new.turns }
+        ensures sender { self.new.sender ≡ self.old.sender }
+        ensures receiver { self.new.receiver ≡ self.old.receiver }
     {
         self.turns.give_up();
     }
@@ -51,6 +58,8 @@ impl<S: Drop, R: Drop> Pipeline<S, R> {
         ensures turns { Opens self.old.turns result self.new.turns }
         ensures sender { IsTrue result → self.new.sender ≡ Some sender }
         ensures receiver { IsTrue result → self.new.receiver ≡ Some receiver }
+        ensures stays { IsFalse result → (self.new.sender ≡ self.old.sender)
+            × (self.new.receiver ≡ self.old.receiver) }
     {
         if !self.turns.open() {
             return false;

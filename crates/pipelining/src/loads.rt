@@ -1,6 +1,6 @@
 //! How many calls each of some ways has.
 
-ghost use Rattle.std.specs.Prelude.{◌≡◌, [], IfNone, IfOk, IfSome, length};
+ghost use Rattle.std.specs.Prelude.{◌≡◌, [], IfNone, IfOk, IfSome, replicate};
 ghost use Rattle.pipelining.specs.Loads.{Chooses, Leaves};
 
 use std::alloc::{AllocError, Global};
@@ -14,7 +14,7 @@ pub struct Loads {
 impl Loads {
     /// Of so many ways, each without a call.
     pub fn new(alloc: Global, ways: usize) -> Result<Loads, AllocError>
-        ensures { IfOk result (λ l. length l.loads.items ≡ ways) }
+        ensures { IfOk result (λ l. l.loads.items ≡ replicate ways 0) }
     {
         let mut loads = Vec::new(alloc);
         loads.resize(ways, 0)?;
