@@ -2,6 +2,7 @@
 #![tactic(auto)]
 
 mod checking;
+mod held;
 mod locked;
 mod put_back;
 mod server;

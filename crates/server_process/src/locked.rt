@@ -1,35 +1,27 @@
 //! A server under a lock, which answers the requests of a connection.
 
-ghost use Rattle.std.specs.Prelude.{◌≡◌, ◌⊎◌, false, IfSome, IsSome, List, None, true, ℕ};
+ghost use Rattle.std.specs.Prelude.{List, ℕ};
 ghost use Rattle.hosting.specs.Hosting.{IsAnsweredUnderLock, IsFinished, OnceFinished};
 ghost use Rattle.request_streams.specs.Serving.{IsAnswerIf};
-ghost use Rattle.server_process.specs.Checking.{LogsCheck, counted, is_due};
-ghost use Rattle.server_process.specs.PutBack.{IsPutBack, WasSignedBefore};
 
-use crate::checking::Checking;
-use crate::put_back::{SignedBefore, signed_before};
+use crate::held::Held;
 use crate::server::AddressKind;
 use crate::status::{Tally, audited_to};
 use authenticator::Roster;
-use envelopes::Envelope;
 use frames::Bound;
-use hosting::{Host, Progress, Ready, Unwritten, answer_request};
-use nfs_items::Time;
-use nodes::{Clock, HonestServer};
+use hosting::{Host, Progress, Ready, Unwritten};
+use nodes::Clock;
 use peer_connections::{
     Output, Phase, Seats, SegmentTurns, Standing, Waiting, end_serving, is_serving,
 };
 use request_streams::{Answerer, Outcome};
 use secure_log::log_entries::Entry;
-use std::alloc::{AllocError, Global};
+use std::alloc::Global;
 use std::io::Write;
 use std::marker::Model;
 use std::net::IpAddr;
 use std::sync::{Mutex, Wait};
 use std::time::Duration;
-
-/// The keys that a call may take of a server.
-const KEYS_OF_A_CALL: u32 = 2;
 
 /// SIGNED.
 const SIGNED: u32 = 4;
@@ -45,124 +37,6 @@ const PAUSE: u64 = 50;
 
 /// How often it is looked whether there is a turn: for a minute.
 const LOOKS: u64 = 1200;
-
-/// A server, and what shows that its log was put back to an earlier one, once somebody has shown it; and when it logs
-/// its state. It lies under a lock.
-#[derive(Drop)]
-pub(crate) struct Held {
-    server: HonestServer,
-    put_back: Option<SignedBefore>,
-    checking: Checking,
-}
-
-impl Held {
-    /// A server of which nothing was shown, and when it is to log its state.
-    pub(crate) fn new(server: HonestServer, checking: Checking) -> Held {
-        Held {
-            server,
-            put_back: None,
-            checking,
-        }
-    }
-
-    /// The server.
-    pub(crate) fn server(&self) -> &HonestServer {
-        &self.server
-    }
-
-    /// The entries of its log.
-    pub(crate) fn entries(&self) -> &[Entry] {
-        self.server.server().node().log().entries()
-    }
-
-    /// Why the serving is to end, if it is.
-    fn end(&self) -> Option<Phase> {
-        let is_used_up = self.server.server().node().left() < KEYS_OF_A_CALL;
-        match self.put_back {
-            Some(_) => Some(Phase::Stopping),
-            None if is_used_up => Some(Phase::KeysUsedUp),
-            None => None,
-        }
-    }
-
-    /// The number of something that the server signed and its log lacks, if it was shown that.
-    pub(crate) fn put_back(&self) -> Option<u64>
-        ensures { IfSome result IsPutBack }
-    {
-        match &self.put_back {
-            Some(signed) => Some(signed.number()),
-            None => None,
-        }
-    }
-
-    /// After a record by which a new message was received, or none was: logs a CHECK where one is due. Where it is refused
-    /// the log is as it was, and the line says why; the next is due after as many messages. Once it was shown that the log
-    /// was put back nothing is logged.
-    fn check(&mut self, alloc: Global, received: bool) -> Option<Result<String, AllocError>>
-        ensures ended { IsSome self.old.put_back → self.new ≡ self.old }
-        ensures unreceived { received ≡ false → self.new ≡ self.old }
-        ensures not_due { is_due self.old.checking.every self.old.checking.since ≡ false →
-            (self.new.server ≡ self.old.server) × (result ≡ None) }
-        ensures logs { received ≡ true → self.old.put_back ≡ None →
-            is_due self.old.checking.every self.old.checking.since ≡ true → LogsCheck self.old.server self.new.server }
-        ensures counts { received ≡ true → self.old.put_back ≡ None →
-            (self.new.checking.since ≡ counted self.old.checking.every self.old.checking.since)
-            × (self.new.checking.every ≡ self.old.checking.every) }
-        ensures put_back { self.new.put_back ≡ self.old.put_back }
-    {
-        if self.put_back.is_some() || !received {
-            return None;
-        }
-        if !self.checking.is_due() {
-            return None;
-        }
-        match self.server.checkpoint(alloc) {
-            Ok(_) => None,
-            Err(refusal) => {
-                Some(format!(in alloc; "nfsacc: the state isn't logged: {refusal}\n"))
-            }
-        }
-    }
-
-    /// Answers a record; the answer to a message that was received is left to be written. One that shows that the log was
-    /// put back is answered, too; once it was shown that, nothing is done, and no answer is given: a key that signed before
-    /// the log was put back isn't to sign again. Where memory is refused for looking at what a record shows, nothing is
-    /// done, and there is no answer.
-    fn answer<'r>(
-        &mut self,
-        alloc: Global,
-        time: Time,
-        host: &Host,
-        ready: Ready<'r>,
-        bytes: &'r [u8],
-        out: &mut Vec<u8>,
-    ) -> Progress
-        ensures answered { OnceFinished (λ outcome text. IsAnswerIf (IsAnsweredUnderLock host.now) bytes.now text outcome)
-            result out.new.items }
-        ensures ended { IsSome self.old.put_back → (self.new ≡ self.old) × (result ≡ Progress.Done Outcome.NoCall) }
-        ensures shown { (number : ℕ) → WasSignedBefore self.old.server bytes.now number →
-            IsSome self.new.put_back ⊎ ((self.new ≡ self.old) × (result ≡ Progress.Done Outcome.NoMemory)) }
-    {
-        if self.put_back.is_some() {
-            return Progress::Done(Outcome::NoCall);
-        }
-        let Ok(put_back) = signed_before(&self.server, alloc, bytes) else {
-            return Progress::Done(Outcome::NoMemory);
-        };
-        let progress = answer_request(&mut self.server, alloc, time, host, ready, bytes, out);
-        self.put_back = put_back;
-        progress
-    }
-
-    /// Keeps the digest of the signature of an envelope that the server sent, unless its log was put back.
-    fn keep_digest(&mut self, envelope: &Envelope)
-        ensures { self.new ≡ self.old }
-    {
-        if self.put_back.is_none() {
-            self.server.keep_digest(envelope);
-        }
-    }
-}
 
 /// The place that a connection holds, with its peer's address, and the clock by which it holds it.
 #[derive(Drop)]

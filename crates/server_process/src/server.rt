@@ -3,7 +3,8 @@
 ghost use Rattle.server_process.specs.PutBack.{IsEnding};
 
 use crate::checking::Checking;
-use crate::locked::{Held, LockedServer, Seat};
+use crate::held::Held;
+use crate::locked::{LockedServer, Seat};
 use crate::status::{ServerTeller, Tally, count_received};
 use authenticator::Roster;
 use frames::FrameReader;

@@ -2,7 +2,7 @@
 
 ghost use Rattle.std.specs.Prelude.{◌≡◌, None, Some};
 
-use crate::locked::Held;
+use crate::held::Held;
 use nodes::HonestServer;
 use peer_calls::{
     NODE_PROGRAM, NodeRequest, Segment, judge_call, read_node_request, read_results, read_segment,

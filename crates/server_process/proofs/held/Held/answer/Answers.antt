@@ -1,6 +1,6 @@
 use Rattle.std.proofs.Common.{inl}
 use Rattle.server_process.proofs.OfPutBack.{is_known}
-use Rattle.server_process.proofs.locked.Held.answer.Goals as goal
+use Rattle.server_process.proofs.held.Held.answer.Goals as goal
 
 pub returns-clause-shown : goal.returns-clause-shown
 returns-clause-shown c number was =
