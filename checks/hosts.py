@@ -33,8 +33,8 @@ from hosts.proxy import Delay, Garbler, Proxy, Rough, Swaps, Switch, Turns, Wave
 from peer import rows  # noqa: E402
 from peer.gateway import Gateway, ask, case_of, handed, last_shown, stands  # noqa: E402
 from peer.keys import Keys  # noqa: E402
-from peer.lies import (Fork, HidesLog, Liar, NoReply, OldReply, OtherAck, OtherMember, ReceivesTwice,  # noqa: E402
-                       Silent, Slow, Swapped, UnsignedAck, UnsignedReply, WrongReply, WrongXid)
+from peer.lies import (Fork, HidesLog, Liar, NoReply, OldReply, OtherAck, OtherMember, OwesAtBase,  # noqa: E402
+                       ReceivesTwice, Silent, Slow, Swapped, UnsignedAck, UnsignedReply, WrongReply, WrongXid)
 from peer.server import Server  # noqa: E402
 from peer.texts import whole  # noqa: E402
 from peer.wire import (DELIVER, GREET, MAX_BASE, NODE, SEGMENT, WITNESS, Address, Caller, call_text,  # noqa: E402
@@ -302,6 +302,28 @@ def check_late_lie(program: str):
         fault = exposed_alone(hosts, witness, cases)
         assert fault is not None and fault[0] == Fault.WRONG_REPLY, fault
     print('a server that lies after the base at which a witness began: it is exposed, and the evidence is taken')
+
+
+def check_late_owed(program: str):
+    """A server has the state of a base owe a reply that it made up. Nobody begins there who is asked to: the log is audited
+    from its first entry, and the lie is found."""
+    with Hosts(program) as hosts:
+        usual(hosts)
+        server = hosts.keep(OwesAtBase(hosts.keys('one', 1, SERVER, 7), hosts.roster(), at=3))
+        gateway = hosts.gateway('two', '2-2', server.address)
+        connection = Connection(gateway.address()[1])
+        for _ in range(2):
+            assert connection.ask(ATTRIBUTES) == owed(ATTRIBUTES)
+        assert connection.ask(ATTRIBUTES) != owed(ATTRIBUTES)
+        caller = Caller(server.address, NODE)
+        assert base_of(caller, 1) is not None
+        caller.close()
+        witness, cases = watched(hosts, server, '--join')
+        fault = exposed_alone(hosts, witness, cases)
+        assert fault is not None and fault[0] == Fault.BAD_FORM, fault
+        assert not any(re.fullmatch(FROM_BASE, line) for line in witness.lines), witness.lines
+        assert "what it showed isn't what it was asked for" in witness.said()
+    print('a base whose state owes a reply that was made up: no witness begins there, and the server is exposed')
 
 
 def check_goes_on(program: str):
@@ -1706,7 +1728,7 @@ def check_assured(program: str):
     print('a gateway says up to which reply each witness answers: not before it has taken what was signed, nor of a liar')
 
 
-CHECKS = [check_late, check_late_lie, check_goes_on, check_lie_between, check_below_base, check_meeting, check_bad_meetings, check_put_back, check_slow_readers, check_ask_many, check_server, check_strangers, check_assured, check_server_keys, check_three, check_rows, check_lie, check_fork, check_none, check_other_calls, check_suspected,
+CHECKS = [check_late, check_late_lie, check_late_owed, check_goes_on, check_lie_between, check_below_base, check_meeting, check_bad_meetings, check_put_back, check_slow_readers, check_ask_many, check_server, check_strangers, check_assured, check_server_keys, check_three, check_rows, check_lie, check_fork, check_none, check_other_calls, check_suspected,
           check_other_witness, check_lives, check_second_roster, check_keys_used_up, check_ask,
           check_calls, check_breaks, check_garbage, check_same_call, check_in_flight,
           check_sixteen_in_flight, check_disorder, check_rough_in_flight, check_gives_up_in_flight, check_gateway_put_back, check_open_message, check_rough,

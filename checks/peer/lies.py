@@ -3,6 +3,8 @@
 import threading
 
 from verifier.keys import Roster
+from verifier.log import Send
+from verifier.rpc import reply_to
 from verifier.xdr import Reader
 
 from .keys import Keys
@@ -52,6 +54,27 @@ class WrongReply(Liar):
 
     def changed(self, reply: bytes) -> bytes:
         return with_last_bit_changed(reply)
+
+
+class OwesAtBase(Liar):
+    """It makes the reply up, and logs no clock before it, but a CHECK of a state that owes it: the base there vouches for
+    it."""
+
+    def receive(self, text: bytes) -> bytes:
+        envelope = self.node.open(text)
+        if self.node.earlier(envelope) is None and len(self.places) + 1 == self.at:
+            self.places.append(self.vouch(envelope))
+        return super().receive(text)
+
+    def vouch(self, envelope: Envelope) -> int:
+        node = self.node
+        node.require(2, 3)
+        place, state = node.receive(envelope), node.state
+        reply = with_last_bit_changed(reply_to(state.world, envelope.body, state.clock))
+        state.heard, state.owed = None, Send(envelope.sender, reply)
+        node.checkpoint()
+        node.append(state.owed)
+        return place
 
 
 class WrongXid(Liar):

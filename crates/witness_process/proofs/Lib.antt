@@ -4,3 +4,4 @@ pub mod OfLines
 pub mod OfRosters
 mod OfListed
 pub mod OfPackets
+pub mod OfOverlaps

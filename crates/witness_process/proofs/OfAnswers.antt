@@ -12,7 +12,7 @@ use Rattle.watching.specs.Shown.{StandingParts}
 use Rattle.witness_process.specs.Answered.{AreAnsweredBySets, IsAbout, IsAnsweredBeside, IsAnsweredBy}
 use Rattle.witness_process.specs.Answered.{IsAnsweredByBooks, IsAnsweredByOwn, IsAnsweredBySets, IsAnsweredByTwo}
 use Rattle.witness_process.specs.Answered.{IsAnsweredInTurn, IsAnsweredOf, IsAnsweredUnderLock, IsPlaceOf, SaysWorse}
-use Rattle.witness_process.specs.Answered.{TellsBelow, ask_in, books_about, books_of, kind_of, with_books}
+use Rattle.witness_process.specs.Answered.{SetsStand, TellsBelow, ask_in, books_about, books_of, kind_of, with_books}
 use Rattle.witness_process.specs.declared.brought.RequestKind.{RequestKind}
 use Rattle.witness_process.specs.declared.brought.RequestKind.TheVariants as kinds
 use Rattle.witness_process.specs.declared.overlap.Before.{Before}
@@ -172,11 +172,11 @@ by_sets sets left digest bytes text o =
     answer_if (IsAnsweredBySets sets digest left) (AreAnsweredBySets sets digest) bytes text o (λ x. (left, x))
 
 -- by books that lay under a lock
-pub under_lock : (sets : BookSets) (digest bytes text : List ℕ) (o : Outcome)
+pub under_lock : (sets : BookSets) (digest bytes text : List ℕ) (o : Outcome) → SetsStand sets
     → IsAnswerIf (AreAnsweredBySets sets digest) bytes text o → IsAnswerIf (IsAnsweredUnderLock digest) bytes text o
-under_lock sets digest bytes text o =
+under_lock sets digest bytes text o stand =
     answer_if (AreAnsweredBySets sets digest) (IsAnsweredUnderLock digest) bytes text o
-    (λ x. record { sets = sets; answers = x })
+    (λ x. record { sets = sets; stand = stand; answers = x })
 
 -- ---- the place of a node's books
 

@@ -1,6 +1,6 @@
 -- What a witness answers, and by which of its books.
 use Rattle.std.specs.Prelude.{◌≡◌, ◌⊎◌, ◌<◌, ◌==◌, ℕ, nat_lt, Bool, true, false, List, [], ◌∷◌, drop, get_or}
-use Rattle.std.specs.Prelude.{length, set, Option, Some, None, Result, Ok, Err, if◌then◌else◌}
+use Rattle.std.specs.Prelude.{length, set, All, Option, Some, None, Result, Ok, Err, if◌then◌else◌}
 use Rattle.xdr.specs.Reading.{number_at}
 use Rattle.authenticator.specs.declared.member.Member.{Member}
 use Rattle.rpc.specs.Call.{message_at}
@@ -21,6 +21,8 @@ use Rattle.witness_books.specs.node_book.Replies.{indication_in}
 use Rattle.witness_books.specs.node_book.witness_spec.Events as events
 use Rattle.witness_books.specs.node_book.witness_spec.Steps.{OwnStep}
 use Rattle.witness_books.specs.node_book.witness_spec.Whose.{whose}
+use Rattle.witness_process.specs.Histories.{StandForHistory}
+use Rattle.witness_process.specs.Overlaps.{StandBeside}
 use Rattle.witness_process.specs.declared.brought.RequestKind.{RequestKind}
 use Rattle.witness_process.specs.declared.brought.RequestKind.TheVariants as kinds
 use Rattle.witness_process.specs.declared.overlap.Before.{Before}
@@ -143,12 +145,6 @@ IsAnsweredByTwo kinds.Faults node current before digest current' before' record_
 IsAnsweredByTwo kinds.Other node current before digest current' before' record_bytes text =
     IsAnsweredBy current digest current' record_bytes text × (before' ≡ before)
 
--- Of books beside others nothing changed but what they stand for.
-pub record StandBeside (before after : Before) : Type 0 where
-  pub at : after.at ≡ before.at
-  pub since : after.since ≡ before.since
-  pub unshown : after.unshown ≡ before.unshown
-
 -- By books beside which others may stand.
 abbrev pub IsAnsweredBeside : RequestKind → (node : ℕ) → (current : StandingParts) → Option Before → (digest : List ℕ)
     → (current' : StandingParts) → Option Before → (record_bytes text : List ℕ) → Type 0
@@ -221,7 +217,22 @@ abbrev pub AreAnsweredBySets : (sets : BookSets) → (digest record_bytes text :
 AreAnsweredBySets sets digest record_bytes text =
     (left : BookSets) × IsAnsweredBySets sets digest left record_bytes text
 
--- The same by books that lay under a lock.
+-- The books of a server stand for histories, and those beside them, if some do.
+abbrev pub BesideStands : Option Before → Type 0
+BesideStands None = Unit {0}
+BesideStands (Some before) = StandForHistory before.standing.books
+
+pub record OwnStand (b : NodeBooks) : Type 0 where
+  pub current : StandForHistory b.current.books
+  pub before : BesideStands b.before
+
+-- All books of a witness stand for histories.
+pub record SetsStand (sets : BookSets) : Type 0 where
+  pub shared : StandForHistory sets.shared.books
+  pub own : All OwnStand sets.own.items
+
+-- The same by books that lay under a lock, each of which stood for a history.
 pub record IsAnsweredUnderLock (digest record_bytes text : List ℕ) : Type 0 where
   pub sets : BookSets
+  pub stand : SetsStand sets
   pub answers : AreAnsweredBySets sets digest record_bytes text

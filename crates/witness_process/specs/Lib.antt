@@ -1,4 +1,5 @@
 pub mod Answered
+pub mod Histories
 pub mod Lines
 pub mod Opened
 pub mod Overlaps

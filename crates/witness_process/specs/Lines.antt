@@ -1,16 +1,17 @@
 -- Which line is said of a node, and when.
-use Rattle.std.specs.Prelude.{◌≡◌, ◌<◌, ◌-◌, ℕ, List, [], ◌++◌, Option, Some, None}
+use Rattle.std.specs.Prelude.{◌≡◌, ◌⊎◌, ◌<◌, ◌-◌, ℕ, List, [], ◌++◌, Option, Some, None, codes}
 use Rattle.witness_books.specs.node_book.declared.reply.Indication.{Indication}
 use Rattle.witness_books.specs.node_book.declared.reply.Indication.TheVariants.{Trusted, Suspected, Exposed}
 use Rattle.witness_books.specs.Books.{BooksParts}
 use Rattle.watching.specs.Telling.{Tells, told_line}
 use Rattle.watching.specs.declared.told.NodeTold.{NodeTold}
+use Rattle.witness_process.specs.Histories.{StandForHistory}
 use Rattle.witness_process.specs.declared.due.Saying.{Saying}
 use Rattle.witness_process.specs.declared.opened.OpenChallenge.{OpenChallenge}
 
--- Some books of a witness told this.
+-- Some books of a witness, which stood for a history, told this.
 abbrev pub WasTold : NodeTold → Type 0
-WasTold told = (old : BooksParts) × (new : BooksParts) × Tells old told.node told new
+WasTold told = (old : BooksParts) × (new : BooksParts) × StandForHistory old × Tells old told.node told new
 
 -- the challenge that is named beside an indication
 abbrev pub oldest_said : Indication → Option OpenChallenge → Option OpenChallenge
@@ -54,12 +55,19 @@ pub record IsSaidAt (time patience : ℕ) (saying : Saying) : Type 0 where
   pub told : WasTold saying.told
   pub late : saying.told.indication ≡ Suspected → HasWaited saying.oldest time patience
 
--- A text begins with the line of what the books told; only of a node that is suspected more may follow.
+-- what may follow the line of what the books told: nothing, or a colon, a space, and more
+abbrev pub MayFollow : (rest : List ℕ) → Type 0
+MayFollow rest = (rest ≡ []) ⊎ ((more : List ℕ) × (rest ≡ codes ": " ++ more))
+
+-- A text is the line of what the books told; only of a node that is suspected more follows.
 pub record IsLineOf (saying : Saying) (text : List ℕ) : Type 0 where
   pub rest : List ℕ
   pub is : text ≡ told_line saying.told ++ rest
+  pub follows : MayFollow rest
   pub alone : saying.oldest ≡ None → rest ≡ []
 
--- A text begins with the line of what the books told.
-abbrev pub BeginsLine : Saying → List ℕ → Type 0
-BeginsLine saying text = (rest : List ℕ) × (text ≡ told_line saying.told ++ rest)
+-- A text is the line of what the books told, and what may follow.
+pub record BeginsLine (saying : Saying) (text : List ℕ) : Type 0 where
+  pub rest : List ℕ
+  pub is : text ≡ told_line saying.told ++ rest
+  pub follows : MayFollow rest

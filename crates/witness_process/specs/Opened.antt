@@ -1,5 +1,5 @@
 -- When challenges were opened.
-use Rattle.std.specs.Prelude.{◌≡◌, ◌⊎◌, ◌==◌, if◌then◌else◌, ℕ, List, [], ◌∷◌}
+use Rattle.std.specs.Prelude.{◌≡◌, ◌⊎◌, ◌==◌, if◌then◌else◌, ℕ, List, [], ◌∷◌, Option, Some, None}
 use Rattle.envelopes.specs.Envelope.{envelope_message}
 use Rattle.challenge.specs.declared.challenge.Challenge.{Challenge}
 use Rattle.challenge.specs.declared.challenge.Challenge.TheVariants as challenges
@@ -28,3 +28,8 @@ wanted_of (challenges.Send envelope) = wanted.Message (envelope_message envelope
 pub record IsListed (before : List OpenChallenge) (time : ℕ) (challenge : Challenge) (one : OpenChallenge) : Type 0 where
   pub wanted : one.wanted ≡ wanted_of challenge
   pub since : IsSince one.wanted before time one.since
+
+-- the oldest of the challenges that are open, if one is: they stand in the order in which they came
+abbrev pub oldest_in : List OpenChallenge → Option OpenChallenge
+oldest_in [] = None
+oldest_in (one ∷ others) = Some one

@@ -8,7 +8,7 @@ use Rattle.challenge.specs.KnownBases as bases
 use Rattle.watching.specs.Answers.{standing_number}
 use Rattle.watching.specs.Filed.{GoesOnBy}
 use Rattle.watching.specs.Shown.{StandingParts, last_shown}
-use Rattle.watching.specs.Telling.{IsDelivered, ShowsIf, Steps, TellsIf}
+use Rattle.watching.specs.Telling.{IsDelivered, ShowsIf, Steps, TellsIf, WereAsked}
 use Rattle.watching.specs.declared.deliver.Delivered.{Delivered}
 use Rattle.watching.specs.declared.deliver.Delivered.TheVariants as delivered
 use Rattle.watching.specs.declared.told.NodeTold.{NodeTold}
@@ -20,11 +20,66 @@ use Rattle.witness_books.specs.node_book.declared.reply.Indication.TheVariants.{
 use Rattle.witness_books.specs.node_book.witness_spec.Contract.{starting_books}
 use Rattle.witness_books.specs.node_book.witness_spec.Events.{Audit}
 use Rattle.witness_books.specs.node_book.witness_spec.Refusals.{NothingToAudit}
-use Rattle.witness_books.specs.node_book.witness_spec.Replies.{Refused}
+use Rattle.witness_books.specs.node_book.witness_spec.Replies.{Refused, Reply}
 use Rattle.witness_books.specs.node_book.evidence_spec.Evidence.{EvidenceParts}
 use Rattle.packets.specs.Packet.{Learn, packet_text}
 use Rattle.witness_process.specs.declared.overlap.Before.{Before}
 use Rattle.witness_process.specs.declared.overlap.NodeBooks.{NodeBooks}
+
+-- ---- what stays
+
+-- Of books beside others nothing changed but what they stand for.
+pub record StandBeside (before after : Before) : Type 0 where
+  pub at : after.at ≡ before.at
+  pub since : after.since ≡ before.since
+  pub unshown : after.unshown ≡ before.unshown
+
+-- the same where books stand beside others
+abbrev pub StayBeside : Option Before → Option Before → Type 0
+StayBeside None None = Unit {0}
+StayBeside (Some before) (Some after) = StandBeside before after
+StayBeside None (Some after) = ⊥
+StayBeside (Some before) None = ⊥
+
+-- They are of the same server, from the same time on, and the same stand beside them, if some do.
+pub record AreOfSame (old new : NodeBooks) : Type 0 where
+  pub node : new.node ≡ old.node
+  pub begun : new.begun ≡ old.begun
+  pub beside : StayBeside old.before new.before
+
+-- Books were asked of a node: nothing else led them on, and what was shown stays.
+pub record AreAsked (node : ℕ) (old new : StandingParts) : Type 0 where
+  pub same : beginning_of new.books ≡ beginning_of old.books
+  pub asked : WereAsked old.books node new.books
+  pub shown : new.shown ≡ old.shown
+
+-- those beside others
+abbrev pub AreAskedBeside : (node : ℕ) → Option Before → Option Before → Type 0
+AreAskedBeside node None None = Unit {0}
+AreAskedBeside node (Some before) (Some after) = AreAsked node before.standing after.standing × StandBeside before after
+AreAskedBeside node None (Some after) = ⊥
+AreAskedBeside node (Some before) None = ⊥
+
+-- The books of a server were asked of it, those beside them, too; nothing else became of them.
+pub record OnlyAsked (old new : NodeBooks) : Type 0 where
+  pub node : new.node ≡ old.node
+  pub begun : new.begun ≡ old.begun
+  pub current : AreAsked old.node old.current new.current
+  pub before : AreAskedBeside old.node old.before new.before
+
+-- Books were asked of a node, and perhaps an audit of it was opened: nothing else led them on, and what was shown stays.
+pub record WereLookedAt (node : ℕ) (old new : StandingParts) : Type 0 where
+  pub between : StandingParts
+  pub asked : AreAsked node old between
+  pub audited : (new ≡ between) ⊎ ((reply : Reply) × Steps between.books (Audit node) reply new.books
+      × (beginning_of new.books ≡ beginning_of between.books) × (new.shown ≡ between.shown))
+
+-- The books of a server were, and those beside them stay.
+pub record OnlyLookedAt (old new : NodeBooks) : Type 0 where
+  pub node : new.node ≡ old.node
+  pub begun : new.begun ≡ old.begun
+  pub current : WereLookedAt old.node old.current new.current
+  pub before : new.before ≡ old.before
 
 -- ---- what is told
 
@@ -83,6 +138,10 @@ IsDeliveredTo old packet became new =
 
 -- ---- going on
 
+-- the clients of a roster
+abbrev pub clients_of : List Member → List ℕ
+clients_of ms = map (λ m. m.node) (filter (λ m. kind_number m.kind == 2) ms)
+
 -- Books trust a node: there is no evidence against it, and no challenge is open.
 pub record IsTrusted (node : ℕ) (old new : BooksParts) : Type 0 where
   pub told : NodeTold
@@ -109,23 +168,25 @@ pub record BeginsAt (old : StandingParts) (k : bases.KnownBase) (new : StandingP
   pub delivers : IsDelivered opening (packet_text (Learn authenticator)) became new.books
   pub kept : (became ≡ delivered.Taken) ⊎ (became ≡ delivered.Already)
 
--- Books went on: none stood beside them; they trusted the node, and had nothing left to audit; the base is at a CHECK that
--- they have themselves filed as sound, with that very state; other books begin there, and these stand beside them.
-pub record WentOn (old new : NodeBooks) : Type 0 where
+-- Books went on at a time: none stood beside them; they trusted the node, and had nothing left to audit, and were led on by
+-- no more than that this was looked at; the base is at a CHECK that they have themselves filed as sound, with that very
+-- state; other books begin there, and these stand beside them until each client showed a signature, from that time on.
+pub record WentOn (time : ℕ) (old new : NodeBooks) : Type 0 where
   pub none : old.before ≡ None
   pub before : Before
   pub stands : new.before ≡ Some before
   pub settled : IsSettled old.node old.current.books before.standing.books
+  pub looked : WereLookedAt old.node old.current before.standing
   pub base : bases.KnownBase
   pub goes : GoesOnBy before.standing.books base
   pub at : before.at ≡ base.at
   pub begins : BeginsAt before.standing base new.current
+  pub since : before.since ≡ time
+  pub unshown : before.unshown.items ≡ clients_of before.standing.books.roster
+  pub node : new.node ≡ old.node
+  pub begun : new.begun ≡ time
 
 -- ---- letting go
-
--- the clients of a roster
-abbrev pub clients_of : List Member → List ℕ
-clients_of ms = map (λ m. m.node) (filter (λ m. kind_number m.kind == 2) ms)
 
 -- the clients whose logs showed no signature from a number on, after a client's log showed one with a number
 abbrev pub unshown_after : (client at number : ℕ) → List ℕ → List ℕ
@@ -158,9 +219,9 @@ pub record Goes (node time overlap : ℕ) (b : Before) : Type 0 where
   pub may : MayGo b time overlap
   pub trusted : IsTrustedBy node b.standing.books
 
--- What becomes of books that stand beside others.
+-- What becomes of books that stand beside others: they are let go, or were at most asked of the node.
 abbrev pub AreLetGo : (node time overlap : ℕ) → Option Before → Option Before → Type 0
 AreLetGo node time overlap None after = after ≡ None
 AreLetGo node time overlap (Some before) None = Goes node time overlap before
 AreLetGo node time overlap (Some before) (Some after) =
-    (after.at ≡ before.at) × (after.since ≡ before.since) × (after.unshown.items ≡ before.unshown.items)
+    AreAsked node before.standing after.standing × StandBeside before after

@@ -9,7 +9,7 @@ use std::alloc::{AllocError, Global};
 use std::marker::Model;
 use watching::{NodeTold, Standing};
 
-/// What a witness's books told of a member. Its type keeps that books told it.
+/// What a witness's books told of a member. Its type keeps that books told it which stood for a history.
 #[derive(Drop)]
 pub(crate) struct Account {
     told: NodeTold,
@@ -38,7 +38,9 @@ impl Account {
         ensures node { IfOk result (λ asked. IfSome asked (λ a. a.node ≡ node)) }
         ensures told { IfOk result (λ asked. TellsIf standing.old.books node asked standing.new.books) }
         ensures asked { WereAsked standing.old.books node standing.new.books }
+        ensures shown { standing.new.shown ≡ standing.old.shown }
     {
+        standing.books().stand();
         match standing.told(alloc, node)? {
             Some(told) => Ok(Some(Account { told })),
             None => Ok(None),

@@ -104,11 +104,13 @@ fn is_untouched(told: &NodeTold) -> bool
 impl Saying {
     /// The line, without a time and without a line feed, as in
     /// `1 suspected 1 to 4096: asked for 4097 to 8190 since 10:00:02`.
+    #[tactic(auto, using(crate::proofs::OfLines::with_oldest))]
     pub(crate) fn line(&self, alloc: Global) -> Result<String, AllocError>
         ensures { IfOk result (λ line. IsLineOf self.now (string_bytes line)) }
     {
         let mut line = self.told.line(alloc)?;
         if let Some(oldest) = &self.oldest {
+            line.push_str(": ")?;
             let since = since_text(alloc, oldest)?;
             line.push_str(&since)?;
         }
@@ -122,13 +124,11 @@ fn since_text(alloc: Global, oldest: &OpenChallenge) -> Result<String, AllocErro
     let (hour, minute, second) = (second / 3_600, second / 60 % 60, second % 60);
     match oldest.wanted {
         Wanted::Segment { first, last } => {
-            format!(in alloc;
-                ": asked for {first} to {last} since {hour:02}:{minute:02}:{second:02}"
-            )
+            format!(in alloc; "asked for {first} to {last} since {hour:02}:{minute:02}:{second:02}")
         }
         Wanted::Message(_) => {
             format!(in alloc;
-                ": asked to acknowledge a message since {hour:02}:{minute:02}:{second:02}"
+                "asked to acknowledge a message since {hour:02}:{minute:02}:{second:02}"
             )
         }
     }

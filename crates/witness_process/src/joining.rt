@@ -2,8 +2,10 @@
 
 ghost use Rattle.std.specs.Prelude.{◌≡◌, IfOk};
 ghost use Rattle.challenge.specs.KnownBases.{IsGoodText, parts_of};
+ghost use Rattle.replay_spec.specs.Steps.{OwesNothing};
 
 use crate::causes::{Cause, server_line};
+use crate::idle::owes_nothing;
 use crate::orders::WatchedServer;
 use authenticator::{Checked, Refusal, Roster};
 use challenge::{Base, check_base};
@@ -107,8 +109,9 @@ fn has_node(bases: &[Checked<Base>], node: u32) -> bool {
     false
 }
 
-/// The base that these bytes are, where it is good under the roster, and of this very node; else `Refused`. `NoMemory`
-/// comes only where a growth was refused.
+/// The base that these bytes are, where it is good under the roster, of this very node, and owes nothing; else `Refused`.
+/// What a server owes at a base is its own word alone, so a reply that it sends then would be, too. `NoMemory` comes only
+/// where a growth was refused.
 pub(crate) fn good_base(
     alloc: Global,
     roster: &Roster,
@@ -117,13 +120,14 @@ pub(crate) fn good_base(
 ) -> Result<Checked<Base>, Cause>
     ensures good { IfOk result (λ c. IsGoodText roster.now bytes.now (parts_of c.value) c.member c.value.state) }
     ensures node { IfOk result (λ c. c.value.showing.node ≡ node) }
+    ensures idle { IfOk result (λ c. OwesNothing c.value.state.machine) }
 {
     let base = match check_base(alloc, roster, bytes) {
         Ok(base) => base,
         Err(Refusal::NoMemory) => return Err(Cause::NoMemory),
         Err(_) => return Err(Cause::Refused),
     };
-    if base.value().showing().node() != node {
+    if base.value().showing().node() != node || !owes_nothing(alloc, base.value())? {
         return Err(Cause::Refused);
     }
     Ok(base)

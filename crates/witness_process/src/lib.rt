@@ -12,6 +12,7 @@ mod elsewhere;
 mod evidence;
 mod filing;
 mod going_on;
+mod idle;
 mod joining;
 mod links;
 mod meetings;

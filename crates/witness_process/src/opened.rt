@@ -2,7 +2,7 @@
 
 ghost use Rattle.std.specs.Prelude.{◌≡◌, IfOk, map};
 ghost use Rattle.std.specs.List.{AllZip};
-ghost use Rattle.witness_process.specs.Opened.{IsListed, IsSince, opened_one, wanted_of};
+ghost use Rattle.witness_process.specs.Opened.{IsListed, IsSince, oldest_in, opened_one, wanted_of};
 
 use challenge::Challenge;
 use envelopes::Message;
@@ -76,7 +76,9 @@ fn since_of(wanted: &Wanted, before: &[OpenChallenge], time: u64) -> u64
 }
 
 /// The oldest of the challenges that are open, if one is: they stand in the order in which they came.
-pub(crate) fn oldest_of(listed: &[OpenChallenge]) -> Option<OpenChallenge> {
+pub(crate) fn oldest_of(listed: &[OpenChallenge]) -> Option<OpenChallenge>
+    ensures { result ≡ oldest_in listed.now }
+{
     match listed.first() {
         Some(oldest) => Some(*oldest),
         None => None,

@@ -13,8 +13,10 @@ ghost use Rattle.witness_books.specs.node_book.witness_spec.Refusals.{NothingToA
 ghost use Rattle.witness_books.specs.node_book.witness_spec.Replies.{Refused};
 ghost use Rattle.witness_process.specs.Answered.{IsAnsweredByBooks, IsAnsweredByTwo, IsAnsweredInTurn, SaysWorse};
 ghost use Rattle.witness_process.specs.Answered.{TellsBelow, is_worse, kind_of};
-ghost use Rattle.witness_process.specs.Overlaps.{AreLetGo, BeginsAt, IsDeliveredTo, IsSettled, IsShown, IsTrusted};
-ghost use Rattle.witness_process.specs.Overlaps.{IsTrustedBy, MayGo, NotesShown, ShowsEither, TellsBoth, WentOn};
+ghost use Rattle.witness_process.specs.Answered.{OwnStand};
+ghost use Rattle.witness_process.specs.Overlaps.{AreAsked, AreLetGo, AreOfSame, BeginsAt, IsDeliveredTo, IsSettled};
+ghost use Rattle.witness_process.specs.Overlaps.{IsShown, IsTrusted, IsTrustedBy, MayGo, NotesShown, OnlyAsked};
+ghost use Rattle.witness_process.specs.Overlaps.{OnlyLookedAt, ShowsEither, TellsBoth, WentOn, WereLookedAt};
 ghost use Rattle.witness_process.specs.Overlaps.{clients_of, worse, worse_of};
 
 use crate::account::Account;
@@ -74,8 +76,10 @@ impl NodeBooks {
 
     /// What the books say of the server: while two sets stand, the worse of what they say. None where it is no member.
     /// `AllocError` comes only where a growth was refused.
+    #[tactic(auto, using(crate::proofs::OfOverlaps::not_asked, crate::proofs::OfOverlaps::none_asked, crate::proofs::OfOverlaps::still_beside))]
     pub(crate) fn ask(&mut self, alloc: Global) -> Result<Option<Account>, AllocError>
-        ensures { IfOk result (λ told. TellsBoth self.old told self.new) }
+        ensures told { IfOk result (λ told. TellsBoth self.old told self.new) }
+        ensures asked { OnlyAsked self.old self.new }
     {
         let current = Account::ask(&mut self.current, alloc, self.node)?;
         match &mut self.before {
@@ -88,8 +92,10 @@ impl NodeBooks {
     }
 
     /// The evidence against the server, if either set has some. `AllocError` comes only where a growth was refused.
+    #[tactic(auto, using(crate::proofs::OfOverlaps::not_asked, crate::proofs::OfOverlaps::none_asked, crate::proofs::OfOverlaps::still_beside))]
     pub(crate) fn evidence(&mut self, alloc: Global) -> Result<Option<Arc<Evidence>>, AllocError>
-        ensures { IfOk result (λ e. ShowsEither self.old (option_map arc_value e) self.new) }
+        ensures shows { IfOk result (λ e. ShowsEither self.old (option_map arc_value e) self.new) }
+        ensures asked { OnlyAsked self.old self.new }
     {
         let found = self.current.evidence(alloc, self.node)?;
         if found.is_some() {
@@ -103,13 +109,15 @@ impl NodeBooks {
 
     /// Hands a packet to the books: what lies below their base goes to those from which they went on. `AllocError` comes
     /// only where a growth was refused.
+    #[tactic(auto, using(crate::proofs::OfOverlaps::stay_beside, crate::proofs::OfOverlaps::still_beside))]
     pub(crate) fn deliver(
         &mut self,
         alloc: Global,
         cache: &mut SignatureCache,
         packet: &[u8],
     ) -> Result<Delivered, AllocError>
-        ensures { IfOk result (λ became. IsDeliveredTo self.old packet.now became self.new) }
+        ensures delivered { IfOk result (λ became. IsDeliveredTo self.old packet.now became self.new) }
+        ensures same { AreOfSame self.old self.new }
     {
         let became = self.current.deliver(alloc, cache, packet)?;
         if became != Delivered::Refused(Refusal::BelowBase) {
@@ -173,6 +181,8 @@ impl NodeBooks {
 
     /// Notes that a client's log showed a signature of the server's with a number.
     pub(crate) fn note_shown(&mut self, client: u32, number: u64)
+        ensures node { self.new.node ≡ self.old.node }
+        ensures begun { self.new.begun ≡ self.old.begun }
         ensures current { self.new.current ≡ self.old.current }
         ensures before { NotesShown self.old.before client number self.new.before }
     {
@@ -183,7 +193,10 @@ impl NodeBooks {
 
     /// Lets the books go from which these went on, where they stood for more seconds than these or each client's log showed
     /// a signature of the server's from the base on; not where they expose the server, or a challenge by them is open.
+    #[tactic(auto, using(crate::proofs::OfOverlaps::not_asked, crate::proofs::OfOverlaps::still_beside))]
     pub(crate) fn let_go(&mut self, alloc: Global, time: u64, overlap: u32)
+        ensures node { self.new.node ≡ self.old.node }
+        ensures begun { self.new.begun ≡ self.old.begun }
         ensures current { self.new.current ≡ self.old.current }
         ensures before { AreLetGo self.old.node time overlap self.old.before self.new.before }
     {
@@ -195,17 +208,25 @@ impl NodeBooks {
         }
     }
 
+    /// Each of the books stands for a history, as its type keeps it: does nothing, and tells a caller's proof.
+    pub(crate) fn stand(&self)
+        ensures { OwnStand self.now }
+    {
+        self.current.books().stand();
+        if let Some(before) = &self.before {
+            before.standing.books().stand();
+        }
+    }
+
     /// The number after which a base is to be asked for, so that it is at a CHECK of the segment that was filed sound last:
     /// once the books stand for so many seconds, or half of what a book takes was audited, and only where no books stand
     /// beside them.
     pub(crate) fn base_after(&self, time: u64, overlap: u32) -> Option<u64> {
-        if self.before.is_some() {
-            return None;
-        }
         let from = began(&self.current, self.node);
         let end = self.current.end(self.node)?;
         let age = time.saturating_sub(self.begun);
-        if age < u64::from(overlap) && end.saturating_sub(from) < HALF_A_BOOK {
+        let is_early = age < u64::from(overlap) && end.saturating_sub(from) < HALF_A_BOOK;
+        if self.before.is_some() || is_early {
             return None;
         }
         let first = self.current.last_first(self.node)?;
@@ -214,8 +235,10 @@ impl NodeBooks {
 
     /// Goes on by a base at a CHECK that the books have themselves filed as sound, with that very state: other books begin
     /// there, with what the server showed last, and these stay beside them. It doesn't where books stand beside them, where
-    /// the server is exposed or a challenge to it is open, or where something is left to audit. Says whether it did.
-    /// `AllocError` comes only where a growth was refused; then the books are as they were but for questions.
+    /// the server is exposed or a challenge to it is open, or where something is left to audit. Says whether it did; where
+    /// it didn't the books are as they were but for questions and an audit that was opened. `AllocError` comes only where a
+    /// growth was refused, and leaves them so, too.
+    #[tactic(auto, using(crate::proofs::OfOverlaps::not_asked, crate::proofs::OfOverlaps::looked_at))]
     pub(crate) fn go_on(
         &mut self,
         alloc: Global,
@@ -223,11 +246,14 @@ impl NodeBooks {
         base: Checked<Base>,
         time: u64,
     ) -> Result<bool, AllocError>
-        ensures went { IfOk result (λ went. IsTrue went → WentOn self.old self.new) }
-        ensures stays { IfOk result (λ went. IsFalse went → self.new.before ≡ self.old.before) }
-        ensures refused { OnErr result (self.new.before ≡ self.old.before) }
+        ensures went { IfOk result (λ went. IsTrue went → WentOn time self.old self.new) }
+        ensures stays { IfOk result (λ went. IsFalse went → OnlyLookedAt self.old self.new) }
+        ensures refused { OnErr result (OnlyLookedAt self.old self.new) }
     {
-        if self.before.is_some() || !self.is_settled(alloc)? {
+        if self.before.is_some() {
+            return Ok(false);
+        }
+        if !self.is_settled(alloc)? {
             return Ok(false);
         }
         if !self.current.may_go_on(alloc, base.value())? {
@@ -251,11 +277,13 @@ impl NodeBooks {
 
     /// Whether the server is trusted, and nothing is left to audit. An audit may be opened to know it. `AllocError` comes
     /// only where a growth was refused.
+    #[tactic(auto, using(crate::proofs::OfOverlaps::looked_at, crate::proofs::OfOverlaps::looked_into))]
     fn is_settled(&mut self, alloc: Global) -> Result<bool, AllocError>
         ensures settled { IfOk result (λ b. IsTrue b →
             IsSettled self.old.node self.old.current.books self.new.current.books) }
         ensures node { self.new.node ≡ self.old.node }
-        ensures beginning { beginning_of self.new.current.books ≡ beginning_of self.old.current.books }
+        ensures begun { self.new.begun ≡ self.old.begun }
+        ensures looked { WereLookedAt self.old.node self.old.current self.new.current }
         ensures before { self.new.before ≡ self.old.before }
     {
         if !is_trusted(&mut self.current, alloc, self.node)? {
@@ -301,6 +329,7 @@ impl Before {
     /// Whether they trust the server. Where memory is refused they count as if they didn't.
     fn is_trusted(&mut self, alloc: Global, node: u32) -> bool
         ensures told { IsTrue result → IsTrustedBy node self.old.standing.books }
+        ensures asked { AreAsked node self.old.standing self.new.standing }
         ensures at { self.new.at ≡ self.old.at }
         ensures since { self.new.since ≡ self.old.since }
         ensures unshown { self.new.unshown ≡ self.old.unshown }
@@ -312,7 +341,7 @@ impl Before {
 /// Whether books trust a node: there is no evidence against it, and no challenge is open. `AllocError` comes only where a
 /// growth was refused.
 fn is_trusted(standing: &mut Standing, alloc: Global, node: u32) -> Result<bool, AllocError>
-    ensures beginning { beginning_of standing.new.books ≡ beginning_of standing.old.books }
+    ensures asked { AreAsked node standing.old standing.new }
     ensures trusted { IfOk result (λ b. IsTrue b → IsTrusted node standing.old.books standing.new.books) }
 {
     let Some(told) = standing.told(alloc, node)? else {

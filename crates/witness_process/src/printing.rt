@@ -1,7 +1,7 @@
 //! Lines on standard output.
 
-ghost use Rattle.std.specs.Prelude.{IfOk, string_bytes};
-ghost use Rattle.witness_process.specs.Lines.{BeginsLine};
+ghost use Rattle.std.specs.Prelude.{◌≡◌, IfOk, None, string_bytes};
+ghost use Rattle.witness_process.specs.Lines.{BeginsLine, IsLineOf};
 
 use crate::context::Context;
 use crate::due::Saying;
@@ -71,7 +71,8 @@ where
 /// A line of a node, and where the evidence is, if it was put anywhere.
 #[tactic(auto, using(crate::proofs::OfLines::begins, crate::proofs::OfLines::longer))]
 fn whole_line(alloc: Global, saying: &Saying, name: Option<String>) -> Result<String, AllocError>
-    ensures { IfOk result (λ line. BeginsLine saying.now (string_bytes line)) }
+    ensures begins { IfOk result (λ line. BeginsLine saying.now (string_bytes line)) }
+    ensures alone { name ≡ None → IfOk result (λ line. IsLineOf saying.now (string_bytes line)) }
 {
     let mut line = saying.line(alloc)?;
     if let Some(name) = name {

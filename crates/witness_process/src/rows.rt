@@ -1,7 +1,10 @@
 //! What a witness keeps of a node beside its books.
 
-ghost use Rattle.std.specs.Prelude.{IfSome};
-ghost use Rattle.witness_process.specs.Lines.{IsSaidAt};
+ghost use Rattle.std.specs.Prelude.{◌≡◌, IfSome, List, OnErr, OnOk};
+ghost use Rattle.std.specs.List.{AllZip};
+ghost use Rattle.challenge.specs.declared.challenge.Challenge.{Challenge};
+ghost use Rattle.witness_process.specs.Lines.{IsSaidAt, saying_of};
+ghost use Rattle.witness_process.specs.Opened.{IsListed, oldest_in};
 
 use crate::account::Account;
 use crate::due::{Saying, line_due, seconds_open};
@@ -44,14 +47,18 @@ impl Row {
         }
     }
 
-    /// Asks the books what they say of the node, and which challenges to it are open. Where memory is refused it is
-    /// still stale.
+    /// Asks the books what they say of the node, and which challenges to it are open: one that was open before keeps its
+    /// time. Where memory is refused it is still stale, and the challenges are those of before.
     pub(crate) fn refresh(
         &mut self,
         alloc: Global,
         books: &mut BookSets,
         host: &mut Host,
-    ) -> Result<(), AllocError> {
+    ) -> Result<(), AllocError>
+        ensures lists { OnOk result ((asked : List Challenge)
+            × AllZip (IsListed self.old.challenges.items host.old.time) asked self.new.challenges.items) }
+        ensures stays { OnErr result (self.new.challenges.items ≡ self.old.challenges.items) }
+    {
         self.is_stale = true;
         let challenges = books.wanted(alloc, self.node)?;
         let listed = open_after(alloc, &challenges, &self.challenges, host.time)?;
@@ -69,7 +76,9 @@ impl Row {
     /// The line of the node that is due at a time, if one is. It counts as said.
     #[tactic(auto, using(crate::proofs::OfLines::said_at))]
     pub(crate) fn take_due(&mut self, time: u64, patience: u32) -> Option<Saying>
-        ensures { IfSome result (IsSaidAt time patience) }
+        ensures said { IfSome result (IsSaidAt time patience) }
+        ensures says { IfSome result (λ saying.
+            saying ≡ saying_of self.old.account (oldest_in self.old.challenges.items)) }
     {
         let oldest = oldest_of(&self.challenges);
         let seconds = seconds_open(oldest, time);

@@ -1,9 +1,10 @@
 //! All books of a witness: of each server that it audits books of its own, which may go on by a base, and one set of books
 //! for all other members.
 
-ghost use Rattle.std.specs.Prelude.{◌≡◌, IfSome, None, ℕ};
+ghost use Rattle.std.specs.Prelude.{◌≡◌, All, IfSome, None, ℕ};
 ghost use Rattle.request_streams.specs.Serving.{IsAnswerIf};
-ghost use Rattle.witness_process.specs.Answered.{IsAnsweredBySets, IsPlaceOf, books_about, books_of};
+ghost use Rattle.witness_process.specs.Answered.{IsAnsweredBySets, IsPlaceOf, OwnStand, SetsStand, books_about};
+ghost use Rattle.witness_process.specs.Answered.{books_of};
 
 use crate::account::Account;
 use crate::brought::{node_in, request_in};
@@ -63,6 +64,14 @@ impl BookSets {
             }
         }
         Account::ask(&mut self.shared, alloc, node)
+    }
+
+    /// Each of the books stands for a history, as its type keeps it: does nothing, and tells a caller's proof.
+    pub(crate) fn stand(&self)
+        ensures { SetsStand self.now }
+    {
+        self.shared.books().stand();
+        stand_each(&self.own);
     }
 
     /// Answers a record: where it is about a server with books of its own, by these. `NoMemory` is the answer, too, where
@@ -228,6 +237,15 @@ impl BookSets {
         for own in self.own.iter_mut() {
             own.let_go(alloc, time, overlap);
         }
+    }
+}
+
+/// Each of these books stands for a history: does nothing, and tells a caller's proof.
+fn stand_each(own: &[NodeBooks])
+    ensures { All OwnStand own.now }
+{
+    for one in own {
+        one.stand();
     }
 }
 

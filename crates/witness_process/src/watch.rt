@@ -2,7 +2,7 @@
 
 ghost use Rattle.std.specs.Prelude.{IfSome};
 ghost use Rattle.request_streams.specs.Serving.{IsAnswerIf};
-ghost use Rattle.witness_process.specs.Answered.{AreAnsweredBySets, IsAnsweredBy};
+ghost use Rattle.witness_process.specs.Answered.{AreAnsweredBySets, IsAnsweredBy, SetsStand};
 ghost use Rattle.witness_process.specs.Lines.{IsSaidAt};
 
 use crate::brought::{brought_by, brought_in};
@@ -110,8 +110,10 @@ impl Watch {
         bytes: &[u8],
         out: &mut Vec<u8>,
     ) -> Outcome
-        ensures { IsAnswerIf (AreAnsweredBySets self.old.books digest.now) bytes.now out.new.items result }
+        ensures answer { IsAnswerIf (AreAnsweredBySets self.old.books digest.now) bytes.now out.new.items result }
+        ensures stand { SetsStand self.old.books }
     {
+        self.books.stand();
         self.host.digest = *digest;
         let outcome = self
             .books
