@@ -1,6 +1,6 @@
 //! `nfsacc ask`.
 
-ghost use Rattle.std.specs.Prelude.{◌≡◌, MatchResult, max};
+ghost use Rattle.std.specs.Prelude.{◌≡◌, ◌≤◌, IfNone, IfOk, IfSome, MatchResult, max};
 ghost use Rattle.host_commands.specs.Findings.{rank};
 
 use crate::assured::assured_in;
@@ -112,6 +112,7 @@ impl<'a> Asking<'a> {
     where
         R: Files<File = File> + Print + Eprint + AllocGlobal + RandomSource + Clone + Drop,
         R: Net<Listener = TcpListener, Stream = TcpStream>,
+        ensures graver { rank self.old.worst ≤ rank self.new.worst }
     {
         if let Err(status) = self.try_ask(rt, witness) {
             self.note(Finding::Failed(status));
@@ -144,11 +145,12 @@ impl<'a> Asking<'a> {
         self.worst = self.worst.or(finding);
     }
 
-    /// Asks a witness of each node; or says what is wrong and gives the status for it.
+    /// Asks a witness of each node; or says what is wrong and gives the status for it. What was found before counts on.
     fn try_ask<R>(&mut self, rt: &R, witness: &str) -> Result<(), u8>
     where
         R: Files<File = File> + Print + Eprint + AllocGlobal + RandomSource + Clone + Drop,
         R: Net<Listener = TcpListener, Stream = TcpStream>,
+        ensures graver { rank self.old.worst ≤ rank self.new.worst }
     {
         let mut caller = connect(rt, witness)?;
         let wanting = self.wanting(rt, &mut caller, witness)?;
@@ -196,6 +198,9 @@ impl<'a> Asking<'a> {
     ) -> Result<(), u8>
     where
         R: Files + Print + Eprint + AllocGlobal + RandomSource,
+        ensures graver { rank self.old.worst ≤ rank self.new.worst }
+        ensures suspected { told.now.indication ≡ Indication.Suspected → rank Finding.Suspected ≤ rank self.new.worst }
+        ensures exposed { told.now.indication ≡ Indication.Exposed → rank Finding.Exposed ≤ rank self.new.worst }
     {
         self.note(Finding::of(told.indication));
         print_told(rt, witness, self.is_alone(), told)?;
@@ -224,7 +229,15 @@ fn told_of(
 }
 
 /// What is said of a node by these results.
-fn as_told(node: u32, told: &Told) -> Result<Option<NodeTold>, CallFault> {
+fn as_told(node: u32, told: &Told) -> Result<Option<NodeTold>, CallFault>
+    ensures none { IfOk result (λ o. IfNone o (told.now.standing ≡ 0)) }
+    ensures node { IfOk result (λ o. IfSome o (λ t. t.node ≡ node)) }
+    ensures trusted { IfOk result (λ o. IfSome o (λ t. t.indication ≡ Indication.Trusted → told.now.standing ≡ 1)) }
+    ensures suspected { IfOk result (λ o. IfSome o (λ t. t.indication ≡ Indication.Suspected → told.now.standing ≡ 2)) }
+    ensures exposed { IfOk result (λ o. IfSome o (λ t. t.indication ≡ Indication.Exposed → told.now.standing ≡ 3)) }
+    ensures open { IfOk result (λ o. IfSome o (λ t. t.open ≡ told.now.open)) }
+    ensures end { IfOk result (λ o. IfSome o (λ t. t.end ≡ told.now.end)) }
+{
     let indication = match told.standing {
         0 => return Ok(None),
         1 => Indication::Trusted,

@@ -1,7 +1,7 @@
 //! Evidence that a witness has, as it is fetched.
 
 ghost use Rattle.std.specs.Prelude.{◌↔◌, IfOk, IsTrue};
-ghost use Rattle.host_commands.specs.GoodCases.{IsGood, IsJudged};
+ghost use Rattle.host_commands.specs.GoodCases.{IsGood, IsGoodCase, IsJudged};
 
 use crate::greeting::report_call;
 use authenticator::Roster;
@@ -70,7 +70,7 @@ where
     R: Files + Eprint + AllocGlobal + RandomSource,
 {
     match is_good_file(rt.alloc(), wanting.roster, node, file) {
-        Ok(true) => put_case(rt, node, wanting.folder, file),
+        Ok(true) => put_case(rt, node, wanting, file),
         Ok(false) => Ok(say(rt, witness, node, Lack::NotGood)),
         Err(AllocError) => Err(report_no_memory(rt)),
     }
@@ -101,11 +101,13 @@ fn is_good(alloc: Global, roster: &Roster, node: u32, case: &CaseFile) -> Result
     check_evidence(alloc, roster, &case.evidence)
 }
 
-/// Puts a file of evidence in its place.
-fn put_case<R>(rt: &R, node: u32, folder: &str, file: &[u8]) -> Result<(), u8>
+/// Puts a file of good evidence in its place.
+fn put_case<R>(rt: &R, node: u32, wanting: Wanting<'_>, file: &[u8]) -> Result<(), u8>
 where
     R: Files + Eprint + AllocGlobal + RandomSource,
+    requires { IsGoodCase wanting.roster.now node file.now }
 {
+    let folder = wanting.folder;
     let Ok(name) = format!(in rt.alloc(); "{folder}/node-{node}.evidence") else {
         return Err(report_no_memory(rt));
     };
