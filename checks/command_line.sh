@@ -259,6 +259,7 @@ check_words() {
 check_host_words() {
     local server=(server --secret s --rosters r --state d --node 1 --listen 127.0.0.1:0) number
     local witness=(witness --rosters r --at 1=a:1 --listen 127.0.0.1:0)
+    local gateway=(gateway --secret s --rosters r --state d --nodes 2 --server 1=a:1 --listen 127.0.0.1:0)
     says 0 ' *--check-every <N> .*' server --help
     says 0 ' *--progress .*' gateway --help
     says 0 ' *--join .*' witness --help
@@ -267,6 +268,17 @@ check_host_words() {
         says 2 'nfsacc: --check-every is a number of calls from 1 to 16384' "${server[@]}" --check-every "$number"
     done
     says 2 "error: a value is required for '--check-every <N>' but none was supplied" "${server[@]}" --check-every
+    for number in 0 86401 x ''; do
+        says 2 'nfsacc: --every is a number of seconds from 1 to 86400' "${witness[@]}" --every "$number"
+        says 2 'nfsacc: --every is a number of seconds from 1 to 86400' "${gateway[@]}" --every "$number"
+    done
+    for number in 86401 -1 x ''; do
+        says 2 'nfsacc: --patience is a number of seconds from 0 to 86400' "${witness[@]}" "--patience=$number"
+        says 2 'nfsacc: --overlap is a number of seconds from 0 to 86400' "${witness[@]}" "--overlap=$number"
+    done
+    for number in 16385 -1 x ''; do
+        says 2 'nfsacc: --reserve is a number of calls from 0 to 16384' "${gateway[@]}" "--reserve=$number"
+    done
     says 2 "error: the argument '--join' cannot be used multiple times" "${witness[@]}" --join --join
     says 2 "error: unexpected value 'x' for '--join' found; no more were expected" "${witness[@]}" --join=x
     says 2 "error: a value is required for '--state <DIR>' but none was supplied" ask a:1 --state
